@@ -1,0 +1,100 @@
+-- Marked cases K1 to K12 of document 01, and some more, computed from the bytes of tables and scripts.
+use mathlib.Core.Path.{_≡_, refl}
+use mathlib.Core.List.{List, [], _∷_, map}
+use Prim.Native.Nat.{ℕ}
+use Prim.Native.String.{String}
+use Rattle.definitions.specs.Bytes.{bytes}
+use Rattle.definitions.specs.Journal.{Record, kept, changed, deleted, inserted}
+use Rattle.definitions.specs.Run.{Answer, answer, refusal, workLength, runAnswer}
+use Rattle.definitions.specs.Program.{printed, programPrints}
+use Rattle.definitions.specs.Everything.{everything}
+
+-- a case: the budget, the table, the script, and the answer: number, steps, furthest, place, records
+pub data Case : Type 0 where
+  case : ℕ → String → String → Answer → Case
+
+-- the answer with the least work area and a journal buffer of 65,536 bytes
+unfoldable pub computed : Case → Answer
+computed (case budget table script a) = runAnswer (bytes table) (bytes script) budget (workLength (bytes script)) 65536
+
+unfoldable pub stated : Case → Answer
+stated (case budget table script a) = a
+
+-- the largest budget
+unfoldable pub largest : ℕ
+largest = 4294967295
+
+unfoldable pub k1Table : String
+k1Table = "R01 open 06:10 90\nR02 open 06:25 90\nR03 open 07:00 60\n"
+
+unfoldable pub k1Script : String
+k1Script = "F B/R02/; E/90/120/\nF B/R03/; D\nIS/R04 open 07:15 60/\nW\n"
+
+unfoldable pub same : String → Record
+same s = kept (bytes s)
+
+unfoldable pub cases : List Case
+cases =
+    -- K1
+    case largest k1Table k1Script
+    (answer 0 10 4 0 (same "R01 open 06:10 90" ∷ changed (bytes "R02 open 06:25 90") (bytes "R02 open 06:25 120")
+    ∷ deleted (bytes "R03 open 07:00 60") ∷ inserted (bytes "R04 open 07:15 60") ∷ []))
+    -- K2
+    ∷ case 0 "" "" (answer 0 0 1 0 [])
+    -- K3, K4
+    ∷ case largest "aaa\n" "E/aa/b/\n" (answer 0 1 1 0 (changed (bytes "aaa") (bytes "ba") ∷ []))
+    ∷ case largest "aaa\n" "E L/aa/b/\n" (answer 0 1 1 0 (changed (bytes "aaa") (bytes "ab") ∷ []))
+    -- K5, K6
+    ∷ case largest "aaa\n" "F 2/aa/\n" (answer 21 2 2 0 (same "aaa" ∷ []))
+    ∷ case largest "aaaa\n" "F 2/aa/\n" (answer 0 2 1 0 (same "aaaa" ∷ []))
+    -- K7, K8
+    ∷ case largest "a\nb\nc\n" "4N\n" (answer 20 8 4 1 (same "a" ∷ same "b" ∷ same "c" ∷ []))
+    ∷ case 7 "a\nb\nc\n" "4N\n" (answer 29 7 4 1 (same "a" ∷ same "b" ∷ same "c" ∷ []))
+    -- K9
+    ∷ case 3 "b\n" "RPT ()\n" (answer 29 3 1 0 (same "b" ∷ []))
+    -- K10, K11, K12
+    ∷ case largest "b\n" "IS/a/; P; D\n" (answer 0 3 1 0 (same "b" ∷ []))
+    ∷ case largest "b\n" "D; IS/x/\n" (answer 0 2 2 0 (deleted (bytes "b") ∷ inserted (bytes "x") ∷ []))
+    ∷ case largest "b\n" "E/b/c/; E/c/b/\n" (answer 0 2 1 0 (same "b" ∷ []))
+    ∷ []
+
+pub K1-to-K12 : map computed cases ≡ map stated cases
+unfolding everything computed stated largest k1Table k1Script same cases
+K1-to-K12 = refl
+
+-- K1 as it is printed
+pub K1-printed : programPrints (bytes k1Table) (bytes k1Script)
+    ≡ bytes "    1  R01 open 06:10 90\n    2 +R02 open 06:25 120\n ****  R04 open 07:15 60\nend 0 steps 10 read 4 at 0\n"
+unfolding everything printed programPrints k1Table k1Script
+K1-printed = refl
+
+-- ---- more
+
+unfoldable pub moreCases : List Case
+moreCases =
+    -- K7 with a budget that is just enough
+    case 8 "a\nb\nc\n" "4N\n" (answer 20 8 4 1 (same "a" ∷ same "b" ∷ same "c" ∷ []))
+    -- W looks at the whole line, not only inside T
+    ∷ case largest "ab b\n" "PA/a/; E W/b/x/\n" (answer 0 2 1 0 (changed (bytes "ab b") (bytes "ab x") ∷ []))
+    -- D over lines, and an insertion before the line moved to
+    ∷ case largest "a\nb\nc\nd\n" "D 2 3; M 1; IS/x/\n"
+    (answer 0 3 4 0 (inserted (bytes "x") ∷ same "a" ∷ deleted (bytes "b") ∷ deleted (bytes "c") ∷ same "d" ∷ []))
+    -- DF deletes what it passed; a deleted line has no number to move to
+    ∷ case largest "a\nb\nc\nd\n" "DF /c/; M 2\n" (answer 23 5 3 8 (deleted (bytes "a") ∷ deleted (bytes "b") ∷ same "c" ∷ same "d" ∷ []))
+    -- UT, IFEOF, AGP out of RPT
+    ∷ case largest "a\nb\nc\n" "UT /c/ (E//x/; N); IFEOF W; RPT (D; IFEOF AGP)\nIS/z/\n"
+    (answer 0 13 4 0 (changed (bytes "a") (bytes "xa") ∷ changed (bytes "b") (bytes "xb") ∷ deleted (bytes "c") ∷ inserted (bytes "z") ∷ []))
+    -- ELSE belongs to the innermost IF; BF finds the current line first
+    ∷ case largest "a\nb\n" "N; BF (/b/ | /a/); IF /a/ (D) ELSE (E/b/c/)\n" (answer 0 5 2 0 (same "a" ∷ changed (bytes "b") (bytes "c") ∷ []))
+    -- R, and lines up to Z
+    ∷ case largest "a\nb\n" "R 1\nx\ny\nZ\nEP/b/bb/; A//!/\n"
+    (answer 0 3 2 0 (deleted (bytes "a") ∷ inserted (bytes "x") ∷ inserted (bytes "y") ∷ changed (bytes "b") (bytes "bb!") ∷ []))
+    -- a refused script: the ninth search bracket, the seventeenth group, a missing Z line
+    ∷ case largest "" "F (((((((((/a/)))))))))\n" (refusal 5 10)
+    ∷ case largest "" "(((((((((((((((((N)))))))))))))))))\n" (refusal 5 16)
+    ∷ case largest "" "I\nx\n" (refusal 6 4)
+    ∷ []
+
+pub more-cases : map computed moreCases ≡ map stated moreCases
+unfolding everything computed stated largest same moreCases
+more-cases = refl

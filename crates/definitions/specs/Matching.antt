@@ -1,0 +1,145 @@
+-- Qualified strings, and where they occur on a line (document 01, "Matching"; manual 2.3.2 and 3.3.6).
+use mathlib.Core.Bool.{Bool, true, false, cond, not, _&&_, _||_}
+use mathlib.Core.Option.{Option, none, some}
+use mathlib.Core.List.{List, [], _∷_}
+use Prim.Native.Nat.{ℕ, zero, suc, _+_, _-_, min, max}
+use lib.ListN.{length, drop, getD}
+use lib.Dec.{eqb, leb}
+use Rattle.definitions.specs.Bytes.{Line, isDigit, isLetter, upper}
+
+-- ---- qualifiers
+
+-- B, E, P, or none of them
+pub data Anchor : Type 0 where
+  anywhere atStart atEnd precisely : Anchor
+
+-- the line's columns n to m of `_n,m_`, or all of them
+pub data Columns : Type 0 where
+  allColumns : Columns
+  columns : ℕ → ℕ → Columns
+
+-- B, E or P; the count (0 where none is given); then whether L, N, W, U and S are given; and the columns
+pub data Qualifiers : Type 0 where
+  qualifiers : Anchor → ℕ → Bool → Bool → Bool → Bool → Bool → Columns → Qualifiers
+
+pub data Qualified : Type 0 where
+  qualified : Qualifiers → Line → Qualified
+
+-- ---- the text T
+
+-- document 01's text T: where it starts and where it ends in the line
+pub data Text : Type 0 where
+  text : ℕ → ℕ → Text
+
+-- "an empty cut lies at the later of p and n - 1, at most at the line's end"
+unfoldable pub cut : ℕ → ℕ → Text
+cut start end = text start (max start end)
+
+-- "The window of the current line starts after p bytes .. and runs to the line's end. Text T is the window, cut to the line's columns n to m"
+unfoldable pub window : Columns → ℕ → Line → Text
+window allColumns p l = text p (length l)
+window (columns n m) p l = cut (min (max p (n - 1)) (length l)) (min m (length l))
+
+-- how many spaces stand first
+unfoldable pub leadingSpaces : List ℕ → ℕ
+leadingSpaces [] = 0
+leadingSpaces (b ∷ bs) = elim (eqb b 32) [ true ↦ suc (leadingSpaces bs) | false ↦ 0 ]
+
+-- "S then drops T's leading spaces"
+unfoldable pub afterSpaces : Bool → Line → Text → Text
+afterSpaces false l t = t
+afterSpaces true l (text start end) = text (start + min (leadingSpaces (drop start l)) (end - start)) end
+
+-- ---- the string at a place
+
+-- "U compares upper-cased"
+unfoldable pub folded : Bool → ℕ → ℕ
+folded true b = upper b
+folded false b = b
+
+-- the string stands first in the bytes
+unfoldable pub standsFirst : Bool → Line → List ℕ → Bool
+standsFirst u [] bs = true
+standsFirst u (x ∷ xs) [] = false
+standsFirst u (x ∷ xs) (b ∷ bs) = eqb (folded u x) (folded u b) && standsFirst u xs bs
+
+unfoldable pub isWordByte : ℕ → Bool
+isWordByte b = isLetter b || isDigit b
+
+unfoldable pub byteBefore : Line → ℕ → ℕ
+byteBefore l zero = 0
+byteBefore l (suc i) = getD l i 0
+
+-- "W: the bytes before and after in the whole line are no letters or digits"; no byte is none (0)
+unfoldable pub isApart : Bool → Line → ℕ → ℕ → Bool
+isApart false l i j = true
+isApart true l i j = not (isWordByte (byteBefore l i)) && not (isWordByte (getD l j 0))
+
+-- the string `s` occurs in the line at place i, as W and U ask
+unfoldable pub standsAt : Bool → Bool → Line → Line → ℕ → Bool
+standsAt w u s l i = standsFirst u s (drop i l) && isApart w l i (i + length s)
+
+-- ---- occurrences
+
+-- how many places a string of so many bytes has in T
+unfoldable pub places : ℕ → Text → ℕ
+places width (text start end) = suc (end - start) - width
+
+-- Which of the next `left` places, j the first of them, has the occurrence after `k` others. "Occurrences do not overlap": each takes up
+-- `width` places, and `taken` of the next ones belong to the last one counted. "A place failing W is skipped by one column".
+unfoldable pub occurrence : (ℕ → Bool) → ℕ → ℕ → ℕ → ℕ → ℕ → Option ℕ
+occurrence stands width k taken zero j = none
+occurrence stands width k (suc taken) (suc left) j = occurrence stands width k taken left (suc j)
+occurrence stands width zero zero (suc left) j =
+    elim (stands j) [ true ↦ some j | false ↦ occurrence stands width zero zero left (suc j) ]
+occurrence stands width (suc k) zero (suc left) j =
+    elim (stands j) [ true ↦ occurrence stands width k (width - 1) left (suc j) | false ↦ occurrence stands width (suc k) zero left (suc j) ]
+
+-- the place that is j places on from the left end, or from the right end, of those that the string has
+unfoldable pub placeFrom : Bool → ℕ → Text → ℕ → ℕ
+placeFrom false width (text start end) j = start + j
+placeFrom true width (text start end) j = (end - width) - j
+
+unfoldable pub located : (ℕ → ℕ) → Option ℕ → Option ℕ
+located place none = none
+located place (some j) = some (place j)
+
+unfoldable pub onlyAt : Bool → ℕ → Option ℕ
+onlyAt true i = some i
+onlyAt false i = none
+
+-- the place of the kth occurrence, counted "from the left, with L from the right"
+unfoldable pub counted : (ℕ → Bool) → ℕ → ℕ → Bool → Text → Option ℕ
+counted stands width k last t =
+    located (placeFrom last width t) (occurrence (λ j. stands (placeFrom last width t j)) width (k - 1) 0 (places width t) 0)
+
+-- "Plain: the string occurs in T. B: at its start. E: at its end. P: T is the string."
+unfoldable pub placeIn : Anchor → (ℕ → Bool) → ℕ → ℕ → Bool → Text → Option ℕ
+placeIn anywhere stands width k last t = counted stands width k last t
+placeIn atStart stands width k last t = onlyAt (leb 1 (places width t) && stands (placeFrom false width t 0)) (placeFrom false width t 0)
+placeIn atEnd stands width k last t = onlyAt (leb 1 (places width t) && stands (placeFrom true width t 0)) (placeFrom true width t 0)
+placeIn precisely stands width k last t = onlyAt (eqb (places width t) 1 && stands (placeFrom false width t 0)) (placeFrom false width t 0)
+
+-- The place where the qualified string occurs in the line with the window from p: the byte of the line that it begins at. N is not looked at.
+unfoldable pub placeOf : Qualified → ℕ → Line → Option ℕ
+placeOf (qualified (qualifiers anchor k last n w u skip cols) s) p l =
+    placeIn anchor (standsAt w u s l) (length s) k last (afterSpaces skip l (window cols p l))
+
+unfoldable pub isFound : Option ℕ → Bool
+isFound none = false
+isFound (some i) = true
+
+-- "N turns the result round"
+unfoldable pub turned : Bool → Bool → Bool
+turned true b = not b
+turned false b = b
+
+unfoldable pub isNegated : Qualified → Bool
+isNegated (qualified (qualifiers anchor k last n w u skip cols) s) = n
+
+unfoldable pub stringIn : Qualified → Line
+stringIn (qualified q s) = s
+
+-- does the qualified string match the line, with the window from p
+unfoldable pub matches : Qualified → ℕ → Line → Bool
+matches q p l = turned (isNegated q) (isFound (placeOf q p l))

@@ -1,0 +1,131 @@
+-- The run: steps, budget, the order of refusals, the answer and the journal buffer afterwards (document 01, "Commands": steps; "Who causes
+-- which number").
+use mathlib.Core.Bool.{Bool, true, false, cond}
+use mathlib.Core.List.{List, [], _∷_, _++_, map}
+use Prim.Native.Nat.{ℕ, zero, suc, _+_, _-_, _*_}
+use lib.ListN.{length, replicate}
+use lib.Dec.{leb}
+use Rattle.definitions.specs.Bytes.{Line, linesOf}
+use Rattle.definitions.specs.Table.{isTable, isScript}
+use Rattle.definitions.specs.Journal.{Record, kept, journalBytes, journalLength}
+use Rattle.definitions.specs.Tape.{Tape, unread, Reads, ret, bind}
+use Rattle.definitions.specs.Editor.{Ed, Out, on, edited, halt, opening, journal, furthest}
+use Rattle.definitions.specs.Edit.{Op, step}
+use Rattle.definitions.specs.Control.{Item, Ctl, running, Pull, finished, want, pull}
+use Rattle.definitions.specs.Script.{Script, items, refusedAt, readScript}
+
+-- how a run ends: number, steps, place, and the editor's last state
+pub data End : Type 0 where
+  end : ℕ → ℕ → ℕ → Ed → End
+
+unfoldable pub choose : Bool → Ctl → Ctl → Ctl
+choose true c₁ c₀ = c₁
+choose false c₁ c₀ = c₀
+
+-- "Done .. have place 0"
+unfoldable pub endPlace : ℕ → ℕ → ℕ
+endPlace zero at = 0
+endPlace (suc n) at = at
+
+-- the budget is spent: "The run stops when its next step would exceed the budget" (29), at the place of that step
+unfoldable pub spent : ℕ → Ed → Pull → End
+spent steps e finished = end 0 steps 0 e
+spent steps e (want at op c₁ c₀) = end 29 steps at e
+
+-- after a step; `go` is the run with what is left of the budget
+unfoldable pub stepped : (Ctl → Ed → Reads End) → ℕ → ℕ → Ctl → Ctl → Out → Reads End
+stepped go steps at c₁ c₀ (on b e) = go (choose b c₁ c₀) e
+stepped go steps at c₁ c₀ (edited e) = go c₁ e
+stepped go steps at c₁ c₀ (halt n e) = ret (end n steps (endPlace n at) e)
+
+-- the next step, if there is one
+unfoldable pub stepping : (Op → Ed → Reads Out) → (Ctl → Ed → Reads End) → ℕ → Ed → Pull → Reads End
+stepping take-step go steps e finished = ret (end 0 steps 0 e)
+stepping take-step go steps e (want at op c₁ c₀) = bind (take-step op e) (stepped go (suc steps) at c₁ c₀)
+
+-- the run with so much of the budget left, `steps` being made; `take-step` is what one step does
+unfoldable pub run : (Op → Ed → Reads Out) → ℕ → ℕ → Ctl → Ed → Reads End
+run take-step zero steps c e = ret (spent steps e (pull c))
+run take-step (suc budget) steps c e = stepping take-step (λ c′ e′. run take-step budget (suc steps) c′ e′) steps e (pull c)
+
+unfoldable pub runItems : (Op → Ed → Reads Out) → ℕ → List Item → Reads End
+runItems take-step budget is = bind opening (λ e. run take-step budget 0 (running is []) e)
+
+-- ---- the answer
+
+-- done or stopped: number, steps, furthest, place and the records; refused: number and place
+pub data Answer : Type 0 where
+  answer : ℕ → ℕ → ℕ → ℕ → List Record → Answer
+  refusal : ℕ → ℕ → Answer
+
+unfoldable pub answerOf : End → Tape → Answer
+answerOf (end n steps at e) t = answer n steps (furthest e t) at (journal e t)
+
+unfoldable pub ranItems : (Op → Ed → Reads Out) → ℕ → List Item → List Line → Answer
+ranItems take-step budget is ls = let r = runItems take-step budget is (unread ls) in answerOf (r .0) (r .1)
+
+-- "9 journal buffer shorter than the opening journal", which keeps every source line
+unfoldable pub openingLength : List Line → ℕ
+openingLength ls = journalLength (map kept ls)
+
+-- the least length of the work area: "twice the script's bytes plus 64" 32-bit numbers
+unfoldable pub workLength : List ℕ → ℕ
+workLength script = 2 * length script + 64
+
+unfoldable pub ranTable : List ℕ → ℕ → ℕ → List Item → Answer
+ranTable table budget size is =
+    cond (leb (openingLength (linesOf table)) size) (ranItems (step size) budget is (linesOf table)) (refusal 9 0)
+
+unfoldable pub ranScript : List ℕ → ℕ → ℕ → Script → Answer
+ranScript table budget size (items is) = cond (isTable table) (ranTable table budget size is) (refusal 7 0)
+ranScript table budget size (refusedAt n at) = refusal n at
+
+-- "Order: 1, 8, then 2 to 6 by place in reading order, 7, 9"
+unfoldable pub runAnswer : List ℕ → List ℕ → ℕ → ℕ → ℕ → Answer
+runAnswer table script budget work size =
+    cond (isScript script)
+    (cond (leb (workLength script) work) (ranScript table budget size (readScript script)) (refusal 8 0))
+    (refusal 1 0)
+
+-- ---- the answer's five values and the journal buffer afterwards
+
+unfoldable pub answerNumber : Answer → ℕ
+answerNumber (answer n steps f at j) = n
+answerNumber (refusal n at) = n
+
+-- "Refused: .. steps, furthest and length are 0"
+unfoldable pub answerSteps : Answer → ℕ
+answerSteps (answer n steps f at j) = steps
+answerSteps (refusal n at) = 0
+
+unfoldable pub answerFurthest : Answer → ℕ
+answerFurthest (answer n steps f at j) = f
+answerFurthest (refusal n at) = 0
+
+unfoldable pub answerPlace : Answer → ℕ
+answerPlace (answer n steps f at j) = at
+answerPlace (refusal n at) = at
+
+unfoldable pub answerRecords : Answer → List Record
+answerRecords (answer n steps f at j) = j
+answerRecords (refusal n at) = []
+
+unfoldable pub answerLength : Answer → ℕ
+answerLength (answer n steps f at j) = journalLength j
+answerLength (refusal n at) = 0
+
+-- "Refused: the journal buffer is untouched"; "After a run that is not refused, the journal buffer's bytes past the journal are 0"
+unfoldable pub bufferAfter : List ℕ → Answer → List ℕ
+bufferAfter buffer (answer n steps f at j) = journalBytes j ++ replicate (length buffer - journalLength j) 0
+bufferAfter buffer (refusal n at) = buffer
+
+-- number, steps, furthest, length, place, and the journal buffer's bytes
+pub data Outcome : Type 0 where
+  outcome : ℕ → ℕ → ℕ → ℕ → ℕ → List ℕ → Outcome
+
+unfoldable pub outcomeFrom : List ℕ → Answer → Outcome
+outcomeFrom buffer a = outcome (answerNumber a) (answerSteps a) (answerFurthest a) (answerLength a) (answerPlace a) (bufferAfter buffer a)
+
+-- what a run comes to: table, script, budget, the work area's length, the journal buffer
+unfoldable pub outcomeOf : List ℕ → List ℕ → ℕ → ℕ → List ℕ → Outcome
+outcomeOf table script budget work buffer = outcomeFrom buffer (runAnswer table script budget work (length buffer))

@@ -1,0 +1,218 @@
+-- The reader of qualified strings and search expressions (document 01, "Script text": qualifiers, search expressions; numbers 3, 4 and 5).
+use mathlib.Core.Bool.{Bool, true, false, cond, not, _&&_, _||_}
+use mathlib.Core.Option.{Option, none, some}
+use mathlib.Core.List.{List, [], _∷_}
+use Prim.Native.Nat.{ℕ, zero, suc, _+_, _*_}
+use lib.Dec.{eqb, leb}
+use Rattle.definitions.specs.Bytes.{Line, isDigit, upper}
+use Rattle.definitions.specs.Matching.{Anchor, anywhere, atStart, atEnd, precisely, Columns, allColumns, columns, Qualifiers, qualifiers, Qualified, qualified}
+use Rattle.definitions.specs.Search.{Search, one, both, either}
+use Rattle.definitions.specs.Reader.{Cursor, Got, got, refused, andThen, placeAt, bytesLeft, nextByte, afterByte, isNext, expect, skipSpaces, skipBlank, Word, word, digits, isDigitNext, number, isDelimiter, stringNext, afterString}
+
+-- ---- which qualifiers may stand together
+
+unfoldable pub noQualifiers : Qualifiers
+noQualifiers = qualifiers anywhere 0 false false false false false allColumns
+
+unfoldable pub isAnchored : Anchor → Bool
+isAnchored anywhere = false
+isAnchored atStart = true
+isAnchored atEnd = true
+isAnchored precisely = true
+
+-- "nor L with B"; "A count or L may not stand with P": L with E may
+unfoldable pub clashesWithL : Anchor → Bool
+clashesWithL anywhere = false
+clashesWithL atStart = true
+clashesWithL atEnd = false
+clashesWithL precisely = true
+
+unfoldable pub isGiven : Columns → Bool
+isGiven allColumns = false
+isGiven (columns n m) = true
+
+unfoldable pub unless : {A : Type 0} → Bool → A → Option A
+unless true a = none
+unless false a = some a
+
+-- each of these adds a qualifier, "each at most once"; none where it "cannot stand with earlier ones"
+unfoldable pub addAnchor : Anchor → Qualifiers → Option Qualifiers
+addAnchor a (qualifiers b k l n w u s c) = unless (isAnchored b || not (eqb k 0) || (l && clashesWithL a)) (qualifiers a k l n w u s c)
+
+unfoldable pub addCount : ℕ → Qualifiers → Option Qualifiers
+addCount i (qualifiers a k l n w u s c) = unless (isAnchored a || not (eqb k 0)) (qualifiers a i l n w u s c)
+
+unfoldable pub addL : Qualifiers → Option Qualifiers
+addL (qualifiers a k l n w u s c) = unless (l || clashesWithL a) (qualifiers a k true n w u s c)
+
+-- "N only in searches"
+unfoldable pub addN : Bool → Qualifiers → Option Qualifiers
+addN inSearch (qualifiers a k l n w u s c) = unless (n || not inSearch) (qualifiers a k l true w u s c)
+
+unfoldable pub addW : Qualifiers → Option Qualifiers
+addW (qualifiers a k l n w u s c) = unless w (qualifiers a k l n true u s c)
+
+unfoldable pub addU : Qualifiers → Option Qualifiers
+addU (qualifiers a k l n w u s c) = unless u (qualifiers a k l n w true s c)
+
+unfoldable pub addS : Qualifiers → Option Qualifiers
+addS (qualifiers a k l n w u s c) = unless s (qualifiers a k l n w u true c)
+
+unfoldable pub setColumns : ℕ → ℕ → Qualifiers → Qualifiers
+setColumns i j (qualifiers a k l n w u s c) = qualifiers a k l n w u s (columns i j)
+
+unfoldable pub hasColumns : Qualifiers → Bool
+hasColumns (qualifiers a k l n w u s c) = isGiven c
+
+-- "an empty string takes no count and no W"
+unfoldable pub wantsBytes : Qualifiers → Bool
+wantsBytes (qualifiers a k l n w u s c) = not (eqb k 0) || w
+
+-- ---- one qualifier
+
+-- what stands where a qualifier may begin
+pub data QualifierByte : Type 0 where
+  byteB byteE byteP byteL byteN byteW byteU byteS : QualifierByte
+  byteDigit byteColumns byteOther : QualifierByte
+
+unfoldable pub letterOf : ℕ → QualifierByte
+letterOf b =
+    cond (eqb b 66) byteB (cond (eqb b 69) byteE (cond (eqb b 80) byteP (cond (eqb b 76) byteL
+    (cond (eqb b 78) byteN (cond (eqb b 87) byteW (cond (eqb b 85) byteU (cond (eqb b 83) byteS byteOther)))))))
+
+unfoldable pub qualifierByte : ℕ → QualifierByte
+qualifierByte b = cond (isDigit b) byteDigit (cond (eqb b 95) byteColumns (letterOf (upper b)))
+
+-- 4 at the qualifier that cannot stand
+unfoldable pub added : ℕ → Option Qualifiers → Cursor → Got Qualifiers
+added at none c = refused 4 at
+added at (some q) c = got q c
+
+-- "a count from 1"
+unfoldable pub readCount : Qualifiers → Cursor → Got Qualifiers
+readCount q c = andThen (number c) (λ k c₁. added (placeAt c) (addCount k q) c₁)
+
+-- "_n,m_ with n ≤ m": after the first `_`; n > m is 3 at m
+unfoldable pub readColumns : Qualifiers → Cursor → Got Qualifiers
+readColumns q c =
+    andThen (number (skipSpaces c)) (λ n c₁.
+    andThen (expect 44 (skipSpaces c₁)) (λ comma c₂.
+    andThen (number (skipSpaces c₂)) (λ m c₃.
+    cond (leb n m) (andThen (expect 95 (skipSpaces c₃)) (λ end c₄. got (setColumns n m q) c₄)) (refused 3 (placeAt (skipSpaces c₂))))))
+
+-- the qualifier at the cursor; "a letter or byte that is none" is 3 at it
+unfoldable pub readQualifier : Bool → Qualifiers → Cursor → QualifierByte → Got Qualifiers
+readQualifier inSearch q c byteB = added (placeAt c) (addAnchor atStart q) (afterByte c)
+readQualifier inSearch q c byteE = added (placeAt c) (addAnchor atEnd q) (afterByte c)
+readQualifier inSearch q c byteP = added (placeAt c) (addAnchor precisely q) (afterByte c)
+readQualifier inSearch q c byteL = added (placeAt c) (addL q) (afterByte c)
+readQualifier inSearch q c byteN = added (placeAt c) (addN inSearch q) (afterByte c)
+readQualifier inSearch q c byteW = added (placeAt c) (addW q) (afterByte c)
+readQualifier inSearch q c byteU = added (placeAt c) (addU q) (afterByte c)
+readQualifier inSearch q c byteS = added (placeAt c) (addS q) (afterByte c)
+readQualifier inSearch q c byteDigit = readCount q c
+readQualifier inSearch q c byteColumns = cond (hasColumns q) (refused 4 (placeAt c)) (readColumns q (afterByte c))
+readQualifier inSearch q c byteOther = refused 3 (placeAt c)
+
+-- qualifiers up to the opening delimiter, where the cursor then stands. Each reads a byte at least, so as many rounds as bytes are enough;
+-- 0 is no number of document 01's.
+unfoldable pub readQualifiers : ℕ → Bool → Qualifiers → Cursor → Got Qualifiers
+readQualifiers zero inSearch q c = refused 0 (placeAt c)
+readQualifiers (suc rounds) inSearch q c =
+    elim (isDelimiter (nextByte c)) [
+      | true ↦ got q c
+      | false ↦ elim (readQualifier inSearch q c (qualifierByte (nextByte c))) [
+        | got q′ c′ ↦ readQualifiers rounds inSearch q′ (skipSpaces c′)
+        | refused n at ↦ refused n at
+      ]
+    ]
+
+-- ---- qualified strings
+
+unfoldable pub isEmpty : Line → Bool
+isEmpty [] = true
+isEmpty (b ∷ l) = false
+
+-- the string at its opening delimiter: "for the empty string, at its delimiter" (4)
+unfoldable pub readString : Qualifiers → Cursor → Got Qualified
+readString q c =
+    cond (isEmpty (stringNext (nextByte c) (afterByte c)) && wantsBytes q)
+    (refused 4 (placeAt c))
+    (got (qualified q (stringNext (nextByte c) (afterByte c))) (afterString (nextByte c) (afterByte c)))
+
+unfoldable pub startQualifiers : Bool → Cursor → Got Qualifiers
+startQualifiers inSearch c = readQualifiers (suc (bytesLeft c)) inSearch noQualifiers (skipSpaces c)
+
+unfoldable pub qualifiedString : Bool → Cursor → Got Qualified
+qualifiedString inSearch c = andThen (startQualifiers inSearch c) (λ q c₁. readString q c₁)
+
+-- a qualified string and a second string: "Two-string commands share the middle delimiter; a missing second string is empty"
+pub data Pair : Type 0 where
+  pair : Qualified → Line → Pair
+
+unfoldable pub secondString : ℕ → Qualified → Cursor → Got Pair
+secondString d q c = got (pair q (stringNext d c)) (afterString d c)
+
+unfoldable pub twoStrings : Cursor → Got Pair
+twoStrings c =
+    andThen (startQualifiers false c) (λ q c₁. andThen (readString q c₁) (λ s c₂. secondString (nextByte c₁) s c₂))
+
+-- ---- search expressions
+
+-- Where & , | or `)` must follow: `)`; or 5 at the script's length where nothing but spaces, comments and line ends is left ("never closed"); or 3
+unfoldable pub closing : Search → Cursor → Got Search
+closing se c =
+    cond (isNext 41 c) (got se (afterByte c))
+    (cond (eqb (bytesLeft (skipBlank c)) 0) (refused 5 (placeAt (skipBlank c))) (refused 3 (placeAt c)))
+
+-- "Line ends may stand .. beside & or |": the operator `b` if it is the next thing but for them
+unfoldable pub operator : ℕ → Cursor → Option Cursor
+operator b c = cond (isNext b (skipBlank c)) (some (skipBlank (afterByte (skipBlank c)))) none
+
+-- Alternatives, conjunctions and parts; `fuel` bounds how deep they call each other (0 is no number of document 01's), `deep` brackets may
+-- still be opened. "& binding more"
+unfoldable mutual
+  unfolding operator closing qualifiedString isNext
+
+  pub alternatives : ℕ → ℕ → Cursor → Got Search
+  alternatives zero deep c = refused 0 (placeAt c)
+  alternatives (suc fuel) deep c = elim (conjunction fuel deep c) [ got se c₁ ↦ moreAlternatives fuel deep se c₁ | refused n at ↦ refused n at ]
+
+  pub moreAlternatives : ℕ → ℕ → Search → Cursor → Got Search
+  moreAlternatives zero deep se c = refused 0 (placeAt c)
+  moreAlternatives (suc fuel) deep se c =
+      elim (operator 124 c) [
+        | none ↦ got se c
+        | some c₁ ↦ elim (conjunction fuel deep c₁) [ got tf c₂ ↦ moreAlternatives fuel deep (either se tf) c₂ | refused n at ↦ refused n at ]
+      ]
+
+  pub conjunction : ℕ → ℕ → Cursor → Got Search
+  conjunction zero deep c = refused 0 (placeAt c)
+  conjunction (suc fuel) deep c = elim (part fuel deep c) [ got se c₁ ↦ moreConjunction fuel deep se c₁ | refused n at ↦ refused n at ]
+
+  pub moreConjunction : ℕ → ℕ → Search → Cursor → Got Search
+  moreConjunction zero deep se c = refused 0 (placeAt c)
+  moreConjunction (suc fuel) deep se c =
+      elim (operator 38 c) [
+        | none ↦ got se c
+        | some c₁ ↦ elim (part fuel deep c₁) [ got tf c₂ ↦ moreConjunction fuel deep (both se tf) c₂ | refused n at ↦ refused n at ]
+      ]
+
+  -- a bracketed part or one qualified string; "brackets (also round one alone or a part) at most 8 deep": the one too many is 5 at it
+  pub part : ℕ → ℕ → Cursor → Got Search
+  part zero deep c = refused 0 (placeAt c)
+  part (suc fuel) deep c =
+      elim (isNext 40 (skipSpaces c)) [
+        | false ↦ elim (qualifiedString true c) [ got q c₁ ↦ got (one q) c₁ | refused n at ↦ refused n at ]
+        | true ↦ elim deep [
+          | zero ↦ refused 5 (placeAt (skipSpaces c))
+          | suc deeper ↦ elim (alternatives fuel deeper (afterByte (skipSpaces c))) [
+            | got se c₁ ↦ closing se (skipSpaces c₁)
+            | refused n at ↦ refused n at
+          ]
+        ]
+      ]
+
+-- "one qualified string, or several in round brackets joined by & and |"; each byte takes up at most four of the fuel
+unfoldable pub searchExpression : Cursor → Got Search
+searchExpression c = part (4 * bytesLeft c + 4) 8 c
