@@ -1,0 +1,66 @@
+-- An accepted run is the run of the script's items over the table's lines: refusals are left aside here, once.
+use mathlib.Core.Path.{_≡_, refl, ap, _∙_}
+use mathlib.Core.Bool.{Bool, true, false, cond}
+use mathlib.Core.List.{List}
+use Prim.Native.Nat.{ℕ, _≤_}
+use lib.Dec.{T, leb, leb→le}
+use Rattle.definitions.specs.Bytes.{linesOf}
+use Rattle.definitions.specs.Table.{isTable, isScript}
+use Rattle.definitions.specs.Edit.{step}
+use Rattle.definitions.specs.Control.{Item}
+use Rattle.definitions.specs.Script.{items, refusedAt, readScript}
+use Rattle.definitions.specs.Run.{Answer, refusal, ranItems, openingLength, workLength, ranTable, ranScript, runAnswer}
+use Rattle.theorems.specs.Demand3.{IsAccepted}
+
+-- what is not refused is no refusal
+cond-accepted : (t : Bool) (a : Answer) (n at : ℕ) → IsAccepted (cond t a (refusal n at)) → cond t a (refusal n at) ≡ a
+unfolding IsAccepted
+cond-accepted true a n at h = refl
+cond-accepted false a n at h = absurd h
+
+cond-passed : (t : Bool) (a : Answer) (n at : ℕ) → IsAccepted (cond t a (refusal n at)) → T t
+unfolding IsAccepted
+cond-passed true a n at h = tt
+cond-passed false a n at h = absurd h
+
+ran-table : (table : List ℕ) (budget size : ℕ) (is : List Item) → IsAccepted (ranTable table budget size is) → ranTable table budget size is ≡ ranItems (step size) budget is (linesOf table)
+unfolding ranTable
+ran-table table budget size is h = cond-accepted (leb (openingLength (linesOf table)) size) (ranItems (step size) budget is (linesOf table)) 9 0 h
+
+ran-script : (table : List ℕ) (budget size : ℕ) (is : List Item) → IsAccepted (ranScript table budget size (items is))
+    → ranScript table budget size (items is) ≡ ranItems (step size) budget is (linesOf table)
+unfolding ranScript
+ran-script table budget size is h =
+    let e : cond (isTable table) (ranTable table budget size is) (refusal 7 0) ≡ ranTable table budget size is = cond-accepted (isTable table) (ranTable table budget size is) 7 0 h in
+    e ∙ ran-table table budget size is (rw e at h)
+
+ran-answer : (table script : List ℕ) (budget work size : ℕ) → IsAccepted (runAnswer table script budget work size)
+    → runAnswer table script budget work size ≡ ranScript table budget size (readScript script)
+unfolding runAnswer
+ran-answer table script budget work size h =
+    let a : Answer = ranScript table budget size (readScript script) in
+    let b : Answer = cond (leb (workLength script) work) a (refusal 8 0) in
+    let e : cond (isScript script) b (refusal 1 0) ≡ b = cond-accepted (isScript script) b 1 0 h in
+    e ∙ cond-accepted (leb (workLength script) work) a 8 0 (rw e at h)
+
+-- the answer of an accepted run is that of the script's items
+pub ran-accepted : (table script : List ℕ) (budget work size : ℕ) (is : List Item) → readScript script ≡ items is
+    → IsAccepted (runAnswer table script budget work size) → runAnswer table script budget work size ≡ ranItems (step size) budget is (linesOf table)
+ran-accepted table script budget work size is e h =
+    let q : runAnswer table script budget work size ≡ ranScript table budget size (items is) = ran-answer table script budget work size h ∙ ap (ranScript table budget size) e in
+    q ∙ ran-script table budget size is (rw q at h)
+
+-- the script of an accepted run has items
+pub no-refusal : (table script : List ℕ) (budget work size n at : ℕ) → readScript script ≡ refusedAt n at → IsAccepted (runAnswer table script budget work size) → ⊥
+unfolding ranScript IsAccepted
+no-refusal table script budget work size n at e h = rw (ran-answer table script budget work size h, e) at h
+
+-- its journal buffer has room for the opening journal
+pub has-room : (table script : List ℕ) (budget work size : ℕ) (is : List Item) → readScript script ≡ items is
+    → IsAccepted (runAnswer table script budget work size) → openingLength (linesOf table) ≤ size
+unfolding ranScript ranTable
+has-room table script budget work size is e h =
+    let q : runAnswer table script budget work size ≡ ranScript table budget size (items is) = ran-answer table script budget work size h ∙ ap (ranScript table budget size) e in
+    let h₁ : IsAccepted (cond (isTable table) (ranTable table budget size is) (refusal 7 0)) = rw q at h in
+    let h₂ : IsAccepted (ranTable table budget size is) = rw (cond-accepted (isTable table) (ranTable table budget size is) 7 0 h₁) at h₁ in
+    leb→le (openingLength (linesOf table)) size (cond-passed (leb (openingLength (linesOf table)) size) (ranItems (step size) budget is (linesOf table)) 9 0 h₂)

@@ -1,0 +1,11 @@
+pub mod Reading
+pub mod OldSide
+pub mod Step
+pub mod Fits
+pub mod Demand3
+pub mod Accepted
+pub mod Demand3Items
+pub mod Demand3Proof
+pub mod Beyond
+pub mod Budget
+pub mod Demand3Limits

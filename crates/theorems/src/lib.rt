@@ -1,0 +1,1 @@
+// What is proved of the definitions alone: see specs/. This crate has no code.
