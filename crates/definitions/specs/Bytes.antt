@@ -1,7 +1,7 @@
 -- Bytes and lines (document 01, "Tables and the journal"). Bytes are numbers, a line is its bytes without the byte 10 (LF) that ends it.
 use mathlib.Core.Bool.{Bool, true, false, cond, _&&_, _||_}
 use mathlib.Core.List.{List, [], _∷_, _++_}
-use Prim.Native.Nat.{ℕ, zero, suc, _+_, _-_}
+use Prim.Native.Nat.{ℕ, _+_, _-_}
 use Prim.Native.String.{String}
 use Prim.Native.Char.{code}
 use lib.ListN.{length}

@@ -2,7 +2,7 @@
 use mathlib.Core.Bool.{Bool, true, false, cond, _&&_, _||_}
 use mathlib.Core.Option.{Option, none, some}
 use mathlib.Core.List.{List, [], _∷_}
-use Prim.Native.Nat.{ℕ, zero, suc, _+_, _-_}
+use Prim.Native.Nat.{ℕ, suc, _+_}
 use Prim.Native.String.{String}
 use lib.ListN.{length, drop}
 use lib.Dec.{eqb}
@@ -10,8 +10,8 @@ use Rattle.definitions.specs.Bytes.{Line, linesOf}
 use Rattle.definitions.specs.Editor.{Target, here, line, eof, Through, alone, upTo, toEof}
 use Rattle.definitions.specs.Edit.{Change, afterIt, beforeIt, exchange, Test, is, isNot, isEof, Op, quit, move, next, previous, delete, replace, insert, copy, alter, point, pointStart, right, left, cutByte, recase}
 use Rattle.definitions.specs.Search.{Search}
-use Rattle.definitions.specs.Control.{Seek, forward, backward, deleting, Opener, forever, branch, loop, Item, simple, seek, opens, leave}
-use Rattle.definitions.specs.Reader.{Cursor, cursor, Got, got, refused, andThen, placeAt, nextByte, afterByte, isNext, skipSpaces, skipComment, isDigitNext, number, name, packed, isWord, afterWord, quoted}
+use Rattle.definitions.specs.Control.{Seek, forward, backward, deleting, forever, branch, loop, Item, simple, seek, opens, leave}
+use Rattle.definitions.specs.Reader.{Cursor, cursor, Got, got, refused, andThen, placeAt, afterByte, isNext, skipSpaces, skipComment, isDigitNext, number, name, packed, isWord, afterWord, quoted}
 use Rattle.definitions.specs.Strings.{Pair, pair, qualifiedString, twoStrings, searchExpression}
 
 -- ---- names

@@ -4,13 +4,13 @@ use mathlib.Core.Option.{Option, none, some}
 use mathlib.Core.List.{List, [], _∷_, _++_, reverseAux}
 use Prim.Native.Nat.{ℕ, zero, suc, _+_, _-_}
 use lib.ListN.{length, take, drop, getD}
-use lib.Dec.{eqb, ltb, leb}
+use lib.Dec.{ltb, leb}
 use Rattle.definitions.specs.Bytes.{Line, upper, lower}
 use Rattle.definitions.specs.Journal.{Record, rewrite, erase, journalLength}
 use Rattle.definitions.specs.Matching.{Qualified, placeOf, stringIn}
 use Rattle.definitions.specs.Search.{Search, holds, holdsAtEof}
-use Rattle.definitions.specs.Tape.{Tape, Reads, ret, bind, Need, readNeed}
-use Rattle.definitions.specs.Editor.{Ed, ed, Out, on, edited, halt, records, journal, sources, current, seen, land, landNeed, goBack}
+use Rattle.definitions.specs.Tape.{Reads, ret, bind, Need, readNeed}
+use Rattle.definitions.specs.Editor.{Ed, ed, Out, on, edited, halt, journal, sources, current, seen, land, landNeed, goBack}
 use Rattle.definitions.specs.Editor.{Target, here, line, eof, targetNeed, moveTo, Through, alone, upTo, toEof, isDeleted, afterSource, eraseThrough, eraseAll, eraseBack, putBefore}
 
 -- A, B and E: insert after, before, or exchange

@@ -1,6 +1,5 @@
 -- The script's reader, its small parts: places, spaces, comments, numbers, names, strings (document 01, "Script text"; manual 3.2).
 use mathlib.Core.Bool.{Bool, true, false, cond, _&&_, _||_}
-use mathlib.Core.Option.{Option, none, some}
 use mathlib.Core.List.{List, [], _∷_}
 use Prim.Native.Nat.{ℕ, zero, suc, _+_, _-_, _*_}
 use Prim.Native.String.{String}

@@ -1,7 +1,7 @@
 -- The run: steps, budget, the order of refusals, the answer and the journal buffer afterwards (document 01, "Commands": steps; "Who causes
 -- which number").
 use mathlib.Core.Bool.{Bool, true, false, cond}
-use mathlib.Core.List.{List, [], _∷_, _++_, map}
+use mathlib.Core.List.{List, [], _++_, map}
 use Prim.Native.Nat.{ℕ, zero, suc, _+_, _-_, _*_}
 use lib.ListN.{length, replicate}
 use lib.Dec.{leb}

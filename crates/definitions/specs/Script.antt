@@ -1,7 +1,7 @@
 -- The script's reader: bytes to items with their places, or a number and a place (document 01, "Script text" and "Who causes which number").
 use mathlib.Core.Bool.{Bool, true, false, cond, _&&_}
 use mathlib.Core.List.{List, [], _∷_, reverse}
-use Prim.Native.Nat.{ℕ, zero, suc, _+_}
+use Prim.Native.Nat.{ℕ, zero, suc}
 use lib.ListN.{length}
 use lib.Dec.{eqb, leb, ltb}
 use Rattle.definitions.specs.Bytes.{isDigit, isLetter}

@@ -1,5 +1,5 @@
 -- Search expressions (document 01, "Script text" and "Matching"; manual 3.3.7).
-use mathlib.Core.Bool.{Bool, true, false, _&&_, _||_}
+use mathlib.Core.Bool.{Bool, false, _&&_, _||_}
 use Prim.Native.Nat.{ℕ}
 use Rattle.definitions.specs.Bytes.{Line}
 use Rattle.definitions.specs.Matching.{Qualified, matches}

@@ -1,13 +1,13 @@
 -- The reader of qualified strings and search expressions (document 01, "Script text": qualifiers, search expressions; numbers 3, 4 and 5).
 use mathlib.Core.Bool.{Bool, true, false, cond, not, _&&_, _||_}
 use mathlib.Core.Option.{Option, none, some}
-use mathlib.Core.List.{List, [], _∷_}
+use mathlib.Core.List.{[], _∷_}
 use Prim.Native.Nat.{ℕ, zero, suc, _+_, _*_}
 use lib.Dec.{eqb, leb}
 use Rattle.definitions.specs.Bytes.{Line, isDigit, upper}
 use Rattle.definitions.specs.Matching.{Anchor, anywhere, atStart, atEnd, precisely, Columns, allColumns, columns, Qualifiers, qualifiers, Qualified, qualified}
 use Rattle.definitions.specs.Search.{Search, one, both, either}
-use Rattle.definitions.specs.Reader.{Cursor, Got, got, refused, andThen, placeAt, bytesLeft, nextByte, afterByte, isNext, expect, skipSpaces, skipBlank, Word, word, digits, isDigitNext, number, isDelimiter, stringNext, afterString}
+use Rattle.definitions.specs.Reader.{Cursor, Got, got, refused, andThen, placeAt, bytesLeft, nextByte, afterByte, isNext, expect, skipSpaces, skipBlank, number, isDelimiter, stringNext, afterString}
 
 -- ---- which qualifiers may stand together
 
@@ -114,8 +114,8 @@ readQualifier inSearch q c byteDigit = readCount q c
 readQualifier inSearch q c byteColumns = cond (hasColumns q) (refused 4 (placeAt c)) (readColumns q (afterByte c))
 readQualifier inSearch q c byteOther = refused 3 (placeAt c)
 
--- qualifiers up to the opening delimiter, where the cursor then stands. Each reads a byte at least, so as many rounds as bytes are enough;
--- 0 is no number of document 01's.
+-- qualifiers up to the opening delimiter, where the cursor then stands. Each reads a byte at least, so one round more than there are
+-- bytes is enough; 0 is no number of document 01's.
 unfoldable pub readQualifiers : ℕ → Bool → Qualifiers → Cursor → Got Qualifiers
 readQualifiers zero inSearch q c = refused 0 (placeAt c)
 readQualifiers (suc rounds) inSearch q c =

@@ -1,5 +1,5 @@
 -- The second part of demand 3, source line by source line: beyond the furthest line read none is marked other than kept.
-use mathlib.Core.Path.{_≡_, refl, sym, ap, _∙_}
+use mathlib.Core.Path.{_≡_, refl, ap, _∙_}
 use mathlib.Core.Option.{Option, none, some}
 use mathlib.Core.List.{List, [], _∷_, map}
 use Prim.Native.Nat.{ℕ, zero, suc, _+_, _-_, _<_}
@@ -8,7 +8,7 @@ use lib.ListN.{drop}
 use Rattle.definitions.specs.Bytes.{Line, linesOf}
 use Rattle.definitions.specs.Journal.{Record, kept, changed, deleted, inserted, afterLine}
 use Rattle.definitions.specs.Run.{Answer, runAnswer, answerFurthest, answerRecords}
-use Rattle.theorems.specs.Demand3.{IsAccepted, Demand3}
+use Rattle.theorems.specs.Demand3.{IsAccepted}
 use Rattle.theorems.specs.Demand3Proof.{demand3}
 
 -- "The record of source line n is the nth record that gives the old side a line"; none where the records have no such line

@@ -9,3 +9,17 @@ pub mod Demand3Proof
 pub mod Beyond
 pub mod Budget
 pub mod Demand3Limits
+pub mod Lines
+pub mod GoodItems
+pub mod Nesting
+pub mod ReaderSteps
+pub mod StringsSteps
+pub mod SearchSteps
+pub mod NestingSteps
+pub mod NestingLaws
+pub mod CommandSteps
+pub mod ItemLaws
+pub mod ScriptSteps
+pub mod ReadScript
+pub mod Frames
+pub mod NestingExamples
