@@ -1,10 +1,11 @@
 -- Demand 3, as one statement over the whole run. The terms are document 01's: "Tables and the journal", from "In demand 3".
 use mathlib.Core.Path.{_≡_}
+use mathlib.Core.Option.{some}
 use mathlib.Core.List.{List, _++_, map}
 use Prim.Native.Nat.{ℕ, _-_, _≤_}
 use lib.ListN.{length, take, drop, replicate}
 use Rattle.definitions.specs.Bytes.{Line, linesOf}
-use Rattle.definitions.specs.Journal.{kept, oldSide, upToLine, afterLine, journalBytes}
+use Rattle.definitions.specs.Journal.{kept, oldSide, upToLine, afterLine, journalBytes, recordsOf}
 use Rattle.definitions.specs.Run.{Answer, answer, refusal, runAnswer, answerNumber, answerSteps, answerFurthest, answerPlace, answerRecords, bufferAfter}
 
 -- ---- the terms
@@ -62,8 +63,10 @@ module _ (table script : List ℕ) (budget work size : ℕ) where
         → Agree reach (linesOf table) (linesOf table₂)
         → IsNotFull ran → IsNotFull ran₂
         → SameUpTo reach ran ran₂ × KeptAfter reach table₂ ran₂
+    -- the journal's bytes, read as a journal (number 11), are its records
+    pub reads-back : recordsOf (journalBytes (answerRecords ran)) ≡ some (answerRecords ran)
     -- the journal's bytes fit its buffer
     pub fits : length (journalBytes (answerRecords ran)) ≤ size
-    -- the buffer afterwards is these bytes, then zeros
+    -- the buffer afterwards is the journal's bytes, then zeros
     pub bytes : (buffer : List ℕ) → length buffer ≡ size
         → bufferAfter buffer ran ≡ journalBytes (answerRecords ran) ++ replicate (size - length (journalBytes (answerRecords ran))) 0

@@ -15,7 +15,7 @@ use Rattle.definitions.specs.Control.{Item, Ctl, running, Pull, finished, want,
 use Rattle.definitions.specs.Run.{End, end, choose, endPlace, spent, stepped, stepping, run, runItems, Answer, answerOf, ranItems}
 use Rattle.definitions.specs.Run.{answerNumber, answerSteps, answerFurthest, answerPlace, answerRecords}
 use Rattle.theorems.specs.Reading.{Local, metEof, readOnly, Faithful, never, ret-faithful, bind-faithful}
-use Rattle.theorems.specs.OldSide.{oldSide-append, oldSide-kept}
+use Rattle.theorems.specs.RecordLaws.{old-append, old-kept}
 use Rattle.theorems.specs.Step.{oldEd, oldOut, fullOut, step-faithful, opening-faithful}
 use Rattle.theorems.specs.Demand3.{IsNotFull, Agree, agreeUpTo, areEqual, SameUpTo}
 
@@ -115,7 +115,7 @@ drop-over (l ∷ ls) = drop-over ls
 module _ (e : Ed) where
   last-old : (t : Tape) → oldSide (journal e t) ≡ oldEd e ++ restLines t
   unfolding journal oldEd
-  last-old t = oldSide-append (records e) (map kept (restLines t)) ∙ ap (λ (x : List Line). oldSide (records e) ++ x) (oldSide-kept (restLines t))
+  last-old t = old-append (records e) (map kept (restLines t)) ∙ ap (λ (x : List Line). oldSide (records e) ++ x) (old-kept (restLines t))
 
   last-after : (t : Tape) → afterLine (furthest e t) (journal e t) ≡ map kept (drop (furthest e t) (oldEd e ++ restLines t))
   unfolding journal furthest sources restLines oldEd

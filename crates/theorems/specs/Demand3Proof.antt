@@ -12,7 +12,10 @@ use Rattle.definitions.specs.Run.{Answer, answer, refusal, ranItems, runAnswer,
 use Rattle.theorems.specs.Demand3.{IsAccepted, IsNotFull, Agree, SameUpTo, KeptAfter, Demand3}
 use Rattle.theorems.specs.Accepted.{ran-accepted, no-refusal, has-room}
 use Rattle.theorems.specs.Demand3Items.{upTo-after, items-old, items-after, items-same}
-use Rattle.theorems.specs.Fits.{journal-length, journal-append, items-fit}
+use Rattle.theorems.specs.Fits.{journal-append, items-fit}
+use Rattle.theorems.specs.JournalBytes.{journal-length}
+use Rattle.theorems.specs.Answers.{Shown}
+use Rattle.theorems.specs.RunReadsBack.{ReadsBack, run-reads-back}
 
 -- all of the buffer's bytes after an accepted run
 answer-bytes : (a : Answer) → IsAccepted a → (buffer : List ℕ) (size : ℕ) → length buffer ≡ size
@@ -24,6 +27,12 @@ answer-bytes (refusal n at) h buffer size e = absurd h
 -- what follows the furthest line of a run that does not differ
 same-after : (a b : Answer) (table : List ℕ) → SameUpTo (answerFurthest a) a b → KeptAfter (answerFurthest b) table b → KeptAfter (answerFurthest a) table b
 same-after a b table s h = rw (s .furthest) at h
+
+-- the records of an accepted run, read back from their bytes
+answer-back : (a : Answer) → IsAccepted a → Shown ReadsBack a → ReadsBack (answerRecords a)
+unfolding IsAccepted answerRecords
+answer-back (answer n steps f at j) h k = k
+answer-back (refusal n at) h k = absurd h
 
 -- ---- accepted runs of a script that decodes to the items `is`
 
@@ -68,6 +77,7 @@ demand3 table script budget work size h = by (readScript script) refl
           let ran₂ : Answer = runAnswer table₂ script budget work₂ size₂ in
           let same : SameUpTo (answerFurthest ran) ran ran₂ = same-of script budget is e table table₂ work size work₂ size₂ h h₂ agree full full₂ in
           (same, same-after ran ran₂ table₂ same (after-of script budget is e table₂ work₂ size₂ h₂));
+      reads-back = answer-back (runAnswer table script budget work size) h (run-reads-back table script budget work size);
       fits = fits-of script budget is e table work size h;
       bytes = λ buffer. answer-bytes (runAnswer table script budget work size) h buffer size;
     }

@@ -2,12 +2,10 @@
 use mathlib.Core.Path.{_≡_, refl, sym, ap, _∙_}
 use mathlib.Core.Bool.{Bool, true, false, cond}
 use mathlib.Core.List.{List, [], _∷_, _++_, map, map-append, append-assoc}
-use Prim.Native.Nat.{ℕ, zero, suc, _+_, _≤_}
-use native.Mathlib.Omega.{arith}
-use lib.ListN.{length, length-append}
+use Prim.Native.Nat.{ℕ, zero, suc, _≤_}
 use lib.Dec.{T, leb, leb→le}
-use Rattle.definitions.specs.Bytes.{Line, lineBytes}
-use Rattle.definitions.specs.Journal.{Record, kept, changed, deleted, inserted, recordBytes, journalBytes, recordLength, journalLength}
+use Rattle.definitions.specs.Bytes.{Line}
+use Rattle.definitions.specs.Journal.{Record, kept, journalBytes, journalLength}
 use Rattle.definitions.specs.Tape.{Tape, unread, restLines, Reads, bind, Need, readNeed}
 use Rattle.definitions.specs.Editor.{Ed, Out, on, edited, halt, records, journal, seen, opening}
 use Rattle.definitions.specs.Edit.{Op, need, act, within, step}
@@ -16,27 +14,7 @@ use Rattle.definitions.specs.Run.{End, choose, spent, stepped, stepping, run, r
 use Rattle.theorems.specs.Reading.{readNeed-faithful}
 use Rattle.theorems.specs.OldSide.{Keeps, act-keeps, seen-records}
 
--- ---- the length of a journal's bytes
-
-line-length : (l : Line) → length (lineBytes l) ≡ suc (length l)
-unfolding lineBytes
-line-length l = length-append l (10 ∷ []) ∙ omega arith
-
-record-length : (r : Record) → length (recordBytes r) ≡ recordLength r
-unfolding recordBytes recordLength
-record-length (kept l) = ap (λ (n : ℕ). suc (suc n)) (line-length l) ∙ omega arith
-record-length (changed o n) =
-    ap (λ (k : ℕ). suc (suc k)) (length-append (lineBytes o) (lineBytes n)) ∙ two (length (lineBytes o)) (length (lineBytes n)) (length o) (length n) (line-length o) (line-length n)
-  where
-    two : (a b c d : ℕ) → a ≡ suc c → b ≡ suc d → suc (suc (a + b)) ≡ 4 + (c + d)
-    two a b c d h k = omega (arith, h, k)
-record-length (deleted l) = ap (λ (n : ℕ). suc (suc n)) (line-length l) ∙ omega arith
-record-length (inserted l) = ap (λ (n : ℕ). suc (suc n)) (line-length l) ∙ omega arith
-
-pub journal-length : (rs : List Record) → length (journalBytes rs) ≡ journalLength rs
-unfolding journalBytes journalLength
-journal-length [] = refl
-journal-length (r ∷ rs) = length-append (recordBytes r) (journalBytes rs) ∙ rw (record-length r, journal-length rs)
+-- ---- a journal in two parts
 
 pub journal-append : (xs ys : List Record) → journalBytes (xs ++ ys) ≡ journalBytes xs ++ journalBytes ys
 unfolding journalBytes

@@ -3,12 +3,12 @@
 use mathlib.Core.Path.{_≡_, refl, sym, ap, _∙_}
 use mathlib.Core.Bool.{Bool, true, false, cond, not}
 use mathlib.Core.Option.{Option, none, some}
-use mathlib.Core.List.{reverseAux-reverseAux-nil, List, [], _∷_, _++_, map, reverse, reverseAux, reverseAux-eq, append-assoc}
+use mathlib.Core.List.{reverseAux-reverseAux-nil, List, [], _∷_, _++_, map, reverseAux}
 use Prim.Native.Nat.{ℕ, zero, suc, _+_, _-_}
 use lib.ListN.{length}
 use lib.Dec.{T, eqb, ltb, leb}
-use Rattle.definitions.specs.Bytes.{Line, eqLine}
-use Rattle.definitions.specs.Journal.{Record, kept, changed, deleted, inserted, oldOf, oldSide, change, rewrite, erase}
+use Rattle.definitions.specs.Bytes.{Line}
+use Rattle.definitions.specs.Journal.{Record, kept, changed, deleted, inserted, oldOf, oldSide, rewrite, erase}
 use Rattle.definitions.specs.Matching.{placeOf, stringIn}
 use Rattle.definitions.specs.Search.{holds}
 use Rattle.definitions.specs.Editor.{Ed, ed, Out, on, edited, halt, records, sources, current, seen, land, goBack, Target, here, line, eof, locate, moveTo}
@@ -18,6 +18,7 @@ use Rattle.definitions.specs.Edit.{alter, point, pointStart, right, left, cutBy
 use Rattle.definitions.specs.Edit.{Change, reached, looked, lookedDelete, notYet, lookedBack, withLine, splice, retext, altered, alteredPoint, alterAt, pointAt}
 use Rattle.definitions.specs.Edit.{unlessEnd, stepLeft, recased}
 use Rattle.definitions.specs.Edit.{thenDo, deleteThrough, deleteLines, insertLines, act}
+use Rattle.theorems.specs.RecordLaws.{reverse-append, old-same, rewrite-old, erase-old}
 
 -- What a command may come to from the records `rs`. It goes on and has left them; it has changed them, not their old side; or it stops and has left
 -- them ("the stopping command changes no record"), with a number of its own, which is never 29.
@@ -28,55 +29,16 @@ Keeps rs (halt n e) = (records e ≡ rs) × T (not (eqb n 29))
 
 -- ---- records
 
-pub oldSide-append : (xs ys : List Record) → oldSide (xs ++ ys) ≡ oldSide xs ++ oldSide ys
-unfolding oldSide
-oldSide-append [] ys = refl
-oldSide-append (x ∷ xs) ys = rw (oldSide-append xs ys, append-assoc)
-
-pub oldSide-kept : (ls : List Line) → oldSide (map kept ls) ≡ ls
-unfolding oldSide oldOf
-oldSide-kept [] = refl
-oldSide-kept (l ∷ ls) = ap {B = List Line} (λ r. l ∷ r) (oldSide-kept ls)
-
--- the same old lines after the records `b`
-oldSide-behind : (b xs ys : List Record) → oldSide xs ≡ oldSide ys → oldSide (reverseAux b xs) ≡ oldSide (reverseAux b ys)
-oldSide-behind b xs ys e = rw (reverseAux-eq b xs, reverseAux-eq b ys, oldSide-append (reverse b) xs, oldSide-append (reverse b) ys, e)
-
-reverseAux-append : (b xs ys : List Record) → reverseAux b (xs ++ ys) ≡ reverseAux b xs ++ ys
-reverseAux-append b xs ys = rw (reverseAux-eq b (xs ++ ys), reverseAux-eq b xs, append-assoc)
-
 reverse-twice : (acc b a : List Record) → reverseAux (reverseAux acc b) a ≡ reverseAux b (acc ++ a)
 reverse-twice [] b a = refl
 reverse-twice (x ∷ acc) b a = reverse-twice acc (x ∷ b) a
-
-change-old : (o n : Line) → oldOf (change o n) ≡ o ∷ []
-unfolding change oldOf
-change-old o n = by (eqLine o n)
-  where
-    by : (t : Bool) → oldOf (cond t (kept o) (changed o n)) ≡ o ∷ []
-    by true = refl
-    by false = refl
-
-rewrite-old : (r : Record) (l : Line) → oldOf (rewrite r l) ≡ oldOf r
-unfolding rewrite oldOf
-rewrite-old (kept o) l = change-old o l
-rewrite-old (changed o n) l = change-old o l
-rewrite-old (deleted o) l = refl
-rewrite-old (inserted o) l = refl
-
-erase-old : (r : Record) (b a : List Record) → oldSide (reverseAux (erase r ++ b) a) ≡ oldSide (reverseAux b (r ∷ a))
-unfolding erase oldSide oldOf
-erase-old (kept l) b a = oldSide-behind b (deleted l ∷ a) (kept l ∷ a) refl
-erase-old (changed o n) b a = oldSide-behind b (deleted o ∷ a) (changed o n ∷ a) refl
-erase-old (deleted l) b a = refl
-erase-old (inserted l) b a = oldSide-behind b a (inserted l ∷ a) refl
 
 -- ---- moves
 
 -- lines that are read come after the records
 pub seen-records : (e : Ed) (ls : List Line) → records (seen e ls) ≡ records e ++ map kept ls
 unfolding seen records
-seen-records (ed b a p) ls = reverseAux-append b a (map kept ls)
+seen-records (ed b a p) ls = reverse-append b a (map kept ls)
 
 land-records : (b a : List Record) → records (land b a) ≡ reverseAux b a
 unfolding land records
@@ -138,10 +100,10 @@ eraseBack-old : (k : ℕ) (b acc a : List Record) → oldSide (reverseAux (erase
 unfolding eraseBack oldSide oldOf
 eraseBack-old zero b acc a = ap oldSide (reverse-twice acc b a)
 eraseBack-old (suc k) [] acc a = ap oldSide (reverse-twice acc [] a)
-eraseBack-old (suc k) (kept l ∷ b) acc a = eraseBack-old k b (deleted l ∷ acc) a ∙ oldSide-behind b (deleted l ∷ (acc ++ a)) (kept l ∷ (acc ++ a)) refl
-eraseBack-old (suc k) (changed o n ∷ b) acc a = eraseBack-old k b (deleted o ∷ acc) a ∙ oldSide-behind b (deleted o ∷ (acc ++ a)) (changed o n ∷ (acc ++ a)) refl
+eraseBack-old (suc k) (kept l ∷ b) acc a = eraseBack-old k b (deleted l ∷ acc) a ∙ old-same b (deleted l ∷ (acc ++ a)) (kept l ∷ (acc ++ a)) refl
+eraseBack-old (suc k) (changed o n ∷ b) acc a = eraseBack-old k b (deleted o ∷ acc) a ∙ old-same b (deleted o ∷ (acc ++ a)) (changed o n ∷ (acc ++ a)) refl
 eraseBack-old (suc k) (deleted l ∷ b) acc a = eraseBack-old (suc k) b (deleted l ∷ acc) a
-eraseBack-old (suc k) (inserted l ∷ b) acc a = eraseBack-old k b acc a ∙ oldSide-behind b (acc ++ a) (inserted l ∷ (acc ++ a)) refl
+eraseBack-old (suc k) (inserted l ∷ b) acc a = eraseBack-old k b acc a ∙ old-same b (acc ++ a) (inserted l ∷ (acc ++ a)) refl
 
 lookedDelete-keeps : (t : Bool) (k : ℕ) (b : List Record) (r : Record) (a : List Record) (p : ℕ) → Keeps (reverseAux b (r ∷ a)) (lookedDelete t k b r a p)
 unfolding Keeps lookedDelete records
@@ -165,7 +127,7 @@ retext-keeps : (b : List Record) (r : Record) (a : List Record) (p : ℕ) (l : L
 unfolding Keeps retext records oldSide
 retext-keeps b r a p l q =
     cond-both (Keeps (reverseAux b (r ∷ a))) (leb (length l) 255) _ _
-    (oldSide-behind b (rewrite r l ∷ a) (r ∷ a) (rw (rewrite-old r l)))
+    (old-same b (rewrite r l ∷ a) (r ∷ a) (rewrite-old r l a))
     (refl, tt)
 
 alterAt-keeps : (c : Change) (pointing : Bool) (s new : Line) (b : List Record) (r : Record) (a : List Record) (p : ℕ) (i : Option ℕ)
@@ -202,23 +164,23 @@ thenDo-keeps (halt n e) f rs h k = h
 eraseThrough-keeps : (e : Ed) (k : ℕ) (b rs : List Record) → oldSide (records e) ≡ oldSide (reverseAux b rs) → Keeps (records e) (eraseThrough e k b rs)
 unfolding Keeps eraseThrough oldSide oldOf
 eraseThrough-keeps e k b [] h = (refl, tt)
-eraseThrough-keeps e k b (inserted l ∷ rs) h = eraseThrough-keeps e k b rs (h ∙ oldSide-behind b (inserted l ∷ rs) rs refl)
-eraseThrough-keeps e zero b (kept l ∷ rs) h = ap oldSide (land-records (deleted l ∷ b) rs) ∙ oldSide-behind b (deleted l ∷ rs) (kept l ∷ rs) refl ∙ sym h
-eraseThrough-keeps e zero b (changed o n ∷ rs) h = ap oldSide (land-records (deleted o ∷ b) rs) ∙ oldSide-behind b (deleted o ∷ rs) (changed o n ∷ rs) refl ∙ sym h
+eraseThrough-keeps e k b (inserted l ∷ rs) h = eraseThrough-keeps e k b rs (h ∙ old-same b (inserted l ∷ rs) rs refl)
+eraseThrough-keeps e zero b (kept l ∷ rs) h = ap oldSide (land-records (deleted l ∷ b) rs) ∙ old-same b (deleted l ∷ rs) (kept l ∷ rs) refl ∙ sym h
+eraseThrough-keeps e zero b (changed o n ∷ rs) h = ap oldSide (land-records (deleted o ∷ b) rs) ∙ old-same b (deleted o ∷ rs) (changed o n ∷ rs) refl ∙ sym h
 eraseThrough-keeps e zero b (deleted l ∷ rs) h = (refl, tt)
-eraseThrough-keeps e (suc k) b (kept l ∷ rs) h = eraseThrough-keeps e k (deleted l ∷ b) rs (h ∙ oldSide-behind b (kept l ∷ rs) (deleted l ∷ rs) refl)
-eraseThrough-keeps e (suc k) b (changed o n ∷ rs) h = eraseThrough-keeps e k (deleted o ∷ b) rs (h ∙ oldSide-behind b (changed o n ∷ rs) (deleted o ∷ rs) refl)
+eraseThrough-keeps e (suc k) b (kept l ∷ rs) h = eraseThrough-keeps e k (deleted l ∷ b) rs (h ∙ old-same b (kept l ∷ rs) (deleted l ∷ rs) refl)
+eraseThrough-keeps e (suc k) b (changed o n ∷ rs) h = eraseThrough-keeps e k (deleted o ∷ b) rs (h ∙ old-same b (changed o n ∷ rs) (deleted o ∷ rs) refl)
 eraseThrough-keeps e (suc k) b (deleted l ∷ rs) h = eraseThrough-keeps e k (deleted l ∷ b) rs h
 
 eraseAll-old : (b rs : List Record) → oldSide (records (eraseAll b rs)) ≡ oldSide (reverseAux b rs)
 unfolding eraseAll records
 eraseAll-old b [] = refl
-eraseAll-old b (r ∷ rs) = eraseAll-old (erase r ++ b) rs ∙ erase-old r b rs
+eraseAll-old b (r ∷ rs) = eraseAll-old (erase r ++ b) rs ∙ erase-old b r rs
 
 deleteThrough-keeps : (e : Ed) (t : Through) (e′ : Ed) → oldSide (records e′) ≡ oldSide (records e) → Keeps (records e) (deleteThrough e t e′)
 unfolding Keeps deleteThrough records
 deleteThrough-keeps e t (ed b [] p) h = (refl, tt)
-deleteThrough-keeps e alone (ed b (r ∷ a) p) h = ap oldSide (land-records (erase r ++ b) a) ∙ erase-old r b a ∙ h
+deleteThrough-keeps e alone (ed b (r ∷ a) p) h = ap oldSide (land-records (erase r ++ b) a) ∙ erase-old b r a ∙ h
 deleteThrough-keeps e (upTo n) (ed b (r ∷ a) p) h =
     cond-both (Keeps (records e)) (leb n (sources b)) _ _ (refl, tt) (eraseThrough-keeps e (n - (sources b + 1)) b (r ∷ a) (sym h))
 deleteThrough-keeps e toEof (ed b (r ∷ a) p) h = eraseAll-old b (r ∷ a) ∙ h
@@ -230,7 +192,7 @@ deleteLines-keeps a b e = thenDo-keeps (moveTo a e) (λ e′. deleteThrough e b 
 putBefore-old : (ls : List Line) (b a : List Record) → oldSide (reverseAux (putBefore ls b) a) ≡ oldSide (reverseAux b a)
 unfolding putBefore oldSide oldOf
 putBefore-old [] b a = refl
-putBefore-old (l ∷ ls) b a = putBefore-old ls (inserted l ∷ b) a ∙ oldSide-behind b (inserted l ∷ a) a refl
+putBefore-old (l ∷ ls) b a = putBefore-old ls (inserted l ∷ b) a ∙ old-same b (inserted l ∷ a) a refl
 
 insertLines-keeps : (ls : List Line) (e : Ed) (rs : List Record) → oldSide (records e) ≡ oldSide rs → Keeps rs (insertLines ls e)
 unfolding Keeps insertLines records

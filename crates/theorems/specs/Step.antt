@@ -11,7 +11,8 @@ use Rattle.definitions.specs.Tape.{Tape, restLines, ret, Need, readNeed}
 use Rattle.definitions.specs.Editor.{Ed, ed, Out, on, edited, halt, records, journal, seen, opening}
 use Rattle.definitions.specs.Edit.{Op, need, act, stepFree, within, step}
 use Rattle.theorems.specs.Reading.{Faithful, never, ret-faithful, bind-faithful, readNeed-faithful}
-use Rattle.theorems.specs.OldSide.{Keeps, act-keeps, seen-records, oldSide-append, oldSide-kept}
+use Rattle.theorems.specs.OldSide.{Keeps, act-keeps, seen-records}
+use Rattle.theorems.specs.RecordLaws.{old-append, old-kept}
 
 -- the old lines of the records as far as read
 unfoldable pub oldEd : Ed → List Line
@@ -34,7 +35,7 @@ act-old op e = keeps-old (act op e) (records e) (act-keeps op e)
 
 seen-old : (e : Ed) (ls : List Line) → oldEd (seen e ls) ≡ oldEd e ++ ls
 unfolding oldEd
-seen-old e ls = rw (seen-records e ls, oldSide-append, oldSide-kept)
+seen-old e ls = rw (seen-records e ls, old-append, old-kept)
 
 -- a step that stopped on a full journal buffer
 unfoldable pub fullOut : Out → Type 0
@@ -82,4 +83,4 @@ opening-faithful =
     bind-faithful (readNeed (Need.next 1)) (readNeed (Need.next 1)) (λ ls. ret (ed [] (map kept ls) 0)) (λ ls. ret (ed [] (map kept ls) 0))
     (λ ls. ls) never oldEd never [] (λ s t x. absurd x)
     (readNeed-faithful (Need.next 1) [])
-    (λ ls. ret-faithful (ed [] (map kept ls) 0) oldEd never ls (unfold oldEd records in (oldSide-kept ls)))
+    (λ ls. ret-faithful (ed [] (map kept ls) 0) oldEd never ls (unfold oldEd records in (old-kept ls)))

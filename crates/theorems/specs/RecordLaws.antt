@@ -1,0 +1,52 @@
+-- Laws about lists of records and their old side.
+use mathlib.Core.Path.{_≡_, refl, sym, ap, _∙_}
+use mathlib.Core.Bool.{Bool, true, false, cond}
+use mathlib.Core.List.{List, [], _∷_, _++_, map, reverseAux, append-assoc}
+use Rattle.definitions.specs.Bytes.{Line, eqLine}
+use Rattle.definitions.specs.Journal.{Record, kept, changed, deleted, inserted, oldOf, oldSide, change, rewrite, erase}
+
+-- records that are read come last
+pub reverse-append : (before after xs : List Record) → reverseAux before (after ++ xs) ≡ reverseAux before after ++ xs
+reverse-append [] after xs = refl
+reverse-append (r ∷ before) after xs = reverse-append before (r ∷ after) xs
+
+pub old-append : (rs xs : List Record) → oldSide (rs ++ xs) ≡ oldSide rs ++ oldSide xs
+unfolding oldSide
+old-append [] xs = refl
+old-append (r ∷ rs) xs = ap (λ (ls : List Line). oldOf r ++ ls) (old-append rs xs) ∙ sym (append-assoc (oldOf r) (oldSide rs) (oldSide xs))
+
+pub old-kept : (ls : List Line) → oldSide (map kept ls) ≡ ls
+unfolding oldSide oldOf
+old-kept [] = refl
+old-kept (l ∷ ls) = ap {B = List Line} (λ r. l ∷ r) (old-kept ls)
+
+-- other records with the same old lines
+pub old-same : (before xs ys : List Record) → oldSide xs ≡ oldSide ys → oldSide (reverseAux before xs) ≡ oldSide (reverseAux before ys)
+old-same [] xs ys e = e
+old-same (r ∷ before) xs ys e = old-same before (r ∷ xs) (r ∷ ys) (unfold oldSide in (ap (λ (ls : List Line). oldOf r ++ ls) e))
+
+change-old : (old new : Line) (after : List Record) → oldSide (change old new ∷ after) ≡ old ∷ oldSide after
+unfolding change
+change-old old new after = by (eqLine old new)
+  where
+    by : (c : Bool) → oldSide (cond c (kept old) (changed old new) ∷ after) ≡ old ∷ oldSide after
+    by true = unfold oldSide oldOf in refl
+    by false = unfold oldSide oldOf in refl
+
+pub rewrite-old : (r : Record) (l : Line) (after : List Record) → oldSide (rewrite r l ∷ after) ≡ oldSide (r ∷ after)
+unfolding rewrite oldSide oldOf
+rewrite-old (kept o) l after = change-old o l after
+rewrite-old (changed o n) l after = change-old o l after
+rewrite-old (deleted o) l after = refl
+rewrite-old (inserted o) l after = refl
+
+pub erase-old : (before : List Record) (r : Record) (after : List Record) → oldSide (reverseAux (erase r ++ before) after) ≡ oldSide (reverseAux before (r ∷ after))
+unfolding erase oldSide oldOf
+erase-old before (kept l) after = old-same before (deleted l ∷ after) (kept l ∷ after) refl
+erase-old before (changed o n) after = old-same before (deleted o ∷ after) (changed o n ∷ after) refl
+erase-old before (deleted l) after = refl
+erase-old before (inserted l) after = old-same before after (inserted l ∷ after) refl
+
+pub insert-old : (before : List Record) (l : Line) (after : List Record) → oldSide (reverseAux before (inserted l ∷ after)) ≡ oldSide (reverseAux before after)
+unfolding oldSide oldOf
+insert-old before l after = old-same before (inserted l ∷ after) after refl

@@ -1,0 +1,271 @@
+-- What every step keeps holds at the end of every run: the induction over the budget, and that a run takes only the steps which its items ask for.
+use mathlib.Core.Bool.{Bool, true, false}
+use mathlib.Core.List.{List, [], _∷_}
+use Prim.Native.Nat.{ℕ, zero, suc}
+use Rattle.definitions.specs.Tape.{Tape, Reads, bind}
+use Rattle.definitions.specs.Search.{Search}
+use Rattle.definitions.specs.Editor.{Ed, Out, on, edited, halt, opening}
+use Rattle.definitions.specs.Edit.{Test, Op, round, test, begin, beginBack, find, findBack, findDelete}
+use Rattle.definitions.specs.Control.{Seek, forward, backward, deleting, Opener, times, forever, bare, branch, loop, Item, simple, seek, opens, bracket, close, otherwise, leave, lineEnd, Frame, frame, Ctl, running, skipping, failing, leaving, seeking, Pull, finished, want, wantOne, bodyStart, bodyEnd, leaveTo, beginOp, lookOp, pullAt, pullAfter, pullElse, pullLine, pull}
+use Rattle.definitions.specs.Run.{End, end, choose, spent, stepped, stepping, run, runItems}
+use Rattle.theorems.specs.Each.{Each, each-all}
+
+-- ---- the steps that items ask for
+
+-- `Q` holds of every step that a control structure or a search asks for by itself
+pub record Inner (Q : Op → Type 0) : Type 0 where
+  pub rounds : Q round
+  pub tests : (c : Test) → Q (test c)
+  pub begins : Q begin
+  pub beginsBack : Q beginBack
+  pub finds : (se : Search) → Q (find se)
+  pub findsBack : (se : Search) → Q (findBack se)
+  pub findsDelete : (se : Search) (k : ℕ) → Q (findDelete se k)
+
+module _ (Q : Op → Type 0) where
+  abbrev pub ItemOf : Item → Type 0
+  ItemOf (simple at op) = Q op
+  ItemOf (seek at s se) = Unit {0}
+  ItemOf (opens at o) = Unit {0}
+  ItemOf bracket = Unit {0}
+  ItemOf close = Unit {0}
+  ItemOf otherwise = Unit {0}
+  ItemOf (leave at) = Unit {0}
+  ItemOf lineEnd = Unit {0}
+
+  abbrev pub ItemsOf : List Item → Type 0
+  ItemsOf items = Each ItemOf items
+
+  abbrev pub FrameOf : Frame → Type 0
+  FrameOf (frame g at o body) = ItemsOf body
+
+  abbrev pub FramesOf : List Frame → Type 0
+  FramesOf frames = Each FrameOf frames
+
+  abbrev pub CtlOf : Ctl → Type 0
+  CtlOf (running items frames) = ItemsOf items × FramesOf frames
+  CtlOf (skipping k items frames) = ItemsOf items × FramesOf frames
+  CtlOf (failing k items frames) = ItemsOf items × FramesOf frames
+  CtlOf (leaving items) = ItemsOf items
+  CtlOf (seeking at s se k items frames) = ItemsOf items × FramesOf frames
+
+  abbrev pub PullOf : Pull → Type 0
+  PullOf finished = Unit {0}
+  PullOf (want at op c₁ c₀) = Q op × CtlOf c₁ × CtlOf c₀
+
+module _ (Q R : Op → Type 0) (f : (op : Op) → Q op → R op) where
+  item-weaken : (i : Item) → ItemOf Q i → ItemOf R i
+  item-weaken (simple at op) h = f op h
+  item-weaken (seek at s se) h = tt
+  item-weaken (opens at o) h = tt
+  item-weaken bracket h = tt
+  item-weaken close h = tt
+  item-weaken otherwise h = tt
+  item-weaken (leave at) h = tt
+  item-weaken lineEnd h = tt
+
+  -- a weaker statement on the steps that items ask for
+  pub items-weaken : (items : List Item) → ItemsOf Q items → ItemsOf R items
+  items-weaken [] h = tt
+  items-weaken (i ∷ items) h = (item-weaken i (h .0), items-weaken items (h .1))
+
+module _ (Q : Op → Type 0) (f : (op : Op) → Q op) where
+  -- what holds of every step
+  pub inner-all : Inner Q
+  inner-all = record {
+    rounds = f round;
+    tests = λ c. f (test c);
+    begins = f begin;
+    beginsBack = f beginBack;
+    finds = λ se. f (find se);
+    findsBack = λ se. f (findBack se);
+    findsDelete = λ se k. f (findDelete se k);
+  }
+
+  item-all : (i : Item) → ItemOf Q i
+  item-all (simple at op) = f op
+  item-all (seek at s se) = tt
+  item-all (opens at o) = tt
+  item-all bracket = tt
+  item-all close = tt
+  item-all otherwise = tt
+  item-all (leave at) = tt
+  item-all lineEnd = tt
+
+  pub items-all : (items : List Item) → ItemsOf Q items
+  items-all items = each-all (ItemOf Q) item-all items
+
+module _ (Q : Op → Type 0) (inner : Inner Q) where
+  bodyStart-of : (o : Opener) (at : ℕ) (body : List Item) (frames : List Frame) (skip : Pull)
+      → ItemsOf Q body → FramesOf Q frames → PullOf Q skip → PullOf Q (bodyStart o at body frames skip)
+  unfolding bodyStart wantOne
+  bodyStart-of (times zero) at body frames skip i f s = s
+  bodyStart-of (times (suc n)) at body frames skip i f s = (inner .rounds, (i, (i, f)), (i, (i, f)))
+  bodyStart-of forever at body frames skip i f s = (inner .rounds, (i, (i, f)), (i, (i, f)))
+  bodyStart-of bare at body frames skip i f s = (inner .rounds, (i, (i, f)), (i, (i, f)))
+  bodyStart-of (branch c) at body frames skip i f s = (inner .tests c, (i, (i, f)), (i, f))
+  bodyStart-of (loop c) at body frames skip i f s = (inner .tests c, (i, (i, f)), (i, f))
+
+  bodyEnd-of : (o : Opener) (g : Bool) (at : ℕ) (body items : List Item) (frames : List Frame) (next : Pull)
+      → ItemsOf Q body → ItemsOf Q items → FramesOf Q frames → PullOf Q next → PullOf Q (bodyEnd o g at body items frames next)
+  unfolding bodyEnd wantOne
+  bodyEnd-of (times zero) g at body items frames next b i f s = s
+  bodyEnd-of (times (suc n)) g at body items frames next b i f s = (inner .rounds, (b, (b, f)), (b, (b, f)))
+  bodyEnd-of forever g at body items frames next b i f s = (inner .rounds, (b, (b, f)), (b, (b, f)))
+  bodyEnd-of bare g at body items frames next b i f s = s
+  bodyEnd-of (branch c) g at body items frames next b i f s = s
+  bodyEnd-of (loop c) g at body items frames next b i f s = (inner .tests c, (b, (b, f)), (i, f))
+
+  leaveTo-of : (k : ℕ) (items : List Item) (frames : List Frame) → ItemsOf Q items → FramesOf Q frames → CtlOf Q (leaveTo k items frames)
+  unfolding leaveTo
+  leaveTo-of k items [] i f = i
+  leaveTo-of k items (frame true at o body ∷ frames) i f = (i, f .1)
+  leaveTo-of k items (frame false at o body ∷ frames) i f = leaveTo-of (suc k) items frames i (f .1)
+
+  beginOp-of : (s : Seek) → Q (beginOp s)
+  unfolding beginOp
+  beginOp-of forward = inner .begins
+  beginOp-of backward = inner .beginsBack
+  beginOp-of deleting = inner .begins
+
+  lookOp-of : (s : Seek) (se : Search) (k : ℕ) → Q (lookOp s se k)
+  unfolding lookOp
+  lookOp-of forward se k = inner .finds se
+  lookOp-of backward se k = inner .findsBack se
+  lookOp-of deleting se k = inner .findsDelete se k
+
+  mutual
+    unfolding pullAt pullAfter wantOne
+
+    pullAt-of : (items : List Item) (frames : List Frame) → ItemsOf Q items → FramesOf Q frames → PullOf Q (pullAt items frames)
+    pullAt-of [] frames i f = tt
+    pullAt-of (simple at op ∷ items) frames i f = (i .0, (i .1, f), (i .1, f))
+    pullAt-of (seek at s se ∷ items) frames i f = (beginOp-of s, (i .1, f), (i .1, f))
+    pullAt-of (opens at o ∷ items) frames i f = bodyStart-of o at items frames (pullAfter items 1 frames) (i .1) f (pullAfter-of items 1 frames (i .1) f)
+    pullAt-of (bracket ∷ items) [] i f = tt
+    pullAt-of (bracket ∷ items) (frame g at o body ∷ frames) i f = pullAt-of items (frame true at o body ∷ frames) (i .1) f
+    pullAt-of (close ∷ items) [] i f = tt
+    pullAt-of (close ∷ items) (frame g at o body ∷ frames) i f =
+        bodyEnd-of o g at body items frames (pullAt items frames) (f .0) (i .1) (f .1) (pullAt-of items frames (i .1) (f .1))
+    pullAt-of (otherwise ∷ items) [] i f = tt
+    pullAt-of (otherwise ∷ items) (g ∷ frames) i f = pullAfter-of items 1 frames (i .1) (f .1)
+    pullAt-of (leave at ∷ items) frames i f = (inner .rounds, leaveTo-of 0 items frames (i .1) f, leaveTo-of 0 items frames (i .1) f)
+    pullAt-of (lineEnd ∷ items) frames i f = pullAt-of items frames (i .1) f
+
+    pullAfter-of : (items : List Item) (k : ℕ) (frames : List Frame) → ItemsOf Q items → FramesOf Q frames → PullOf Q (pullAfter items k frames)
+    pullAfter-of [] k frames i f = tt
+    pullAfter-of (simple at op ∷ items) k frames i f = pullAfter-of items k frames (i .1) f
+    pullAfter-of (seek at s se ∷ items) k frames i f = pullAfter-of items k frames (i .1) f
+    pullAfter-of (opens at o ∷ items) k frames i f = pullAfter-of items (suc k) frames (i .1) f
+    pullAfter-of (bracket ∷ items) k frames i f = pullAfter-of items k frames (i .1) f
+    pullAfter-of (close ∷ items) zero frames i f = pullAt-of items frames (i .1) f
+    pullAfter-of (close ∷ items) (suc zero) frames i f = pullAt-of items frames (i .1) f
+    pullAfter-of (close ∷ items) (suc (suc k)) frames i f = pullAfter-of items (suc k) frames (i .1) f
+    pullAfter-of (otherwise ∷ items) k frames i f = pullAfter-of items k frames (i .1) f
+    pullAfter-of (leave at ∷ items) k frames i f = pullAfter-of items k frames (i .1) f
+    pullAfter-of (lineEnd ∷ items) k frames i f = pullAfter-of items k frames (i .1) f
+
+  pullElse-of : (items : List Item) (k : ℕ) (frames : List Frame) → ItemsOf Q items → FramesOf Q frames → PullOf Q (pullElse items k frames)
+  unfolding pullElse
+  pullElse-of [] k frames i f = tt
+  pullElse-of (simple at op ∷ items) k frames i f = pullElse-of items k frames (i .1) f
+  pullElse-of (seek at s se ∷ items) k frames i f = pullElse-of items k frames (i .1) f
+  pullElse-of (opens at o ∷ items) k frames i f = pullElse-of items (suc k) frames (i .1) f
+  pullElse-of (bracket ∷ items) k frames i f = pullElse-of items k frames (i .1) f
+  pullElse-of (close ∷ items) zero frames i f = pullAt-of items frames (i .1) f
+  pullElse-of (close ∷ items) (suc zero) frames i f = pullAt-of items frames (i .1) f
+  pullElse-of (close ∷ items) (suc (suc k)) frames i f = pullElse-of items (suc k) frames (i .1) f
+  pullElse-of (otherwise ∷ items) zero frames i f = pullAt-of items (frame false 0 bare items ∷ frames) (i .1) (i .1, f)
+  pullElse-of (otherwise ∷ items) (suc zero) frames i f = pullAt-of items (frame false 0 bare items ∷ frames) (i .1) (i .1, f)
+  pullElse-of (otherwise ∷ items) (suc (suc k)) frames i f = pullElse-of items (suc (suc k)) frames (i .1) f
+  pullElse-of (leave at ∷ items) k frames i f = pullElse-of items k frames (i .1) f
+  pullElse-of (lineEnd ∷ items) k frames i f = pullElse-of items k frames (i .1) f
+
+  pullLine-of : (items : List Item) → ItemsOf Q items → PullOf Q (pullLine items)
+  unfolding pullLine
+  pullLine-of [] i = tt
+  pullLine-of (simple at op ∷ items) i = pullLine-of items (i .1)
+  pullLine-of (seek at s se ∷ items) i = pullLine-of items (i .1)
+  pullLine-of (opens at o ∷ items) i = pullLine-of items (i .1)
+  pullLine-of (bracket ∷ items) i = pullLine-of items (i .1)
+  pullLine-of (close ∷ items) i = pullLine-of items (i .1)
+  pullLine-of (otherwise ∷ items) i = pullLine-of items (i .1)
+  pullLine-of (leave at ∷ items) i = pullLine-of items (i .1)
+  pullLine-of (lineEnd ∷ items) i = pullAt-of items [] (i .1) tt
+
+  -- a run whose items ask only for steps of `Q` takes only steps of `Q`
+  pub pull-of : (c : Ctl) → CtlOf Q c → PullOf Q (pull c)
+  unfolding pull
+  pull-of (running items frames) h = pullAt-of items frames (h .0) (h .1)
+  pull-of (skipping k items frames) h = pullAfter-of items k frames (h .0) (h .1)
+  pull-of (failing k items frames) h = pullElse-of items k frames (h .0) (h .1)
+  pull-of (leaving items) h = pullLine-of items h
+  pull-of (seeking at s se k items frames) h = (lookOp-of s se k, h, h)
+
+-- ---- the induction over the budget
+
+-- `I` of the state and the tape where the run goes on, `J` of its number, the state and the tape where it stops
+module _ (I : Ed → Tape → Type 0) (J : ℕ → Ed → Tape → Type 0) where
+  abbrev pub StepOr : Out → Tape → Type 0
+  StepOr (on b e) t = I e t
+  StepOr (edited e) t = I e t
+  StepOr (halt n e) t = J n e t
+
+abbrev pub EndOf : (ℕ → Ed → Tape → Type 0) → End → Tape → Type 0
+EndOf J (end n steps at e) t = J n e t
+
+-- a statement that holds whether the run goes on or stops
+abbrev pub AfterStep : (Ed → Tape → Type 0) → Out → Tape → Type 0
+AfterStep I o t = StepOr I (λ n. I) o t
+
+abbrev pub AtEnd : (Ed → Tape → Type 0) → End → Tape → Type 0
+AtEnd I x t = EndOf (λ n. I) x t
+
+-- a run ends with 0 at the script's end, with 29 where the budget is spent, and else with the number of a step
+module _ (Q : Op → Type 0) (inner : Inner Q) (I : Ed → Tape → Type 0) (J : ℕ → Ed → Tape → Type 0)
+    (done : (e : Ed) (t : Tape) → I e t → J 0 e t) (late : (e : Ed) (t : Tape) → I e t → J 29 e t) (take-step : Op → Ed → Reads Out)
+    (keeps : (op : Op) (e : Ed) (t : Tape) → Q op → I e t → StepOr I J ((take-step op e t) .0) ((take-step op e t) .1)) where
+  choose-of : (b : Bool) (c₁ c₀ : Ctl) → CtlOf Q c₁ → CtlOf Q c₀ → CtlOf Q (choose b c₁ c₀)
+  unfolding choose
+  choose-of true c₁ c₀ h k = h
+  choose-of false c₁ c₀ h k = k
+
+  spent-ends : (steps : ℕ) (e : Ed) (x : Pull) (t : Tape) → I e t → EndOf J (spent steps e x) t
+  unfolding spent
+  spent-ends steps e finished t h = done e t h
+  spent-ends steps e (want at op c₁ c₀) t h = late e t h
+
+  module _ (go : Ctl → Ed → Reads End) (ih : (c : Ctl) (e : Ed) (t : Tape) → CtlOf Q c → I e t → EndOf J ((go c e t) .0) ((go c e t) .1)) where
+    stepped-ends : (steps at : ℕ) (c₁ c₀ : Ctl) (o : Out) (t : Tape) → CtlOf Q c₁ → CtlOf Q c₀ → StepOr I J o t
+        → EndOf J ((stepped go steps at c₁ c₀ o t) .0) ((stepped go steps at c₁ c₀ o t) .1)
+    unfolding stepped
+    stepped-ends steps at c₁ c₀ (on b e) t h k i = ih (choose b c₁ c₀) e t (choose-of b c₁ c₀ h k) i
+    stepped-ends steps at c₁ c₀ (edited e) t h k i = ih c₁ e t h i
+    stepped-ends steps at c₁ c₀ (halt n e) t h k i = i
+
+    stepping-ends : (steps : ℕ) (e : Ed) (x : Pull) (t : Tape) → PullOf Q x → I e t
+        → EndOf J ((stepping take-step go steps e x t) .0) ((stepping take-step go steps e x t) .1)
+    unfolding stepping bind
+    stepping-ends steps e finished t h i = done e t i
+    stepping-ends steps e (want at op c₁ c₀) t h i =
+        stepped-ends (suc steps) at c₁ c₀ ((take-step op e t) .0) ((take-step op e t) .1) (h .1) (h .2) (keeps op e t (h .0) i)
+
+  pub run-ends : (budget steps : ℕ) (c : Ctl) (e : Ed) (t : Tape) → CtlOf Q c → I e t
+      → EndOf J ((run take-step budget steps c e t) .0) ((run take-step budget steps c e t) .1)
+  unfolding run
+  run-ends zero steps c e t h i = spent-ends steps e (pull c) t i
+  run-ends (suc budget) steps c e t h i =
+      stepping-ends (λ c′ e′. run take-step budget (suc steps) c′ e′) (λ c′ e′ t′. run-ends budget (suc steps) c′ e′ t′) steps e (pull c) t (pull-of Q inner c h) i
+
+  -- what holds of the opening and is kept by every step holds at the end
+  pub runItems-ends : (budget : ℕ) (items : List Item) (t : Tape) → ItemsOf Q items → I ((opening t) .0) ((opening t) .1)
+      → EndOf J ((runItems take-step budget items t) .0) ((runItems take-step budget items t) .1)
+  unfolding runItems bind
+  runItems-ends budget items t h i = run-ends budget 0 (running items []) ((opening t) .0) ((opening t) .1) (h, tt) i
+
+-- the same for a statement that holds whether the run goes on or stops
+pub runItems-keeps : (Q : Op → Type 0) (inner : Inner Q) (I : Ed → Tape → Type 0) (take-step : Op → Ed → Reads Out)
+    → ((op : Op) (e : Ed) (t : Tape) → Q op → I e t → AfterStep I ((take-step op e t) .0) ((take-step op e t) .1))
+    → (budget : ℕ) (items : List Item) (t : Tape) → ItemsOf Q items → I ((opening t) .0) ((opening t) .1)
+    → AtEnd I ((runItems take-step budget items t) .0) ((runItems take-step budget items t) .1)
+runItems-keeps Q inner I take-step keeps = runItems-ends Q inner I (λ n. I) (λ e t h. h) (λ e t h. h) take-step keeps
