@@ -1,0 +1,86 @@
+#!/usr/bin/env python3
+"""Makes run cases by chance: tables and scripts of document 01's commands, some of them damaged.
+
+    tools/cases.py SEED COUNT | tools/oracle.py outcome > FILE
+    tools/vectors.py run FILE
+
+The first line makes COUNT cases and completes them by the plain interpreter; the second computes them from the definitions and compares.
+"""
+import random, sys
+R = random.Random(int(sys.argv[1])); N = int(sys.argv[2])
+def w(n, alpha): return ''.join(R.choice(alpha) for _ in range(n))
+def line():
+    r = R.random()
+    if r < .1: return ''
+    if r < .13: return w(R.choice([250,253,254,255]), 'ab ')
+    return w(R.randint(1, 9), R.choice(['ab', 'aab ', 'abAB1 -', 'a', ' a']))
+def string(): return w(R.choice([0,1,1,1,2,2,3]), R.choice(['ab', 'a', 'abAB1 ']))
+def num(): return str(R.choice([0,1,1,2,2,3,4,5,6,9,65535,65536,'007']) )
+def n1(): return str(R.choice([1,1,2,2,3,4,5,6,9,65535]))
+def sp(): return R.choice(['', '', ' ', '  '])
+def quals(search):
+    q = []
+    for c in 'BEPLWUS' + ('N' if search or R.random() < .03 else ''):
+        if R.random() < .13: q.append(R.choice([c, c.lower()]))
+    if R.random() < .2: q.append(n1() if R.random() < .95 else num())
+    if R.random() < .15:
+        a, b = R.randint(1, 6), R.randint(1, 9)
+        if a > b and R.random() < .9: a, b = b, a
+        q.append('_%s%d%s,%s%d%s_' % (sp(), a, sp(), sp(), b, sp()))
+    R.shuffle(q)
+    return ' '.join(q) if R.random() < .8 else ''.join(q)
+def qs(search):
+    d = R.choice("//////!'*+,-.:?")
+    return quals(search) + sp() + d + string().replace(d, 'a') + (d if R.random() < .93 else '\n')
+def se(deep=0):
+    if R.random() < .75 or deep > 2: return qs(True)
+    parts = [se(deep + 1)]
+    for _ in range(R.choice([0, 1, 1, 2])):
+        bl = R.choice(['', ' ', '\n', ' \\ c&|)\n', '\n\n ']);  bl2 = R.choice(['', ' ', '\n'])
+        parts.append(bl + R.choice('&|') + bl2 + se(deep + 1))
+    return '(' + sp() + ''.join(parts) + sp() + (')' if R.random() < .98 else '')
+def simple():
+    r = R.random()
+    if r < .1: return 'N'
+    if r < .15: return 'P'
+    if r < .22: return 'M' + sp() + R.choice(['.', '*', n1(), n1(), n1()])
+    if r < .32: return R.choice(['F ', 'F ', 'BF ', 'DF ']) + se()
+    if r < .44:
+        a = R.choice(['', '.', n1(), n1()]); b = R.choice(['', '', n1(), '*']) if a else ''
+        return 'D' + sp() + a + (' ' + b if b else '')
+    if r < .5: return 'IS/' + string() + '/'
+    if r < .54: return 'IC'
+    if r < .6: return 'I ' + R.choice(['', '', '.', '*', n1()]) + sp() + R.choice(['', '\\ c']) + '\n' + ''.join(line()[:20] + '\n' for _ in range(R.randint(0, 2))) + R.choice('Zz') + '\n'
+    if r < .65: return 'R ' + R.choice(['', '.', n1(), n1() + ' ' + n1(), '. *']) + '\n' + ''.join(line()[:20] + '\n' for _ in range(R.randint(0, 2))) + 'Z\n'
+    if r < .83:
+        d = R.choice('////!.'); q = quals(False)
+        return R.choice(['A', 'B', 'E', 'E', 'AP', 'BP', 'EP']) + ' ' + q + d + string().replace(d, '') + d + string().replace(d, '') + d
+    if r < .88: return R.choice(['PA ', 'PB ']) + qs(False)
+    if r < .9: return 'PR'
+    if r < .97: return R.choice('>>><##$%%')
+    if r < .985: return 'AGP'
+    return 'W'
+def command(deep=0):
+    r = R.random()
+    if deep > 4 or r < .68: return simple()
+    if r < .76: return R.choice(['2', '3', '0', '4 ', '2 3']) + command(deep + 1)
+    if r < .79: return 'RPT ' + command(deep + 1)
+    if r < .89:
+        t = R.choice(['IF ' + se(), 'UL ' + se(), 'IFEOF']) + sp() + R.choice(['', ' THEN '])
+        if R.random() < .5: return t + ' ' + command(deep + 1)
+        return t + group(deep + 1) + (sp() + R.choice(['ELSE', 'else ']) + sp() + group(deep + 1) if R.random() < .6 else '')
+    if r < .93: return R.choice(['WH ', 'UT ']) + se() + ' ' + command(deep + 1)
+    return group(deep + 1)
+def group(deep): return '(' + R.choice([';', ' ; ', '\n', ';\n']).join(command(deep) for _ in range(R.randint(0, 3))) + ')'
+def script():
+    s = ''
+    for _ in range(R.randint(1, 6)): s += sp() + command() + R.choice(['; ', ';', '\n', '\n', ' \\ note\n'])
+    if R.random() < .06:
+        i = R.randrange(len(s)); s = s[:i] + R.choice('()&|;/ab0_N\n ') + s[i + R.randint(0, 1):]
+    return (s if s.endswith('\n') else s + '\n')
+for _ in range(N):
+    t = ''.join(line() + '\n' for _ in range(R.choice([0, 1, 2, 3, 4, 5, 8])))
+    s = script()
+    opening = len(t) + 2 * t.count('\n')
+    size = R.choice([opening + R.randint(0, 30), 4096, 4096, opening + 300])
+    print((t.encode().hex() or '-'), s.encode().hex(), R.choice([0, 1, 3, 8, 20, 60, 60, 120]), 2 * len(s) + 64, size)

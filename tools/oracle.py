@@ -1,0 +1,551 @@
+#!/usr/bin/env python3
+"""Document 01 once more, written apart from the definitions: a plain interpreter for making and checking cases.
+
+    tools/oracle.py check FILE      compares each line of a file of run cases (see tools/vectors.py) with what it finds
+    tools/oracle.py outcome < FILE  completes lines of: table script budget work-length buffer-length
+"""
+import sys
+
+class Refused(Exception):
+    def __init__(self, number, place): self.number, self.place = number, place
+
+class Stop(Exception):
+    def __init__(self, number): self.number = number
+
+class Budget(Exception):
+    pass
+
+class Leave(Exception):
+    """AGP: `group` is the innermost group around it, None outside groups."""
+    def __init__(self, group): self.group = group
+
+class Done(Exception):
+    pass
+
+def good_lines(data):
+    if data and data[-1] != 10: return False
+    return all(len(l) <= 255 and all(32 <= b <= 126 for b in l) for l in data.split(b'\n')[:-1])
+
+DELIMITERS = b"!'*+,-./:?"
+
+class Reader:
+    def __init__(self, script):
+        self.s, self.at, self.groups = script, 0, []
+
+    def byte(self, i=None):
+        i = self.at if i is None else i
+        return self.s[i] if i < len(self.s) else 0
+
+    def spaces(self):
+        while self.byte() == 32: self.at += 1
+
+    def comment_end(self, i):
+        while i < len(self.s) and self.s[i] != 10: i += 1
+        return i
+
+    def blank(self, i):
+        while i < len(self.s):
+            if self.s[i] in b' \n': i += 1
+            elif self.s[i] == 92: i = self.comment_end(i)
+            else: break
+        return i
+
+    def letters(self):
+        i = self.at
+        while chr(self.byte(i)).isalpha() and self.byte(i) < 128: i += 1
+        name = self.s[self.at:i].upper().decode()
+        return (name[:4], i)
+
+    def is_digit(self): return 48 <= self.byte() <= 57
+
+    def digits(self):
+        i = self.at
+        while 48 <= self.byte(i) <= 57: i += 1
+        n = int(self.s[self.at:i]); self.at = i
+        return n
+
+    def number(self):
+        at = self.at
+        if not self.is_digit(): raise Refused(3, at)
+        n = self.digits()
+        if not 1 <= n <= 65535: raise Refused(3, at)
+        return n
+
+    def string(self, d):
+        i = self.at
+        while i < len(self.s) and self.s[i] not in (d, 10): i += 1
+        text = self.s[self.at:i]
+        self.at = i + 1 if self.byte(i) == d and i < len(self.s) else i
+        return text
+
+    def qualified(self, search, two=False):
+        q = dict(anchor='', count=0, cols=None)
+        self.spaces()
+        while self.byte() not in DELIMITERS or self.at >= len(self.s):
+            at, c = self.at, chr(self.byte()).upper()
+            if self.is_digit():
+                n = self.number()
+                if q['count'] or q['anchor']: raise Refused(4, at)
+                q['count'] = n
+            elif c == '_':
+                if q['cols']: raise Refused(4, at)
+                self.at += 1; self.spaces(); n = self.number(); self.spaces()
+                if self.byte() != 44: raise Refused(3, self.at)
+                self.at += 1; self.spaces(); where = self.at; m = self.number()
+                if n > m: raise Refused(3, where)
+                self.spaces()
+                if self.byte() != 95: raise Refused(3, self.at)
+                self.at += 1; q['cols'] = (n, m)
+            elif c and c in 'BEP':
+                if q['anchor'] or q['count'] or (q.get('L') and c != 'E'): raise Refused(4, at)
+                q['anchor'] = c; self.at += 1
+            elif c and c in 'LNWUS':
+                if q.get(c) or (c == 'L' and q['anchor'] and q['anchor'] in 'BP') or (c == 'N' and not search): raise Refused(4, at)
+                q[c] = True; self.at += 1
+            else: raise Refused(3, at)
+            self.spaces()
+        d, at = self.byte(), self.at
+        self.at += 1
+        q['s'] = self.string(d)
+        if not q['s'] and (q['count'] or q.get('W')): raise Refused(4, at)
+        return (q, self.string(d)) if two else q
+
+    def operator(self, sign):
+        i = self.blank(self.at)
+        if self.byte(i) != sign: return False
+        self.at = self.blank(i + 1)
+        return True
+
+    def search(self, deep=0):
+        self.spaces()
+        if self.byte() != 40: return ('q', self.qualified(True))
+        if deep == 8: raise Refused(5, self.at)
+        self.at += 1
+        ors = []
+        while True:
+            ands = [self.search(deep + 1)]
+            while self.operator(38): ands.append(self.search(deep + 1))
+            ors.append(('and', ands))
+            if not self.operator(124): break
+        self.spaces()
+        if self.byte() == 41:
+            self.at += 1
+            return ('or', ors)
+        if self.blank(self.at) >= len(self.s): raise Refused(5, len(self.s))
+        raise Refused(3, self.at)
+
+    def target(self, star):
+        self.spaces()
+        if self.byte() == 46: self.at += 1; return '.'
+        if star and self.byte() == 42: self.at += 1; return '*'
+        return self.number()
+
+    def span(self):
+        self.spaces()
+        a, b = '.', None
+        if self.is_digit() or self.byte() == 46:
+            a = self.target(False)
+            i = self.at
+            self.spaces()
+            if self.byte() == 42: self.at += 1; b = '*'
+            elif self.is_digit(): b = self.number()
+            else: self.at = i
+        return a, b
+
+    def lines(self):
+        self.spaces()
+        if self.byte() == 92: self.at = self.comment_end(self.at)
+        if self.byte() != 10: raise Refused(3, self.at)
+        self.at += 1
+        out = []
+        while True:
+            if self.at >= len(self.s): raise Refused(5 if self.groups else 6, len(self.s))
+            end = self.comment_end(self.at)
+            l = self.s[self.at:end]
+            self.at = end
+            if l in (b'Z', b'z'): return out
+            self.at += 1
+            out.append(l)
+
+    def sequence(self, top):
+        """Commands up to the end or the `)` of a group, as a list; None stands for a line end outside groups."""
+        out = []
+        while True:
+            self.spaces()
+            if self.at >= len(self.s):
+                if not top: raise Refused(5, len(self.s))
+                return out
+            b = self.byte()
+            if b == 59: self.at += 1
+            elif b == 10:
+                self.at += 1
+                if top: out.append(None)
+            elif b == 92: self.at = self.comment_end(self.at)
+            elif b == 41:
+                if top: raise Refused(5, self.at)
+                self.at += 1
+                return out
+            else: out.append(self.command())
+
+    def group(self, body):
+        at = self.at
+        if len(self.groups) >= 16: raise Refused(5, at)
+        self.at += 1
+        node = dict(kind='group', at=at, bare=not body)
+        self.groups.append(node)
+        node['items'] = self.sequence(False)
+        self.groups.pop()
+        return node
+
+    def command(self):
+        """A command with the counts, RPT and tests before it, which are gathered by a loop: a script can nest thousands of them."""
+        prefixes = []
+        while True:
+            self.spaces()
+            at, b = self.at, self.byte()
+            if prefixes and (self.at >= len(self.s) or b in b';)\\\n'): raise Refused(3, at)
+            if b == 40:
+                node = self.group(bool(prefixes))
+                if prefixes and prefixes[-1]['kind'] == 'if':
+                    i = self.at
+                    self.spaces()
+                    name, end = self.letters()
+                    if name == 'ELSE':
+                        self.at = end
+                        self.spaces()
+                        if self.byte() != 40: raise Refused(3, self.at)
+                        prefixes[-1]['else'] = self.group(True)
+                    else: self.at = i
+                break
+            if 48 <= b <= 57:
+                n = self.digits()
+                if n > 65535: raise Refused(3, at)
+                prefixes.append(dict(kind='times', at=at, n=n))
+                continue
+            if chr(b).isalpha() and b < 128: name, end = self.letters()
+            else: name, end = chr(b), at + 1
+            self.at = end
+            if name == 'RPT': prefixes.append(dict(kind='times', at=at, n=None)); continue
+            if name in ('IF', 'UL', 'WH', 'UT', 'IFEO'):
+                test = None if name == 'IFEO' else self.search()
+                node = dict(kind='if' if name in ('IF', 'UL', 'IFEO') else 'while', at=at, test=test, want=name in ('IF', 'WH', 'IFEO'))
+                if node['kind'] == 'if':
+                    i = self.at
+                    self.spaces()
+                    then, end = self.letters()
+                    self.at = end if then == 'THEN' else i
+                prefixes.append(node)
+                continue
+            node = dict(kind='do', at=at, name=name, group=self.groups[-1] if self.groups else None)
+            if name in ('N', 'P', 'IC', 'PR', '>', '<', '#', '$', '%', 'AGP', 'W'): pass
+            elif name in ('F', 'BF', 'DF'): node['se'] = self.search()
+            elif name == 'M': node['a'] = self.target(True)
+            elif name == 'D': node['a'], node['b'] = self.span()
+            elif name == 'R': node['a'], node['b'] = self.span(); node['lines'] = self.lines()
+            elif name == 'I':
+                i = self.at
+                self.spaces()
+                if self.is_digit() or self.byte() in b'.*' and self.byte(): node['a'] = self.target(True)
+                else: node['a'] = None; self.at = i
+                node['lines'] = self.lines()
+            elif name == 'IS':
+                self.spaces()
+                if self.byte() not in DELIMITERS or self.at >= len(self.s): raise Refused(3, self.at)
+                d = self.byte(); self.at += 1
+                node.update(name='I', a=None, lines=[self.string(d)])
+            elif name in ('A', 'B', 'E', 'AP', 'BP', 'EP'): node['q'], node['new'] = self.qualified(False, True)
+            elif name in ('PA', 'PB'): node['q'] = self.qualified(False)
+            else: raise Refused(2, at)
+            break
+        for p in reversed(prefixes):
+            p['body'] = node
+            node = p
+        return node
+
+def word(b): return 48 <= b <= 57 or 65 <= b <= 90 or 97 <= b <= 122
+
+def place(q, line, p):
+    start, end = p, len(line)
+    if q['cols']:
+        n, m = q['cols']
+        start = min(max(p, n - 1), len(line))
+        end = max(start, min(m, len(line)))
+    if q.get('S'):
+        while start < end and line[start] == 32: start += 1
+    s, text = q['s'], line
+    if q.get('U'): s, text = s.upper(), line.upper()
+    k = len(s)
+    def at(i):
+        if text[i:i + k] != s: return False
+        if q.get('W'): return not (i > 0 and word(line[i - 1])) and not (i + k < len(line) and word(line[i + k]))
+        return True
+    if end - start < k: return None
+    if q['anchor'] == 'B': return start if at(start) else None
+    if q['anchor'] == 'E': return end - k if at(end - k) else None
+    if q['anchor'] == 'P': return start if end - start == k and at(start) else None
+    left = q['count'] or 1
+    i = end - k if q.get('L') else start
+    step = -1 if q.get('L') else 1
+    while start <= i <= end - k:
+        if at(i):
+            left -= 1
+            if not left: return i
+            i += step * k
+        else: i += step
+    return None
+
+def holds(se, line, p):
+    if line is None: return False
+    if se[0] == 'q': return (place(se[1], line, p) is not None) != bool(se[1].get('N'))
+    return (all if se[0] == 'and' else any)([holds(x, line, p) for x in se[1]])
+
+class Editor:
+    """Records are lists [mark, old, new]; `cur` is the index of the current one, len(recs) at EOF."""
+    def __init__(self, lines, size, budget):
+        self.recs = [['==', l, l] for l in lines]
+        self.lines, self.size, self.budget = len(lines), size, budget
+        self.cur, self.p, self.steps, self.furthest = 0, 0, 0, 1
+
+    def step(self, at):
+        self.place = at
+        if self.steps == self.budget: raise Budget()
+        self.steps += 1
+
+    def number(self, i): return sum(r[0] != '++' for r in self.recs[:i]) + 1
+    def see(self, i):
+        if i >= len(self.recs): self.furthest = self.lines + 1
+        elif self.recs[i][0] != '++': self.furthest = max(self.furthest, self.number(i))
+    def index(self, a):
+        n = 0
+        for i, r in enumerate(self.recs):
+            if r[0] != '++':
+                n += 1
+                if n == a: return i
+        return None
+    def text(self): return self.recs[self.cur][2] if self.cur < len(self.recs) else None
+    def live(self, i): return self.recs[i][0] != '--'
+    def next_live(self, i):
+        i += 1
+        while i < len(self.recs) and not self.live(i): i += 1
+        return i
+    def previous_live(self, i):
+        i -= 1
+        while i >= 0 and not self.live(i): i -= 1
+        return i
+    def go(self, i): self.cur, self.p = i, 0; self.see(i)
+
+    def length(self, recs):
+        return sum(2 + len(r[1] if r[0] == '--' else r[2]) + 1 + (len(r[1]) + 1 if r[0] == '<>' else 0) for r in recs)
+
+    def put(self, recs, cur, p):
+        if self.length(recs) > self.size: raise Stop(26)
+        self.recs, self.cur, self.p = recs, cur, p
+
+    def find_line(self, a):
+        """The index of the line of M, I and D; reads up to it."""
+        if a == '.': return self.cur
+        if a == '*': self.see(len(self.recs)); return len(self.recs)
+        i = self.index(a)
+        if i is None: self.see(len(self.recs)); raise Stop(21)
+        if not self.live(i): raise Stop(23)
+        self.see(i)
+        return i
+
+    def retext(self, l, p):
+        if len(l) > 255: raise Stop(25)
+        mark, old, _ = self.recs[self.cur]
+        r = ['++', None, l] if mark == '++' else ['==' if l == old else '<>', old, l]
+        self.put(self.recs[:self.cur] + [r] + self.recs[self.cur + 1:], self.cur, p)
+
+    def deleted(self, a, b):
+        """D's records and where it lands."""
+        start = self.find_line(a)
+        if start >= len(self.recs): raise Stop(20)
+        if b is None: last = start
+        elif b == '*': last = len(self.recs) - 1; self.see(len(self.recs))
+        else:
+            last = self.index(b)
+            if last is not None and last < start: raise Stop(28)
+            if last is None and self.number(start) > b: raise Stop(28)
+            if last is None: self.see(len(self.recs)); raise Stop(21)
+            if not self.live(last): raise Stop(23)
+        land = self.next_live(last)
+        self.see(land)
+        if land < len(self.recs):
+            # every source line passed is read
+            for i in range(start, land + 1): self.see(i)
+        recs, at = [], 0
+        for i, r in enumerate(self.recs):
+            if i == land: at = len(recs)
+            if start <= i <= last and r[0] != '--':
+                if r[0] != '++': recs.append(['--', r[1], None])
+            else: recs.append(r)
+        if land >= len(self.recs): at = len(recs)
+        return recs, at
+
+    def do(self, c):
+        name, n = c['name'], len(self.recs)
+        self.step(c['at'])
+        if name == 'W': raise Done()
+        if name == 'AGP': raise Leave(c['group'])
+        if name == 'N':
+            if self.cur >= n: raise Stop(20)
+            self.go(self.next_live(self.cur))
+        elif name == 'P':
+            i = self.previous_live(self.cur)
+            if i < 0: raise Stop(22)
+            self.go(i)
+        elif name == 'M': self.go(self.find_line(c['a']))
+        elif name in ('F', 'DF'):
+            start = self.cur
+            i, p = self.cur, self.p
+            while True:
+                if i >= n: self.see(n); raise Stop(21)
+                self.see(i)
+                self.step(c['at'])
+                if holds(c['se'], self.recs[i][2], p): break
+                i, p = self.next_live(i), 0
+            if i == start: return
+            if name == 'F': self.go(i); return
+            kept = [(['--', r[1], None] if r[0] != '--' else r) for r in self.recs[start:i] if r[0] != '++']
+            recs = self.recs[:start] + kept + self.recs[i:]
+            self.put(recs, start + len(kept), 0)
+        elif name == 'BF':
+            i, p = self.cur, self.p
+            if i >= n: i, p = self.previous_live(i), 0
+            while True:
+                if i < 0: raise Stop(22)
+                self.step(c['at'])
+                if holds(c['se'], self.recs[i][2], p): break
+                i, p = self.previous_live(i), 0
+            self.cur, self.p = i, p
+        elif name == 'D':
+            recs, at = self.deleted(c['a'], c['b'])
+            self.put(recs, at, 0)
+        elif name == 'R':
+            recs, at = self.deleted(c['a'], c['b'])
+            new = [['++', None, l] for l in c['lines']]
+            self.put(recs[:at] + new + recs[at:], at + len(new), 0)
+        elif name == 'I':
+            at, p = (self.cur, self.p) if c['a'] is None else (self.find_line(c['a']), 0)
+            new = [['++', None, l] for l in c['lines']]
+            self.put(self.recs[:at] + new + self.recs[at:], at + len(new), p)
+        else:
+            l = self.text()
+            if l is None: raise Stop(20)
+            p = self.p
+            if name == 'IC': self.put(self.recs[:self.cur] + [['++', None, l]] + self.recs[self.cur:], self.cur + 1, p)
+            elif name == 'PR': self.p = 0
+            elif name == '<':
+                if p == 0: raise Stop(27)
+                self.p -= 1
+            elif name in ('>', '#', '$', '%'):
+                if p >= len(l): raise Stop(27)
+                if name == '>': self.p += 1
+                elif name == '#': self.retext(l[:p] + l[p + 1:], p)
+                else: self.retext(l[:p] + (l[p:p + 1].lower() if name == '$' else l[p:p + 1].upper()) + l[p + 1:], p + 1)
+            else:
+                i = place(c['q'], l, p)
+                if i is None: raise Stop(24)
+                k = len(c['q']['s'])
+                if name == 'PA': self.p = i + k
+                elif name == 'PB': self.p = i
+                else:
+                    new = c['new']
+                    if name[0] == 'A': t = l[:i + k] + new + l[i + k:]
+                    elif name[0] == 'B': t = l[:i] + new + l[i:]
+                    else: t = l[:i] + new + l[i + k:]
+                    q = p
+                    if len(name) == 2: q = i + len(new) + (0 if name == 'EP' else k)
+                    self.retext(t, q)
+
+    def test(self, c):
+        self.step(c['at'])
+        if c['test'] is None: return self.cur >= len(self.recs)
+        return holds(c['test'], self.text(), self.p) == c['want']
+
+    def body(self, node):
+        """Runs a body; AGP of a group that is this body itself ends it and what it is the body of (returns False)."""
+        if node['kind'] != 'group': self.run(node); return True
+        try:
+            for x in node['items']: self.run(x)
+        except Leave as leave:
+            if leave.group is not node: raise
+            return False
+        return True
+
+    def run(self, c):
+        kind = c['kind']
+        if kind == 'do': self.do(c)
+        elif kind == 'group':
+            self.step(c['at'])
+            self.body(c)
+        elif kind == 'times':
+            n = c['n']
+            while n is None or n > 0:
+                self.step(c['at'])
+                if not self.body(c['body']): return
+                if n is not None: n -= 1
+        elif kind == 'if':
+            if self.test(c): self.body(c['body'])
+            elif 'else' in c: self.body(c['else'])
+        else:
+            while self.test(c):
+                if not self.body(c['body']): return
+
+    def top(self, items):
+        i = 0
+        while i < len(items):
+            if items[i] is not None:
+                try: self.run(items[i])
+                except Leave:
+                    while i < len(items) and items[i] is not None: i += 1
+            i += 1
+
+    def bytes(self):
+        out = b''
+        for mark, old, new in self.recs:
+            out += mark.encode() + (old + b'\n' + new if mark == '<>' else old if mark == '--' else new) + b'\n'
+        return out
+
+def outcome(table, script, budget, work, size):
+    try:
+        if len(script) > 16384 or not good_lines(script): raise Refused(1, 0)
+        if work < 2 * len(script) + 64: raise Refused(8, 0)
+        items = Reader(script).sequence(True)
+        if not good_lines(table) or table.count(b'\n') > 65535: raise Refused(7, 0)
+        if size < len(table) + 2 * table.count(b'\n'): raise Refused(9, 0)
+    except Refused as r:
+        return (r.number, 0, 0, 0, r.place, b'')
+    e = Editor(table.split(b'\n')[:-1], size, budget)
+    number, at = 0, 0
+    try:
+        e.top(items)
+    except Done: pass
+    except Stop as s: number, at = s.number, e.place
+    except Budget: number, at = 29, e.place
+    j = e.bytes()
+    return (number, e.steps, e.furthest, len(j), at, j)
+
+def unhex(w): return b'' if w == '-' else bytes.fromhex(w)
+
+def main():
+    sys.setrecursionlimit(20000)
+    if sys.argv[1] == 'check':
+        bad = n = 0
+        for line in open(sys.argv[2]):
+            w = line.split()
+            got = outcome(unhex(w[0]), unhex(w[1]), int(w[2]), int(w[3]), int(w[4]))
+            want = tuple(int(x) for x in w[5:10]) + (unhex(w[10]),)
+            n += 1
+            if got != want:
+                bad += 1
+                if bad < 20: print('table', unhex(w[0]), '\nscript', unhex(w[1]), w[2:5], '\nwant', want, '\ngot ', got)
+        print('%d cases, %d differ' % (n, bad))
+    else:
+        for line in sys.stdin:
+            w = line.split()
+            got = outcome(unhex(w[0]), unhex(w[1]), int(w[2]), int(w[3]), int(w[4]))
+            print(' '.join(w[:5]), ' '.join(str(x) for x in got[:5]), got[5].hex() or '-')
+
+if __name__ == '__main__': main()
