@@ -1,0 +1,14 @@
+pub mod Bytes
+pub mod Strings
+pub mod Texts
+pub mod Scans
+pub mod Counts
+pub mod Passing
+pub mod Sides
+pub mod Finding
+pub mod Words
+pub mod Reading
+pub mod Running
+pub mod Turns
+pub mod Writing
+pub mod Keeping

@@ -1,0 +1,3 @@
+pub mod Quals
+pub mod Scan
+pub mod Words

@@ -1,0 +1,113 @@
+// The string at a place of the line.
+ghost use mathlib.Core.Path.{_≡_};
+ghost use mathlib.Core.Bool.{true, false};
+ghost use Prim.Native.Nat.{_+_, _≤_};
+ghost use lib.ListN.{length, drop, getD};
+ghost use Rattle.definitions.specs.Matching.{standsFirst, isWordByte, byteBefore, isApart, standsAt};
+use super::upper;
+
+// A letter or a digit.
+fn is_word(b: u8) -> bool
+    ensures { λ r. ⌜ r ≡ isWordByte b ⌝ }
+{
+    if b < 48 {
+        return false;
+    }
+    if b <= 57 {
+        return true;
+    }
+    if b < 65 {
+        return false;
+    }
+    if b <= 90 {
+        return true;
+    }
+    if b < 97 {
+        return false;
+    }
+    b <= 122
+}
+
+// The byte before i; 0 at the line's start.
+fn byte_before(line: &[u8], i: usize) -> u8
+    requires { ⌜ i ≤ length (now line) ⌝ }
+    ensures { λ r. ⌜ r ≡ byteBefore (now (line .entry)) i ⌝ }
+{
+    if i == 0 {
+        return 0;
+    }
+    line[i - 1]
+}
+
+// The byte at i; 0 at the line's end.
+fn byte_at(line: &[u8], i: usize) -> u8
+    ensures { λ r. ⌜ r ≡ getD (now (line .entry)) i 0 ⌝ }
+{
+    if i < line.len() { line[i] } else { 0 }
+}
+
+// No letter or digit stands before i or at j, in the whole line.
+fn apart(line: &[u8], i: usize, j: usize) -> bool
+    requires { ⌜ i ≤ length (now line) ⌝ }
+    ensures { λ r. ⌜ r ≡ isApart true (now (line .entry)) i j ⌝ }
+{
+    if is_word(byte_before(line, i)) {
+        return false;
+    }
+    !is_word(byte_at(line, j))
+}
+
+// The string stands in the line at `at`.
+fn same(line: &[u8], s: &[u8], at: usize) -> bool
+    requires { ⌜ at + length (now s) ≤ length (now line) ⌝ }
+    ensures { λ r. ⌜ r ≡ standsFirst false (now (s .entry)) (drop at (now (line .entry))) ⌝ }
+{
+    let mut k: usize = 0;
+    while k < s.len() {
+        if s[k] != line[at + k] {
+            return false;
+        }
+        k += 1;
+    }
+    true
+}
+
+// The string stands in the line at `at`, small letters taken as capitals.
+fn same_folded(line: &[u8], s: &[u8], at: usize) -> bool
+    requires { ⌜ at + length (now s) ≤ length (now line) ⌝ }
+    ensures { λ r. ⌜ r ≡ standsFirst true (now (s .entry)) (drop at (now (line .entry))) ⌝ }
+{
+    let mut k: usize = 0;
+    while k < s.len() {
+        if upper(s[k]) != upper(line[at + k]) {
+            return false;
+        }
+        k += 1;
+    }
+    true
+}
+
+// The string stands in the line at `at`, as U asks.
+fn starts(line: &[u8], s: &[u8], at: usize, fold: bool) -> bool
+    requires { ⌜ at + length (now s) ≤ length (now line) ⌝ }
+    ensures { λ r. ⌜ r ≡ standsFirst fold (now (s .entry)) (drop at (now (line .entry))) ⌝ }
+{
+    if fold {
+        return same_folded(line, s, at);
+    }
+    same(line, s, at)
+}
+
+// The string occurs in the line at `at`, as W and U ask.
+pub fn stands(line: &[u8], s: &[u8], at: usize, word: bool, fold: bool) -> bool
+    requires { ⌜ at + length (now s) ≤ length (now line) ⌝ }
+    ensures { λ r. ⌜ r ≡ standsAt word fold (now (s .entry)) (now (line .entry)) at ⌝ }
+{
+    if !starts(line, s, at, fold) {
+        return false;
+    }
+    if word {
+        return apart(line, at, at + s.len());
+    }
+    true
+}

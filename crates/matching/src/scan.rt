@@ -1,0 +1,134 @@
+// The places of the text, one after the other, from the left and from the right.
+ghost use mathlib.Core.Path.{_≡_};
+ghost use mathlib.Core.Bool.{true, false};
+ghost use Prim.Native.Nat.{_+_, _-_, _≤_, max};
+ghost use lib.ListN.{length, drop};
+ghost use Rattle.definitions.specs.Matching.{text, standsAt, counted};
+ghost use Rattle.matching.specs.Quals.{foundOf};
+ghost use Rattle.matching.specs.Scan.{otherBytes, otherPlaces};
+use super::Found;
+use super::place::stands;
+use super::upper;
+
+// The first place before `top` that has the byte b; `top` where none has it.
+fn next_byte(line: &[u8], at: usize, top: usize, b: u8) -> usize
+    requires { ⌜ (at ≤ top) × (top ≤ length (now line)) ⌝ }
+    ensures { λ r. ⌜ r ≡ at + otherBytes false b (top - at) (drop at (now (line .entry))) ⌝ }
+{
+    let mut i = at;
+    while i < top {
+        if line[i] == b {
+            return i;
+        }
+        i += 1;
+    }
+    i
+}
+
+// The same for a byte that is b when it is upper-cased.
+fn next_folded(line: &[u8], at: usize, top: usize, b: u8) -> usize
+    requires { ⌜ (at ≤ top) × (top ≤ length (now line)) ⌝ }
+    ensures { λ r. ⌜ r ≡ at + otherBytes true b (top - at) (drop at (now (line .entry))) ⌝ }
+{
+    let mut i = at;
+    while i < top {
+        if upper(line[i]) == b {
+            return i;
+        }
+        i += 1;
+    }
+    i
+}
+
+// The next place up to `top` where the string's first byte stands; `top` where none is before it.
+fn next_place(line: &[u8], s: &[u8], at: usize, top: usize, fold: bool) -> usize
+    requires { ⌜ (at ≤ top) × (top ≤ length (now line)) ⌝ }
+    ensures { λ r. ⌜ r ≡ at + otherPlaces fold (now (s .entry)) (top - at) (drop at (now (line .entry))) ⌝ }
+{
+    if s.len() == 0 {
+        return at;
+    }
+    if fold {
+        return next_folded(line, at, top, upper(s[0]));
+    }
+    next_byte(line, at, top, s[0])
+}
+
+// How many places an occurrence takes up.
+fn step_of(s: &[u8]) -> usize
+    ensures { λ r. ⌜ r ≡ max 1 (length (now (s .entry))) ⌝ }
+{
+    if s.len() == 0 { 1 } else { s.len() }
+}
+
+// The counted occurrence in the text from start to end, from the left. A place is first looked at by the string's first byte alone.
+pub fn from_left(
+    line: &[u8],
+    s: &[u8],
+    start: usize,
+    end: usize,
+    count: usize,
+    word: bool,
+    fold: bool,
+) -> Found
+    requires { ⌜ (start + length (now s) ≤ end) × (end ≤ length (now line)) ⌝ }
+    ensures { λ r. ⌜ foundOf r ≡ counted (standsAt word fold (now (s .entry)) (now (line .entry))) (length (now (s .entry))) count false (text start end) ⌝ }
+{
+    let top = end - s.len();
+    let step = step_of(s);
+    let mut k = count;
+    let mut i = start;
+    loop {
+        i = next_place(line, s, i, top, fold);
+        if stands(line, s, i, word, fold) {
+            if k <= 1 {
+                return Found::At(i);
+            }
+            if top - i < step {
+                return Found::Nothing;
+            }
+            k -= 1;
+            i += step;
+        } else {
+            if i == top {
+                return Found::Nothing;
+            }
+            i += 1;
+        }
+    }
+}
+
+// The counted occurrence in the text from start to end, from the right.
+pub fn from_right(
+    line: &[u8],
+    s: &[u8],
+    start: usize,
+    end: usize,
+    count: usize,
+    word: bool,
+    fold: bool,
+) -> Found
+    requires { ⌜ (start + length (now s) ≤ end) × (end ≤ length (now line)) ⌝ }
+    ensures { λ r. ⌜ foundOf r ≡ counted (standsAt word fold (now (s .entry)) (now (line .entry))) (length (now (s .entry))) count true (text start end) ⌝ }
+{
+    let step = step_of(s);
+    let mut k = count;
+    let mut i = end - s.len();
+    loop {
+        if stands(line, s, i, word, fold) {
+            if k <= 1 {
+                return Found::At(i);
+            }
+            if i - start < step {
+                return Found::Nothing;
+            }
+            k -= 1;
+            i -= step;
+        } else {
+            if i == start {
+                return Found::Nothing;
+            }
+            i -= 1;
+        }
+    }
+}

@@ -1,0 +1,12 @@
+pub mod OneByte
+pub mod AtPlace
+pub mod Blanks
+pub mod Digits
+pub mod Letters
+pub mod Parts
+pub mod Given
+pub mod ToZ
+pub mod Spans
+pub mod ThenElse
+pub mod Rows
+pub mod Inserts

@@ -1,0 +1,65 @@
+-- What the reader of search expressions answers and writes. Assumes nothing.
+use mathlib.Core.Path.{_≡_}
+use mathlib.Core.Bool.{true}
+use mathlib.Core.List.{List}
+use mathlib.Core.Option.{Option, none, some}
+use Prim.Native.Nat.{ℕ, suc, _+_, _-_, _*_, _≤_}
+use lib.ListN.{length, take}
+use Rattle.definitions.specs.Table.{isScript}
+use Rattle.definitions.specs.Reader.{Cursor, Got, got, refused, andThen}
+use Rattle.definitions.specs.Search.{Search, one}
+use Rattle.definitions.specs.Strings.{qualifiedString}
+use Rattle.matching.specs.Words.{Encodes}
+use Rattle.reader.specs.Places.{cursorAt}
+use Rattle.reader.specs.declared.Answer.{Answer}
+use Rattle.searches.specs.declared.Parse.{Parse}
+use Rattle.searches.specs.declared.Right.{Right}
+
+-- ---- operators and brackets
+
+unfoldable pub rightOf : List ℕ → Right → Option Cursor
+rightOf s (Right.At next) = some (cursorAt s next)
+rightOf s Right.Missing = none
+
+-- the operator takes a byte, of n bytes
+unfoldable pub RightOn : ℕ → ℕ → Right → Type 0
+RightOn at n (Right.At next) = (suc at ≤ next) × (next ≤ n)
+RightOn at n Right.Missing = Unit {0}
+
+-- the bracket takes a byte
+unfoldable pub CloseOn : ℕ → ℕ → Answer → Type 0
+CloseOn at n (Answer.Is k next) = (suc at ≤ next) × (next ≤ n)
+CloseOn at n (Answer.Refused k p) = Unit {0}
+
+unfoldable pub closedOf : Answer → ℕ → Parse
+closedOf (Answer.Is k next) m = Parse.Next next m
+closedOf (Answer.Refused k p) m = Parse.Refused k p
+
+-- ---- searches
+
+-- one qualified string as a search
+unfoldable pub stringPart : Cursor → Got Search
+stringPart c = andThen (qualifiedString true c) (λ q c₁. got (one q) c₁)
+
+-- The work area has two words from k on for each byte of the script that is left, and a place in it fits a word
+pub record Room (script words : List ℕ) (at k : ℕ) : Type 0 where
+  pub form : isScript script ≡ true
+  pub inside : at ≤ length script
+  pub enough : k + 2 * (length script - at) ≤ length words
+  pub fits : k + 2 * (length script - at) ≤ 1073741823
+
+-- A search was read from `at` up to `next`, and lies in the words from k up to m; the words before k are as they were, and two words for each
+-- byte that is left are still free. x n is the definition's answer with fuel n, and `bound` is enough fuel.
+pub record Written (script before words : List ℕ) (at k bound : ℕ) (x : ℕ → Got Search) (next m : ℕ) : Type 0 where
+  pub search : Search
+  pub is : (n : ℕ) → bound ≤ n → x n ≡ got search (cursorAt script next)
+  pub encodes : Encodes script words k m search
+  pub kept : take k words ≡ take k before
+  pub after : suc at ≤ next
+  pub within : next ≤ length script
+  pub room : m + 2 * (length script - next) ≤ k + 2 * (length script - at)
+
+-- the answer r of a reader of a search at `at`, with the words before and after
+pub record Parsed (script before words : List ℕ) (at k bound : ℕ) (x : ℕ → Got Search) (r : Parse) : Type 0 where
+  pub reads : (next m : ℕ) → r ≡ Parse.Next next m → Written script before words at k bound x next m
+  pub refuses : (e p : ℕ) → r ≡ Parse.Refused e p → (n : ℕ) → bound ≤ n → x n ≡ refused e p

@@ -1,0 +1,93 @@
+-- What a caller has of strings that were read: what the definition says of them, where they lie, and room for their words. Assumes nothing.
+use mathlib.Core.Path.{_≡_, sym, _∙_}
+use mathlib.Core.Bool.{true}
+use mathlib.Core.List.{List, [], _∷_}
+use Prim.Native.Nat.{ℕ, zero, suc, _+_, _-_, _*_, _≤_, _<_}
+use native.Mathlib.Omega.{arith}
+use native.Mathlib.Nat.{not-suc-le-zero, sub-zero}
+use lib.ListN.{length, take, drop}
+use lib.Seq.{slice, take-nil}
+use Rattle.definitions.specs.Table.{isScript}
+use Rattle.definitions.specs.Matching.{Qualified, qualified}
+use Rattle.definitions.specs.Reader.{Got, got, refused}
+use Rattle.definitions.specs.Strings.{Pair, pair}
+use Rattle.matching.specs.declared.Quals.{Quals}
+use Rattle.matching.specs.Quals.{columnsOf, qualifiersOf}
+use Rattle.matching.specs.Words.{columnsIn, columnWords, stringWords, Writable}
+use Rattle.reader.specs.Places.{cursorAt}
+use Rattle.strings.specs.declared.OneString.{OneString}
+use Rattle.strings.specs.declared.TwoStrings.{TwoStrings}
+use Rattle.strings.specs.Answers.{StringAt, StringOn, stringOf, Quoted, PairAt, PairOn, pairOf, Paired}
+use Rattle.strings.proofs.Lines.{strings-short, script-short}
+
+-- a part of the script, by its start and its length
+pub part-is : (start end : ℕ) (s : List ℕ) → start ≤ end → slice start end s ≡ take (end - start) (drop start s)
+part-is zero end s h = rw sub-zero
+part-is (suc start) zero s h = absurd (not-suc-le-zero h)
+part-is (suc start) (suc end) [] h = sym (take-nil (suc end - suc start))
+part-is (suc start) (suc end) (b ∷ s) h =
+    let e : suc end - suc start ≡ end - start = omega arith in
+    rw e (part-is start end s (omega arith))
+
+-- ---- one string
+
+module _ (s : List ℕ) (at : ℕ) (x : Got Qualified) (a : OneString) (read : Quoted s at x a) where
+  pub string-not : (k p : ℕ) → a ≡ OneString.Refused k p → x ≡ refused k p
+  unfolding stringOf
+  string-not k p e = sym (read .is) ∙ rw e
+
+  module _ (q : Quals) (start end next : ℕ) (is : a ≡ OneString.Next q start end next) where
+    pub string-at : StringAt s at q start end next
+    unfolding StringOn
+    string-at = rw is at (read .on)
+
+    pub string-is : x ≡ got (qualified (qualifiersOf q) (take (end - start) (drop start s))) (cursorAt s next)
+    unfolding stringOf
+    string-is = sym (read .is) ∙ rw (is, part-is start end s (string-at .ordered))
+
+-- ---- two strings
+
+module _ (s : List ℕ) (at : ℕ) (x : Got Pair) (a : TwoStrings) (read : Paired s at x a) where
+  pub pair-not : (k p : ℕ) → a ≡ TwoStrings.Refused k p → x ≡ refused k p
+  unfolding pairOf
+  pair-not k p e = sym (read .is) ∙ rw e
+
+  module _ (q : Quals) (start end second second-end next : ℕ) (is : a ≡ TwoStrings.Next q start end second second-end next) where
+    pub pair-at : PairAt s at q start end second second-end next
+    unfolding PairOn
+    pair-at = rw is at (read .on)
+
+    pub pair-is : x ≡ got (pair (qualified (qualifiersOf q) (take (end - start) (drop start s))) (take (second-end - second) (drop second s))) (cursorAt s next)
+    unfolding pairOf
+    pair-is = sym (read .is) ∙ rw (is, part-is start end s (pair-at .first .ordered), part-is second second-end s (pair-at .ordered))
+
+-- ---- the words of a string
+
+column-words : (from to : ℕ) → (length (columnWords (columnsOf from to)) ≤ 1) × (length (columnWords (columnsOf from to)) ≤ from)
+unfolding columnWords columnsOf
+column-words zero to = (omega arith, omega arith)
+column-words (suc from) to = (omega arith, omega arith)
+
+few-words : (columns from at start end next n : ℕ) → columns ≤ 1 → columns ≤ from → suc at ≤ start → start ≤ end → end ≤ next → next ≤ n
+    → (0 < from → suc (suc at) ≤ start) → suc (suc columns) + 2 * (n - next) ≤ 2 * (n - at)
+few-words columns zero at start end next n h g a o e w c = omega arith
+few-words columns (suc from) at start end next n h g a o e w c = omega (arith, c (omega arith))
+
+module _ (s : List ℕ) (at : ℕ) (q : Quals) (start end next : ℕ) (stands : StringAt s at q start end next) where
+  -- two words, and a third for columns, which take bytes themselves: two words for each byte read are enough
+  pub string-few : length (stringWords (qualifiersOf q) start (end - start)) + 2 * (length s - next) ≤ 2 * (length s - at)
+  unfolding stringWords qualifiersOf columnsIn
+  string-few =
+      let cw = column-words (q .from) (q .to) in
+      few-words (length (columnWords (columnsOf (q .from) (q .to)))) (q .from) at start end next (length s)
+      (cw .0) (cw .1) (stands .after) (stands .ordered) (stands .ends) (stands .within) (stands .columned)
+
+  pub string-writable : isScript s ≡ true → Writable q start (end - start)
+  string-writable form = record {
+    anchored = stands .small .anchor;
+    counted = stands .small .count;
+    first = stands .small .from;
+    last = stands .small .to;
+    starts = omega (arith, stands .ordered, stands .ends, stands .within, script-short s form);
+    short = omega (arith, stands .short (strings-short s form));
+  }

@@ -1,0 +1,6 @@
+pub mod Adding
+pub mod Reading
+pub mod Opening
+pub mod Quoting
+pub mod Lines
+pub mod Callers

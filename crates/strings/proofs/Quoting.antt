@@ -1,0 +1,162 @@
+-- Laws of qualified strings: the string at its opening delimiter, and a second string after it. Assumes nothing.
+use mathlib.Core.Path.{_≡_, refl, ap, _∙_}
+use mathlib.Core.Bool.{Bool, true, false, _&&_}
+use mathlib.Core.List.{List}
+use Prim.Native.Nat.{ℕ, _+_, _≤_, _<_}
+use native.Mathlib.Omega.{arith}
+use lib.ListN.{length, getD}
+use lib.Seq.{slice, slice-empty, slice-cons, length-slice}
+use borrow.Author.Tests.{eq-eqb, ne-eqb}
+use Rattle.definitions.specs.Matching.{qualifiers, qualified}
+use Rattle.definitions.specs.Reader.{andThen, placeAt, stringNext, advance, pastDelimiter, afterString}
+use Rattle.definitions.specs.Strings.{wantsBytes, isEmpty, readString, startQualifiers, qualifiedString, secondString, twoStrings}
+use Rattle.matching.specs.declared.Quals.{Quals}
+use Rattle.matching.specs.Quals.{qualifiersOf}
+use Rattle.reader.specs.Places.{cursorAt}
+use Rattle.reader.proofs.AtPlace.{next-in, after-in}
+use Rattle.strings.specs.declared.Read.{Read}
+use Rattle.strings.specs.declared.OneString.{OneString}
+use Rattle.strings.specs.declared.TwoStrings.{TwoStrings}
+use Rattle.strings.specs.Answers.{readOf, Open, OpenAt, Opened, Short, StringAt, stringOf, StringOn, Quoted, pairOf, PairOn, Paired}
+
+-- ---- which qualifiers want bytes
+
+pub counts-want : (q : Quals) → (q .count ≡ 0 → ⊥) → wantsBytes (qualifiersOf q) ≡ true
+unfolding wantsBytes qualifiersOf
+counts-want q e = rw (ne-eqb (q .count) 0 e)
+
+pub words-want : (q : Quals) → q .count ≡ 0 → wantsBytes (qualifiersOf q) ≡ q .word
+unfolding wantsBytes qualifiersOf
+words-want q e = rw (eq-eqb (q .count) 0 e)
+
+-- ---- the string at its opening delimiter
+
+pub not-empty : (s : List ℕ) (f t : ℕ) → f < t → t ≤ length s → isEmpty (slice f t s) ≡ false
+unfolding isEmpty
+not-empty s f t h k = rw (slice-cons f t s 0 h k)
+
+and-false : (t : Bool) → (t && false) ≡ false
+and-false true = refl
+and-false false = refl
+
+-- a string's place and what is after its delimiter, as the readers of the small parts say it
+module _ (s : List ℕ) (start end d next : ℕ) (string : stringNext d (cursorAt s start) ≡ slice start end s)
+    (passed : advance (length (stringNext d (cursorAt s start))) (cursorAt s start) ≡ cursorAt s end)
+    (closed : pastDelimiter d (cursorAt s end) ≡ cursorAt s next) where
+  pub after-is : afterString d (cursorAt s start) ≡ cursorAt s next
+  unfolding afterString
+  after-is = ap (pastDelimiter d) passed ∙ closed
+
+-- a string that is as long as a line at most
+short : (s : List ℕ) (start end d : ℕ) → stringNext d (cursorAt s start) ≡ slice start end s → end ≤ length s → Short s → end ≤ start + 255
+short s start end d e h lines = omega (arith, lines d start, ap length e ∙ length-slice start end s h)
+
+-- `from` is where the qualifiers begin, `at` where the opening delimiter stands
+module _ (s : List ℕ) (from at : ℕ) (q : Quals) (opened : Open s from q at) where
+  module _ (end : ℕ) (string : stringNext (getD s at 0) (cursorAt s (at + 1)) ≡ slice (at + 1) end s) where
+    pub wants-more : end ≡ at + 1 → wantsBytes (qualifiersOf q) ≡ true → Quoted s from (readString (qualifiersOf q) (cursorAt s at)) (OneString.Refused 4 at)
+    unfolding readString stringOf StringOn placeAt isEmpty
+    wants-more e w = record { is = rw (next-in s at (opened .inside), after-in s at (opened .inside), string, e, slice-empty (at + 1) s, w); on = tt }
+
+    module _ (next : ℕ) (passed : advance (length (stringNext (getD s at 0) (cursorAt s (at + 1)))) (cursorAt s (at + 1)) ≡ cursorAt s end)
+        (closed : pastDelimiter (getD s at 0) (cursorAt s end) ≡ cursorAt s next)
+        (ordered : at + 1 ≤ end) (ends : end ≤ next) (within : next ≤ length s) where
+      quoted-is : (isEmpty (slice (at + 1) end s) && wantsBytes (qualifiersOf q)) ≡ false
+          → Quoted s from (readString (qualifiersOf q) (cursorAt s at)) (OneString.Next q (at + 1) end next)
+      unfolding readString stringOf StringOn
+      quoted-is e = record {
+        is = rw (next-in s at (opened .inside), after-in s at (opened .inside), after-is s (at + 1) end (getD s at 0) next string passed closed, string, e);
+        on = record {
+          after = omega (arith, opened .from);
+          ordered = ordered;
+          ends = ends;
+          within = within;
+          small = opened .small;
+          columned = λ h. omega (arith, opened .columned h);
+          short = short s (at + 1) end (getD s at 0) string (omega arith);
+        };
+      }
+
+      pub quoted-empty : wantsBytes (qualifiersOf q) ≡ false → Quoted s from (readString (qualifiersOf q) (cursorAt s at)) (OneString.Next q (at + 1) end next)
+      quoted-empty w = quoted-is (rw w (and-false (isEmpty (slice (at + 1) end s))))
+
+      pub quoted-bytes : (end ≡ at + 1 → ⊥) → Quoted s from (readString (qualifiersOf q) (cursorAt s at)) (OneString.Next q (at + 1) end next)
+      quoted-bytes e = quoted-is (rw (not-empty s (at + 1) end (omega arith) (omega arith)))
+
+-- ---- a qualified string
+
+module _ (s : List ℕ) (at : ℕ) (i : Bool) (a : Read) (opened : Opened s at (startQualifiers i (cursorAt s at)) a) where
+  -- where the opening delimiter stands
+  pub open-at : (q : Quals) (o : ℕ) → a ≡ Read.Next q o → Open s at q o
+  unfolding OpenAt
+  open-at q o e = rw e at (opened .on)
+
+  pub string-read : (q : Quals) (o : ℕ) (r : OneString) → a ≡ Read.Next q o
+      → ((from : ℕ) → Open s from q o → Quoted s from (readString (qualifiersOf q) (cursorAt s o)) r)
+      → Quoted s at (qualifiedString i (cursorAt s at)) r
+  unfolding qualifiedString readOf andThen
+  string-read q o r e string =
+      let read = string at (open-at q o e) in
+      record { is = read .is ∙ rw (← opened .is, e); on = read .on }
+
+  pub string-refused : (k p : ℕ) → a ≡ Read.Refused k p → Quoted s at (qualifiedString i (cursorAt s at)) (OneString.Refused k p)
+  unfolding qualifiedString readOf andThen stringOf StringOn
+  string-refused k p e = record { is = rw (← opened .is, e); on = tt }
+
+-- ---- a second string
+
+module _ (s : List ℕ) (d : ℕ) (a : OneString) where
+  pub pair-refused : (k p : ℕ) → a ≡ OneString.Refused k p
+      → pairOf s (TwoStrings.Refused k p) ≡ andThen (stringOf s a) (λ q c. secondString d q c)
+  unfolding pairOf andThen stringOf
+  pair-refused k p e = rw e
+
+  module _ (q : Quals) (start end next second-end past : ℕ) (is : a ≡ OneString.Next q start end next)
+      (string : stringNext d (cursorAt s next) ≡ slice next second-end s)
+      (passed : advance (length (stringNext d (cursorAt s next))) (cursorAt s next) ≡ cursorAt s second-end)
+      (closed : pastDelimiter d (cursorAt s second-end) ≡ cursorAt s past) where
+    pub pair-read : pairOf s (TwoStrings.Next q start end next second-end past) ≡ andThen (stringOf s a) (λ q c. secondString d q c)
+    unfolding pairOf andThen stringOf secondString
+    pair-read = rw (is, after-is s next second-end d past string passed closed, string)
+
+    -- the places of the two strings
+    pub pair-on : (at : ℕ) → next ≤ second-end → second-end ≤ past → past ≤ length s → StringOn s at a
+        → PairOn s at (TwoStrings.Next q start end next second-end past)
+    unfolding StringOn PairOn
+    pair-on at ordered ends within on = record {
+      first = rw is at on;
+      ordered = ordered;
+      ends = ends;
+      within = within;
+      short = short s next second-end d string (omega arith);
+    }
+
+pub refusal-on : (s : List ℕ) (at k p : ℕ) → PairOn s at (TwoStrings.Refused k p)
+unfolding PairOn
+refusal-on s at k p = tt
+
+-- the first string ends within the script
+pub ends-within : (s : List ℕ) (a : OneString) (q : Quals) (start end next : ℕ) → a ≡ OneString.Next q start end next → ((at : ℕ) × StringOn s at a) → next ≤ length s
+unfolding StringOn
+ends-within s a q start end next e on =
+    let first : StringAt s (on .0) q start end next = rw e at (on .1) in
+    first .within
+
+module _ (s : List ℕ) (at : ℕ) (a : Read) (opened : Opened s at (startQualifiers false (cursorAt s at)) a) where
+  pub both-refused : (k p : ℕ) → a ≡ Read.Refused k p → Paired s at (twoStrings (cursorAt s at)) (TwoStrings.Refused k p)
+  unfolding twoStrings readOf andThen pairOf PairOn
+  both-refused k p e = record { is = rw (← opened .is, e); on = tt }
+
+  pub both-read : (q : Quals) (o : ℕ) (first : OneString) (r : TwoStrings) → a ≡ Read.Next q o
+      → ((from : ℕ) → Open s from q o → Quoted s from (readString (qualifiersOf q) (cursorAt s o)) first)
+      → pairOf s r ≡ andThen (stringOf s first) (λ q c. secondString (getD s o 0) q c)
+      → ((from : ℕ) → StringOn s from first → PairOn s from r)
+      → Paired s at (twoStrings (cursorAt s at)) r
+  unfolding twoStrings readOf andThen
+  both-read q o first r e string is on =
+      let stands = open-at s at false a opened q o e in
+      let read = string at stands in
+      record {
+        is = is ∙ rw (← opened .is, e, next-in s o (stands .inside), ← read .is);
+        on = on at (read .on);
+      }
