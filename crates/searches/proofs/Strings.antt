@@ -19,7 +19,7 @@ use Rattle.strings.specs.declared.OneString.{OneString}
 use Rattle.strings.specs.Answers.{StringAt, Quoted}
 use Rattle.strings.proofs.Callers.{string-not, string-at, string-is, string-few, string-writable}
 use Rattle.searches.specs.declared.Parse.{Parse}
-use Rattle.searches.specs.Parsing.{stringPart, Room, Parsed}
+use Rattle.searches.specs.Parsing.{noPart, stringPart, Room, Parsed}
 use Rattle.searches.proofs.Answering.{is-read, is-refused}
 
 -- the words before the string stay
@@ -61,6 +61,8 @@ module _ (s w : List ℕ) (at k : ℕ) (room : Room s w at k) (a : OneString) (r
       room = omega (arith, few);
     }))
 
-  pub string-refused : (e p : ℕ) → a ≡ OneString.Refused e p → (w′ : List ℕ) → Parsed s w w′ at k 0 (λ n. stringPart (cursorAt s at)) (Parse.Refused e p)
-  unfolding stringPart andThen
-  string-refused e p is w′ = is-refused refl (λ n h. rw (string-not s at (qualifiedString true (cursorAt s at)) a read e p is))
+  pub string-refused : (e p : ℕ) (r : Parse) → a ≡ OneString.Refused e p → r ≡ noPart a → (w′ : List ℕ)
+      → Parsed s w w′ at k 0 (λ n. stringPart (cursorAt s at)) r
+  unfolding stringPart andThen noPart
+  string-refused e p r is r-is w′ =
+      is-refused {e = e} {p = p} (r-is ∙ rw is) (λ n h. rw (string-not s at (qualifiedString true (cursorAt s at)) a read e p is))

@@ -12,6 +12,7 @@ use Rattle.definitions.specs.Strings.{qualifiedString}
 use Rattle.matching.specs.Words.{Encodes}
 use Rattle.reader.specs.Places.{cursorAt}
 use Rattle.reader.specs.declared.Answer.{Answer}
+use Rattle.strings.specs.declared.OneString.{OneString}
 use Rattle.searches.specs.declared.Parse.{Parse}
 use Rattle.searches.specs.declared.Right.{Right}
 
@@ -34,6 +35,11 @@ CloseOn at n (Answer.Refused k p) = Unit {0}
 unfoldable pub closedOf : Answer → ℕ → Parse
 closedOf (Answer.Is k next) m = Parse.Next next m
 closedOf (Answer.Refused k p) m = Parse.Refused k p
+
+-- a refusal is passed upward: 0, which is no number of a refusal, for an answer that is none
+unfoldable pub noPart : OneString → Parse
+noPart (OneString.Next q start end p) = Parse.Refused 0 p
+noPart (OneString.Refused k p) = Parse.Refused k p
 
 -- ---- searches
 

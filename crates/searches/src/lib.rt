@@ -14,7 +14,7 @@ ghost use Rattle.definitions.specs.Search.{Search};
 ghost use Rattle.definitions.specs.Strings.{closing as «closing-of», operator as «operator-of», part as «part-of», conjunction as «conjunction-of», alternatives as «alternatives-of», searchExpression};
 ghost use Rattle.reader.specs.Places.{cursorAt};
 ghost use Rattle.reader.specs.Answers.{answers};
-ghost use Rattle.searches.specs.Parsing.{rightOf, RightOn, CloseOn, closedOf, stringPart, Room, Parsed};
+ghost use Rattle.searches.specs.Parsing.{rightOf, RightOn, CloseOn, closedOf, noPart, stringPart, Room, Parsed};
 
 pub enum Parse {
     // The place after the search, and the next free word.
@@ -72,21 +72,37 @@ fn closed(close: Answer, m: usize) -> Parse
     }
 }
 
+// A refusal is passed upward. 0 is no number of a refusal.
+fn no_part(a: OneString) -> Parse
+    ensures { λ r. ⌜ r ≡ noPart a ⌝ }
+{
+    match a {
+        OneString::Next {
+            quals: _,
+            start: _,
+            end: _,
+            next,
+        } => Parse::Refused(0, next),
+        OneString::Refused(n, p) => Parse::Refused(n, p),
+    }
+}
+
 // One qualified string.
 fn string_part(s: &[u8], at: usize, w: &mut [u32], k: usize) -> Parse
     requires { ⌜ Room (now s) (now w) at k ⌝ }
     ensures { λ r. ⌜ Parsed (now (s .entry)) (now (w .entry)) (now (w .exit)) at k 0 (λ n. stringPart (cursorAt (now (s .entry)) at)) r ⌝ }
 {
     let string = qualified_string(s, at, true);
-    match string {
-        OneString::Next {
-            quals,
-            start,
-            end,
-            next,
-        } => Parse::Next(next, put_string(w, k, quals, start, end - start)),
-        OneString::Refused(n, p) => Parse::Refused(n, p),
-    }
+    let OneString::Next {
+        quals,
+        start,
+        end,
+        next,
+    } = string
+    else {
+        return no_part(string);
+    };
+    Parse::Next(next, put_string(w, k, quals, start, end - start))
 }
 
 // The word between two parts: m is where the test goes on if it is settled by the first, kind 1 for & and 2 for |.

@@ -17,7 +17,7 @@ use Rattle.reader.proofs.AtPlace.{next-in, after-in}
 use Rattle.strings.specs.declared.Read.{Read}
 use Rattle.strings.specs.declared.OneString.{OneString}
 use Rattle.strings.specs.declared.TwoStrings.{TwoStrings}
-use Rattle.strings.specs.Answers.{readOf, Open, OpenAt, Opened, Short, StringAt, stringOf, StringOn, Quoted, pairOf, PairOn, Paired}
+use Rattle.strings.specs.Answers.{noString, noPair, readOf, Open, OpenAt, Opened, Short, StringAt, stringOf, StringOn, Quoted, pairOf, PairOn, Paired}
 
 -- ---- which qualifiers want bytes
 
@@ -99,17 +99,17 @@ module _ (s : List ℕ) (at : ℕ) (i : Bool) (a : Read) (opened : Opened s at (
       let read = string at (open-at q o e) in
       record { is = read .is ∙ rw (← opened .is, e); on = read .on }
 
-  pub string-refused : (k p : ℕ) → a ≡ Read.Refused k p → Quoted s at (qualifiedString i (cursorAt s at)) (OneString.Refused k p)
-  unfolding qualifiedString readOf andThen stringOf StringOn
-  string-refused k p e = record { is = rw (← opened .is, e); on = tt }
+  pub string-refused : (k p : ℕ) (r : OneString) → a ≡ Read.Refused k p → r ≡ noString a → Quoted s at (qualifiedString i (cursorAt s at)) r
+  unfolding qualifiedString readOf andThen noString stringOf StringOn
+  string-refused k p r e r-is = rw (r-is, e) (record { is = rw (← opened .is, e); on = tt })
 
 -- ---- a second string
 
 module _ (s : List ℕ) (d : ℕ) (a : OneString) where
-  pub pair-refused : (k p : ℕ) → a ≡ OneString.Refused k p
-      → pairOf s (TwoStrings.Refused k p) ≡ andThen (stringOf s a) (λ q c. secondString d q c)
-  unfolding pairOf andThen stringOf
-  pair-refused k p e = rw e
+  pub pair-refused : (k p : ℕ) (r : TwoStrings) → a ≡ OneString.Refused k p → r ≡ noPair a
+      → (pairOf s r ≡ andThen (stringOf s a) (λ q c. secondString d q c)) × ((at : ℕ) → StringOn s at a → PairOn s at r)
+  unfolding pairOf andThen stringOf noPair PairOn
+  pair-refused k p r e r-is = rw (r-is, e) (refl, λ at on. tt)
 
   module _ (q : Quals) (start end next second-end past : ℕ) (is : a ≡ OneString.Next q start end next)
       (string : stringNext d (cursorAt s next) ≡ slice next second-end s)
@@ -131,10 +131,6 @@ module _ (s : List ℕ) (d : ℕ) (a : OneString) where
       short = short s next second-end d string (omega arith);
     }
 
-pub refusal-on : (s : List ℕ) (at k p : ℕ) → PairOn s at (TwoStrings.Refused k p)
-unfolding PairOn
-refusal-on s at k p = tt
-
 -- the first string ends within the script
 pub ends-within : (s : List ℕ) (a : OneString) (q : Quals) (start end next : ℕ) → a ≡ OneString.Next q start end next → ((at : ℕ) × StringOn s at a) → next ≤ length s
 unfolding StringOn
@@ -143,9 +139,10 @@ ends-within s a q start end next e on =
     first .within
 
 module _ (s : List ℕ) (at : ℕ) (a : Read) (opened : Opened s at (startQualifiers false (cursorAt s at)) a) where
-  pub both-refused : (k p : ℕ) → a ≡ Read.Refused k p → Paired s at (twoStrings (cursorAt s at)) (TwoStrings.Refused k p)
-  unfolding twoStrings readOf andThen pairOf PairOn
-  both-refused k p e = record { is = rw (← opened .is, e); on = tt }
+  pub both-refused : (k p : ℕ) (first : OneString) (r : TwoStrings) → a ≡ Read.Refused k p → first ≡ noString a → r ≡ noPair first
+      → Paired s at (twoStrings (cursorAt s at)) r
+  unfolding twoStrings readOf andThen noString noPair pairOf PairOn
+  both-refused k p first r e first-is r-is = rw (r-is, first-is, e) (record { is = rw (← opened .is, e); on = tt })
 
   pub both-read : (q : Quals) (o : ℕ) (first : OneString) (r : TwoStrings) → a ≡ Read.Next q o
       → ((from : ℕ) → Open s from q o → Quoted s from (readString (qualifiersOf q) (cursorAt s o)) first)

@@ -21,7 +21,7 @@ use Rattle.reader.proofs.AtPlace.{next-in, next-end, after-in}
 use Rattle.strings.specs.declared.Added.{Added}
 use Rattle.strings.specs.declared.Added.the-variants.{Now, Clash, Unknown}
 use Rattle.strings.specs.declared.Read.{Read}
-use Rattle.strings.specs.Answers.{Small, addedOf, SmallAdded, Adds, AddsAt, readOf, readAdded, ReadOn, Reads, secondColumn, columnsFrom}
+use Rattle.strings.specs.Answers.{Small, addedOf, SmallAdded, Adds, AddsAt, readOf, readAdded, noQualifier, ReadOn, Reads, secondColumn, columnsFrom}
 
 -- ---- an answer goes on, or a refusal is passed upward
 
@@ -80,6 +80,11 @@ pub refusal : (s : List ℕ) (at k p : ℕ) (x : Got Qualifiers) → x ≡ refus
 unfolding readOf ReadOn
 refusal s at k p x e = record { is = sym e; on = tt }
 
+-- a refusal of a number is one of the qualifier
+upward : (s : List ℕ) (at : ℕ) (a : Answer) (k p : ℕ) (r : Read) (x : Got Qualifiers) → a ≡ Answer.Refused k p → r ≡ noQualifier a → x ≡ refused k p → Reads s at x r
+unfolding noQualifier
+upward s at a k p r x e r-is x-is = rw (r-is, e) (refusal s at k p x x-is)
+
 -- ---- a count
 
 module _ (s : List ℕ) (at : ℕ) (q : Quals) (a : Answer) (is : number (cursorAt s at) ≡ answers itself s a) where
@@ -93,9 +98,9 @@ module _ (s : List ℕ) (at : ℕ) (q : Quals) (a : Answer) (is : number (cursor
         on = added-on (length s) d at next (on .2) (on .3) (adds .small small);
       })
 
-  pub count-refused : (k p : ℕ) → a ≡ Answer.Refused k p → Reads s at (readCount (qualifiersOf q) (cursorAt s at)) (Read.Refused k p)
+  pub count-refused : (k p : ℕ) (r : Read) → a ≡ Answer.Refused k p → r ≡ noQualifier a → Reads s at (readCount (qualifiersOf q) (cursorAt s at)) r
   unfolding readCount
-  count-refused k p e = refusal s at k p _ (passed-up itself s _ _ a is k p e)
+  count-refused k p r e r-is = upward s at a k p r _ e r-is (passed-up itself s _ _ a is k p e)
 
 -- ---- columns
 
@@ -156,9 +161,9 @@ columns-are q zero m h = absurd (not-suc-le-zero h)
 columns-are q (suc n) m h = refl
 
 module _ (s : List ℕ) (at n : ℕ) (q : Quals) (a : Answer) (is : secondColumn n (cursorAt s at) ≡ answers itself s a) where
-  pub columns-refused : (k p : ℕ) → a ≡ Answer.Refused k p → Reads s at (columnsFrom n (qualifiersOf q) (cursorAt s at)) (Read.Refused k p)
+  pub columns-refused : (k p : ℕ) (r : Read) → a ≡ Answer.Refused k p → r ≡ noQualifier a → Reads s at (columnsFrom n (qualifiersOf q) (cursorAt s at)) r
   unfolding columnsFrom
-  columns-refused k p e = refusal s at k p _ (passed-up itself s _ _ a is k p e)
+  columns-refused k p r e r-is = upward s at a k p r _ e r-is (passed-up itself s _ _ a is k p e)
 
   pub columns-now : (m next : ℕ) → a ≡ Answer.Is m next → Numbered at (length s) a → 1 ≤ n → n ≤ 65535 → Small q
       → Reads s at (columnsFrom n (qualifiersOf q) (cursorAt s at)) (Read.Next (set-columns q n m) next)
@@ -218,8 +223,8 @@ module _ (s : List ℕ) (at : ℕ) (q : Quals) (i : ℕ) (spaces : skipSpaces (c
   columns-is = rw spaces (same-then (number (cursorAt s i)) _ _ (λ n c.
       parts (λ m. setColumns n m (qualifiersOf q)) (expect 44 (skipSpaces c)) (λ c₂. number (skipSpaces c₂)) (leb n) (λ c₂. placeAt (skipSpaces c₂)) (λ c₃. expect 95 (skipSpaces c₃))))
 
-  pub first-refused : (k p : ℕ) → a ≡ Answer.Refused k p → Reads s at (readColumns (qualifiersOf q) (cursorAt s at)) (Read.Refused k p)
-  first-refused k p e = refusal s at k p _ (columns-is ∙ passed-up itself s _ _ a is k p e)
+  pub first-refused : (k p : ℕ) (r : Read) → a ≡ Answer.Refused k p → r ≡ noQualifier a → Reads s at (readColumns (qualifiersOf q) (cursorAt s at)) r
+  first-refused k p r e r-is = upward s at a k p r _ e r-is (columns-is ∙ passed-up itself s _ _ a is k p e)
 
   pub first-read : (n after : ℕ) (r : Read) → a ≡ Answer.Is n after → Numbered i (length s) a
       → Reads s after (columnsFrom n (qualifiersOf q) (cursorAt s after)) r → Reads s at (readColumns (qualifiersOf q) (cursorAt s at)) r

@@ -13,6 +13,7 @@ use Rattle.definitions.specs.Strings.{added, setColumns, Pair, pair}
 use Rattle.matching.specs.declared.Quals.{Quals}
 use Rattle.matching.specs.Quals.{qualifiersOf}
 use Rattle.reader.specs.Places.{cursorAt}
+use Rattle.reader.specs.declared.Answer.{Answer}
 use Rattle.strings.specs.declared.Added.{Added}
 use Rattle.strings.specs.declared.Added.the-variants.{Now, Clash, Unknown}
 use Rattle.strings.specs.declared.Read.{Read}
@@ -59,6 +60,11 @@ readAdded (Now q) at next = Read.Next q next
 readAdded Clash at next = Read.Refused 4 at
 readAdded Unknown at next = Read.Refused 3 at
 
+-- a refusal is passed upward: 0, which is no number of a refusal, for an answer that is none
+unfoldable pub noQualifier : Answer → Read
+noQualifier (Answer.Is k p) = Read.Refused 0 p
+noQualifier (Answer.Refused k p) = Read.Refused k p
+
 -- bytes were read from `at` on, of n bytes
 unfoldable pub ReadOn : ℕ → ℕ → Read → Type 0
 ReadOn at n (Read.Next q next) = (suc at ≤ next) × (next ≤ n) × Small q
@@ -101,6 +107,10 @@ unfoldable pub stringOf : List ℕ → OneString → Got Qualified
 stringOf s (OneString.Next q start end next) = got (qualified (qualifiersOf q) (slice start end s)) (cursorAt s next)
 stringOf s (OneString.Refused k p) = refused k p
 
+unfoldable pub noString : Read → OneString
+noString (Read.Next q p) = OneString.Refused 0 p
+noString (Read.Refused k p) = OneString.Refused k p
+
 -- no string that can be read is longer than a line
 abbrev pub Short : List ℕ → Type 0
 Short s = (d i : ℕ) → length (stringNext d (cursorAt s i)) ≤ 255
@@ -127,6 +137,10 @@ unfoldable pub pairOf : List ℕ → TwoStrings → Got Pair
 pairOf s (TwoStrings.Next q start end second secondEnd next) =
     got (pair (qualified (qualifiersOf q) (slice start end s)) (slice second secondEnd s)) (cursorAt s next)
 pairOf s (TwoStrings.Refused k p) = refused k p
+
+unfoldable pub noPair : OneString → TwoStrings
+noPair (OneString.Next q start end p) = TwoStrings.Refused 0 p
+noPair (OneString.Refused k p) = TwoStrings.Refused k p
 
 -- where the two strings lie
 pub record PairAt (s : List ℕ) (at : ℕ) (q : Quals) (start end second secondEnd next : ℕ) : Type 0 where

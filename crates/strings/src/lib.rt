@@ -14,7 +14,7 @@ ghost use Rattle.definitions.specs.Reader.{andThen};
 ghost use Rattle.definitions.specs.Strings.{wantsBytes, readString, qualifiedString, secondString, twoStrings};
 ghost use Rattle.matching.specs.Quals.{qualifiersOf};
 ghost use Rattle.reader.specs.Places.{cursorAt};
-ghost use Rattle.strings.specs.Answers.{Open, stringOf, StringOn, Quoted, pairOf, PairOn, Paired};
+ghost use Rattle.strings.specs.Answers.{Open, stringOf, StringOn, Quoted, noString, pairOf, PairOn, Paired, noPair};
 
 // The qualifiers with one more; or that it cannot stand with them, or that there is none such.
 pub enum Added {
@@ -71,16 +71,26 @@ fn read_string(s: &[u8], at: usize, q: Quals) -> OneString
     }
 }
 
+// A refusal is passed upward. 0 is no number of a refusal.
+fn no_string(a: Read) -> OneString
+    ensures { λ r. ⌜ r ≡ noString a ⌝ }
+{
+    match a {
+        Read::Next(_, p) => OneString::Refused(0, p),
+        Read::Refused(n, p) => OneString::Refused(n, p),
+    }
+}
+
 // A qualified string at the place.
 pub fn qualified_string(s: &[u8], at: usize, in_search: bool) -> OneString
     requires { ⌜ at ≤ length (now s) ⌝ }
     ensures { λ r. ⌜ Quoted (now (s .entry)) at (qualifiedString «in_search» (cursorAt (now (s .entry)) at)) r ⌝ }
 {
-    let first = read_qualifiers(s, at, in_search);
-    match first {
-        Read::Next(q, open) => read_string(s, open, q),
-        Read::Refused(k, p) => OneString::Refused(k, p),
-    }
+    let quals = read_qualifiers(s, at, in_search);
+    let Read::Next(q, open) = quals else {
+        return no_string(quals);
+    };
+    read_string(s, open, q)
 }
 
 // A qualified string and a second string that share the middle delimiter: the second is from `second` to `second_end`.
@@ -96,31 +106,45 @@ pub enum TwoStrings {
     Refused(u32, usize),
 }
 
+// A refusal is passed upward. 0 is no number of a refusal.
+fn no_pair(a: OneString) -> TwoStrings
+    ensures { λ r. ⌜ r ≡ noPair a ⌝ }
+{
+    match a {
+        OneString::Next {
+            quals: _,
+            start: _,
+            end: _,
+            next,
+        } => TwoStrings::Refused(0, next),
+        OneString::Refused(n, p) => TwoStrings::Refused(n, p),
+    }
+}
+
 // The second string, after the first one; d is their delimiter.
 fn with_second(s: &[u8], first: OneString, d: u8) -> TwoStrings
     requires { ⌜ ((at : ℕ) × StringOn (now s) at first) ⌝ }
     ensures { λ r. ⌜ pairOf (now (s .entry)) r ≡ andThen (stringOf (now (s .entry)) first) (λ q c. secondString d q c) ⌝ }
     ensures { λ r. ⌜ ((at : ℕ) → StringOn (now (s .entry)) at first → PairOn (now (s .entry)) at r) ⌝ }
 {
-    match first {
-        OneString::Next {
-            quals,
-            start,
-            end,
-            next,
-        } => {
-            let second_end = string_end(s, next, d);
-            let past = past_delimiter(s, second_end, d);
-            TwoStrings::Next {
-                quals,
-                start,
-                end,
-                second: next,
-                second_end,
-                next: past,
-            }
-        }
-        OneString::Refused(k, p) => TwoStrings::Refused(k, p),
+    let OneString::Next {
+        quals,
+        start,
+        end,
+        next,
+    } = first
+    else {
+        return no_pair(first);
+    };
+    let second_end = string_end(s, next, d);
+    let past = past_delimiter(s, second_end, d);
+    TwoStrings::Next {
+        quals,
+        start,
+        end,
+        second: next,
+        second_end,
+        next: past,
     }
 }
 
@@ -130,8 +154,8 @@ pub fn two_strings(s: &[u8], at: usize) -> TwoStrings
     ensures { λ r. ⌜ Paired (now (s .entry)) at (twoStrings (cursorAt (now (s .entry)) at)) r ⌝ }
 {
     let quals = read_qualifiers(s, at, false);
-    match quals {
-        Read::Next(q, open) => with_second(s, read_string(s, open, q), s[open]),
-        Read::Refused(k, p) => TwoStrings::Refused(k, p),
-    }
+    let Read::Next(q, open) = quals else {
+        return no_pair(no_string(quals));
+    };
+    with_second(s, read_string(s, open, q), s[open])
 }

@@ -7,7 +7,7 @@ ghost use Rattle.definitions.specs.Strings.{noQualifiers, qualifierByte, readCo
 ghost use Rattle.matching.specs.Quals.{qualifiersOf};
 ghost use Rattle.reader.specs.Places.{cursorAt};
 ghost use Rattle.reader.specs.Answers.{answers, itself, Numbered};
-ghost use Rattle.strings.specs.Answers.{Small, readAdded, secondColumn, columnsFrom, Reads, Opened};
+ghost use Rattle.strings.specs.Answers.{Small, readAdded, noQualifier, secondColumn, columnsFrom, Reads, Opened};
 use crate::Added;
 use crate::Read;
 use crate::letters::add_count;
@@ -33,16 +33,26 @@ fn added_at(a: Added, at: usize, next: usize) -> Read
     }
 }
 
+// A refusal is passed upward. 0 is no number of a refusal.
+fn no_qualifier(a: Answer) -> Read
+    ensures { λ r. ⌜ r ≡ noQualifier a ⌝ }
+{
+    match a {
+        Answer::Is(_, p) => Read::Refused(0, p),
+        Answer::Refused(n, p) => Read::Refused(n, p),
+    }
+}
+
 // A count.
 fn read_count(s: &[u8], at: usize, q: Quals) -> Read
     requires { ⌜ (at ≤ length (now s)) × Small q ⌝ }
     ensures { λ r. ⌜ Reads (now (s .entry)) at (readCount (qualifiersOf q) (cursorAt (now (s .entry)) at)) r ⌝ }
 {
     let n = number(s, at);
-    match n {
-        Answer::Is(count, next) => added_at(add_count(q, count), at, next),
-        Answer::Refused(k, p) => Read::Refused(k, p),
-    }
+    let Answer::Is(count, next) = n else {
+        return no_qualifier(n);
+    };
+    added_at(add_count(q, count), at, next)
 }
 
 // The second column of `_n,m_`, from the comma on to the last `_`; it is at least n, else 3 at it.
@@ -76,15 +86,13 @@ fn columns_from(s: &[u8], at: usize, q: Quals, n: usize) -> Read
     ensures { λ r. ⌜ Reads (now (s .entry)) at (columnsFrom n (qualifiersOf q) (cursorAt (now (s .entry)) at)) r ⌝ }
 {
     let second = second_column(s, at, n);
-    match second {
-        Answer::Is(m, next) => {
-            let mut more = q;
-            more.from = n;
-            more.to = m;
-            Read::Next(more, next)
-        }
-        Answer::Refused(k, p) => Read::Refused(k, p),
-    }
+    let Answer::Is(m, next) = second else {
+        return no_qualifier(second);
+    };
+    let mut more = q;
+    more.from = n;
+    more.to = m;
+    Read::Next(more, next)
 }
 
 // Columns, after their first `_`.
@@ -93,10 +101,10 @@ fn read_columns(s: &[u8], at: usize, q: Quals) -> Read
     ensures { λ r. ⌜ Reads (now (s .entry)) at (readColumns (qualifiersOf q) (cursorAt (now (s .entry)) at)) r ⌝ }
 {
     let first = number(s, skip_spaces(s, at));
-    match first {
-        Answer::Is(n, after) => columns_from(s, after, q, n),
-        Answer::Refused(k, p) => Read::Refused(k, p),
-    }
+    let Answer::Is(n, after) = first else {
+        return no_qualifier(first);
+    };
+    columns_from(s, after, q, n)
 }
 
 // The qualifier at the place; it is no delimiter. 3 at a byte that is none.

@@ -13,6 +13,21 @@ number-requires c κs = search needs
 enum-known-first : tie.Need-enum-known-first
 enum-known-first c = search needs
 
+enum-told : tie.Need-enum-told
+enum-told c = search needs
+
+no-qualifier-requires : tie.Need-no-qualifier-requires
+no-qualifier-requires c κs = search needs
+
+returns : tie.Need-returns
+returns c =
+    let start = c .before .before .before .before .before .before in
+    let skip-spaces = c .before .before .before .before .skip-spaces in
+    let number = c .before .before .before .number in
+    let told = c .before .enum-told in
+    let no-qualifier = c .no-qualifier in
+    first-refused (start .args .s .now) (start .args .at) (start .args .q) _ (skip-spaces .ensures .0) (skip-spaces .ensures .1 .0) _ (number .ensures .0) _ _ _ (told .given .1) (no-qualifier .ensures)
+
 columns-from-requires : tie.Need-columns-from-requires
 columns-from-requires c κs =
     let start = c .before .before .before .before .before .before in
@@ -20,25 +35,14 @@ columns-from-requires c κs =
     let first = c .before .first in
     (numbered-within _ _ _ _ _ (first .given .1) (number .ensures .1), numbered-low _ _ _ _ _ (first .given .1) (number .ensures .1), numbered-high _ _ _ _ _ (first .given .1) (number .ensures .1), start .pre .1)
 
-enum-known-first-2 : tie.Need-enum-known-first-2
-enum-known-first-2 c = search needs
-
-returns : tie.Need-returns
-returns c =
+returns-2 : tie.Need-returns-2
+returns-2 c =
     let start = c .before .before .before .before .before .before .before in
     let skip-spaces = c .before .before .before .before .before .skip-spaces in
     let number = c .before .before .before .before .number in
     let first = c .before .before .first in
     let columns-from = c .columns-from in
     first-read (start .args .s .now) (start .args .at) (start .args .q) _ (skip-spaces .ensures .0) (skip-spaces .ensures .1 .0) _ (number .ensures .0) _ _ _ (first .given .1) (number .ensures .1) (columns-from .ensures)
-
-returns-2 : tie.Need-returns-2
-returns-2 c =
-    let start = c .before .before .before .before .before .before in
-    let skip-spaces = c .before .before .before .before .skip-spaces in
-    let number = c .before .before .before .number in
-    let first2 = c .before .first2 in
-    first-refused (start .args .s .now) (start .args .at) (start .args .q) _ (skip-spaces .ensures .0) (skip-spaces .ensures .1 .0) _ (number .ensures .0) _ _ (first2 .given .1)
 
 pub read-columns-spec : {M : Type 1} → statement M
 read-columns-spec =
@@ -47,7 +51,8 @@ read-columns-spec =
     skip-spaces-requires
     number-requires
     enum-known-first
-    columns-from-requires
-    enum-known-first-2
+    enum-told
+    no-qualifier-requires
     returns
+    columns-from-requires
     returns-2)

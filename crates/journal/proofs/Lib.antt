@@ -1,0 +1,13 @@
+-- `Places`: the ways out of finding a record. `Walk`: what the bytes at the front do to a journal's records. `Here`: a record found at a place.
+-- `Measures`: the check. `Columns`: a number in five columns. `Views`: what a view writes. `Writing`, `Going`: writing one record, and all.
+-- `Answers`: the readers' answers. `Written`: a journal's bytes read back.
+pub mod Places
+pub mod Walk
+pub mod Here
+pub mod Measures
+pub mod Columns
+pub mod Views
+pub mod Writing
+pub mod Going
+pub mod Answers
+pub mod Written

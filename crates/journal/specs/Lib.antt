@@ -1,0 +1,4 @@
+pub mod Records
+pub mod Measuring
+pub mod Views
+pub mod Reading

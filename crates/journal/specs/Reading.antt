@@ -1,0 +1,22 @@
+-- Document 01's number and length for each answer of a reader of journals.
+use mathlib.Core.List.{List}
+use Prim.Native.Nat.{ℕ}
+use Rattle.definitions.specs.Listing.{Written, written}
+use Rattle.journal.specs.declared.Reading.{Reading}
+use Rattle.journal.specs.declared.Reading.the-variants.{Written as Out, Short, Malformed}
+
+unfoldable pub readingNumber : Reading → ℕ
+readingNumber (Out n) = 0
+readingNumber Short = 10
+readingNumber Malformed = 11
+
+-- "refused, the length is 0"
+unfoldable pub readingLength : Reading → ℕ
+readingLength (Out n) = n
+readingLength Short = 0
+readingLength Malformed = 0
+
+-- the answer `r`, with the destination's bytes afterwards
+unfoldable pub answered : Reading → List ℕ → Written
+unfolding readingNumber readingLength
+answered r d = written (readingNumber r) (readingLength r) d

@@ -1,0 +1,203 @@
+-- IS, I and R in words: strings and lines as parts of the script. Assumes nothing.
+use mathlib.Core.Path.{_≡_, refl, sym, ap, _∙_, subst}
+use mathlib.Core.Logic.{_⊎_, inl, inr}
+use mathlib.Core.Bool.{Bool, true, false, cond}
+use mathlib.Core.Option.{Option, none, some}
+use mathlib.Core.List.{List, [], _∷_}
+use Prim.Native.Nat.{ℕ, zero, suc, _+_, _-_, _*_, _≤_, _<_}
+use native.Mathlib.Omega.{arith}
+use native.Mathlib.Numerals.{add-one}
+use lib.ListN.{length, take, drop, getD, set, length-set, length-drop}
+use lib.Seq.{slice, getD-set-same, getD-set-other, length-take-le}
+use lib.Dec.{eqb}
+use borrow.Author.Tests.{eq-eqb, ne-eqb, eqb-true, eqb-false}
+use Rattle.definitions.specs.Bytes.{Line, linesOf}
+use Rattle.definitions.specs.Editor.{Target, Through}
+use Rattle.definitions.specs.Edit.{insert, replace}
+use Rattle.definitions.specs.Control.{Item, simple}
+use Rattle.definitions.specs.Reader.{Cursor, Got, got, refused, andThen, skipSpaces, quoted}
+use Rattle.definitions.specs.Commands.{Decoded, whole, insertsString, insertsLines, replaces, Span, span, lineSpan, optionalTarget, scriptLines, replaceOp, decode}
+use Rattle.reader.specs.Places.{cursorAt}
+use Rattle.reader.specs.Answers.{answers, answersTwo, partOf as slicePart}
+use Rattle.reader.specs.Targets.{targetOf, throughOf, spanOf, optionOf}
+use Rattle.reader.specs.Inserted.{linesTo}
+use Rattle.reader.proofs.Given.{given-is, given-are}
+use Rattle.reader.specs.declared.Answer.{Answer}
+use Rattle.reader.specs.declared.Two.{Two}
+use Rattle.strings.proofs.Callers.{part-is}
+use Rattle.script.specs.Words.{head, spotCode, targetCode, partOf, StringIn, LinesIn, OpAt, ItemAt}
+use Rattle.script.specs.Reading.{Room, Laid, Kept, KeptBy, CommandIs, Written}
+use Rattle.script.specs.Commands.{refusedBy, refusedByTwo, spanHead, spanWord, spotWord}
+use Rattle.script.specs.declared.Command.{Command}
+use Rattle.script.proofs.Keeping.{kept-set}
+use Rattle.script.proofs.Items.{two-stay, first-is, second-is, upward, upward-two, whole-two, target-code}
+use Rattle.script.proofs.LineSpans.{span-item}
+
+-- ---- parts of the script
+
+pub string-in : (s : List ℕ) (word start end : ℕ) → start ≤ end → end ≤ length s → word ≡ start + 32768 * (end - start)
+    → StringIn s word (take (end - start) (drop start s))
+unfolding partOf
+string-in s word start end le to e =
+    let len : length (take (end - start) (drop start s)) ≡ end - start = length-take-le (end - start) (drop start s) (rw (length-drop start s) (omega arith)) in
+    let n : start + length (take (end - start) (drop start s)) - start ≡ end - start = omega (arith, len) in
+    record {
+      start = start;
+      word-is = e ∙ ap (λ (x : ℕ). start + 32768 * x) (sym len);
+      inside = omega (arith, len);
+      is = ap (λ (x : ℕ). take x (drop start s)) (sym n);
+    }
+
+pub lines-in : (s : List ℕ) (a b start end : ℕ) → a ≡ start → b ≡ end → start ≤ end → end ≤ length s → LinesIn s a b (linesTo s start end)
+unfolding partOf linesTo
+lines-in s a b start end p q le to = rw (p, q) (record { ordered = le; inside = to; is = ap linesOf (part-is start end s le) })
+
+pub spot-none : (a : ℕ) → a ≡ 65537 → 0 ≡ spotWord a
+unfolding spotWord
+spot-none a e = rw (eq-eqb a 65537 e)
+
+pub spot-some : (a : ℕ) → (a ≡ 65537 → ⊥) → a + 1 ≡ spotWord a
+unfolding spotWord
+spot-some a e = rw (ne-eqb a 65537 e, add-one a)
+
+-- ---- four words
+
+module _ (w : List ℕ) (k a b c d : ℕ) (room : k + 19 < length w) where
+  pub four-stay : Kept k 16 w (set (set (set (set w k a) (k + 1) b) (k + 2) c) (k + 3) d)
+  four-stay = kept-set k 16 (k + 3) d w (set (set (set w k a) (k + 1) b) (k + 2) c) (omega arith) (omega arith)
+      (kept-set k 16 (k + 2) c w (set (set w k a) (k + 1) b) (omega arith) (omega arith) (two-stay w k a b (omega arith)))
+
+  pub four-0 : getD (set (set (set (set w k a) (k + 1) b) (k + 2) c) (k + 3) d) k 0 ≡ a
+  four-0 = getD-set-other (set (set (set w k a) (k + 1) b) (k + 2) c) (k + 3) k d 0 (λ e. omega (arith, e))
+      ∙ getD-set-other (set (set w k a) (k + 1) b) (k + 2) k c 0 (λ e. omega (arith, e)) ∙ first-is w k a b (omega arith)
+
+  pub four-1 : getD (set (set (set (set w k a) (k + 1) b) (k + 2) c) (k + 3) d) (k + 1) 0 ≡ b
+  four-1 = getD-set-other (set (set (set w k a) (k + 1) b) (k + 2) c) (k + 3) (k + 1) d 0 (λ e. omega (arith, e))
+      ∙ getD-set-other (set (set w k a) (k + 1) b) (k + 2) (k + 1) c 0 (λ e. omega (arith, e)) ∙ second-is w k a b (omega arith)
+
+  pub four-2 : getD (set (set (set (set w k a) (k + 1) b) (k + 2) c) (k + 3) d) (k + 2) 0 ≡ c
+  four-2 = getD-set-other (set (set (set w k a) (k + 1) b) (k + 2) c) (k + 3) (k + 2) d 0 (λ e. omega (arith, e))
+      ∙ getD-set-same (set (set w k a) (k + 1) b) (k + 2) c 0 (simp length-set (omega arith))
+
+  pub four-3 : getD (set (set (set (set w k a) (k + 1) b) (k + 2) c) (k + 3) d) (k + 3) 0 ≡ d
+  four-3 = getD-set-same (set (set (set w k a) (k + 1) b) (k + 2) c) (k + 3) d 0 (simp length-set (omega arith))
+
+module _ (s w : List ℕ) (place at k : ℕ) (r : Room s w place at k) where
+  far : k + 47 < length w
+  far = omega (arith, r .room, r .fits .work)
+
+  pub whole-four : (x : Got Decoded) (i : Item) (next : ℕ) → place + 2 ≤ next → next ≤ length s → (a b c d : ℕ) → x ≡ got (whole i) (cursorAt s next)
+      → ItemAt s (set (set (set (set w k a) (k + 1) b) (k + 2) c) (k + 3) d) k (k + 4) i
+      → Written s w (set (set (set (set w k a) (k + 1) b) (k + 2) c) (k + 3) d) place k x (Command.Whole next (k + 4))
+  unfolding CommandIs KeptBy
+  whole-four x i next from to a b c d e it = record {
+    kept = four-stay w k a b c d (omega (arith, far));
+    is = (i, e, record { passed = omega arith; inside = to; forth = omega arith; two = omega arith; item = it });
+  }
+
+  -- ---- IS
+
+  module _ (i : ℕ) (spaces : skipSpaces (cursorAt s at) ≡ cursorAt s i) (after : at ≤ i) (x : Two) (read : quoted (cursorAt s i) ≡ answersTwo (slicePart s) s x) where
+    pub string-refused : (n p : ℕ) (c : Command) → x ≡ Two.Refused n p → c ≡ refusedByTwo x → Written s w w place k (decode false place insertsString (cursorAt s at)) c
+    unfolding decode
+    string-refused n p c is by =
+        upward-two s w place k n p (slicePart s) (quoted (skipSpaces (cursorAt s at))) (λ l c₁. got (whole (simple place (insert none (l ∷ [])))) c₁) x c (ap quoted spaces ∙ read) is by
+
+    pub string-written : (start end next v u : ℕ) → v ≡ head 21 place → u ≡ start + 32768 * (end - start) → x ≡ Two.Are start end next
+        → (start ≡ suc i) × (start ≤ end) × (end ≤ next) × (next ≤ length s)
+        → Written s w (set (set w k v) (k + 1) u) place k (decode false place insertsString (cursorAt s at)) (Command.Whole next (k + 2))
+    unfolding decode andThen ItemAt OpAt
+    string-written start end next v u hd wd is (one, le, from, to) =
+        whole-two s w place at k r (decode false place insertsString (cursorAt s at)) (simple place (insert none (slice start end s ∷ []))) next (omega arith) to v u
+        (ap (λ (y : Got Line). andThen y (λ l c₁. got (whole (simple place (insert none (l ∷ [])))) c₁))
+        (ap quoted spaces ∙ given-are (slicePart s) s x (quoted (cursorAt s i)) read start end next is))
+        (inl (
+          refl,
+          first-is w k v u (omega (arith, far)) ∙ hd,
+          refl,
+          (
+            slice start end s,
+            rw (second-is w k v u (omega (arith, far)), part-is start end s le) (string-in s u start end le (omega arith) wd),
+            refl,
+          ),
+        ))
+
+  -- ---- I and R: the lines of the script
+
+  module _ (grouped : Bool) (from : ℕ) (y : Two) (lines : scriptLines grouped (cursorAt s from) ≡ answersTwo (linesTo s) s y) (f : List Line → Item) (x : Got Decoded)
+      (is : x ≡ andThen (scriptLines grouped (cursorAt s from)) (λ ls c₂. got (whole (f ls)) c₂)) where
+    pub lines-refused : (n p : ℕ) (c : Command) → y ≡ Two.Refused n p → c ≡ refusedByTwo y → Written s w w place k x c
+    lines-refused n p c e by = rw is (upward-two s w place k n p (linesTo s) (scriptLines grouped (cursorAt s from)) (λ ls c₂. got (whole (f ls)) c₂) y c lines e by)
+
+    pub lines-read : (start end next : ℕ) → y ≡ Two.Are start end next → x ≡ got (whole (f (linesTo s start end))) (cursorAt s next)
+    unfolding andThen
+    lines-read start end next e =
+        is ∙ ap (λ (g : Got (List Line)). andThen g (λ ls c₂. got (whole (f ls)) c₂)) (given-are (linesTo s) s y (scriptLines grouped (cursorAt s from)) lines start end next e)
+
+  -- I
+  module _ (grouped : Bool) (x : Answer) (read : optionalTarget (cursorAt s at) ≡ answers optionOf s x) where
+    pub spot-refused : (n p : ℕ) (c : Command) → x ≡ Answer.Refused n p → c ≡ refusedBy x → Written s w w place k (decode grouped place insertsLines (cursorAt s at)) c
+    unfolding decode
+    spot-refused n p c is by =
+        upward s w place k n p optionOf (optionalTarget (cursorAt s at)) (λ a c₁. andThen (scriptLines grouped c₁) (λ ls c₂. got (whole (simple place (insert a ls))) c₂)) x c read is by
+
+    pub spot-read : (a from : ℕ) → x ≡ Answer.Is a from → decode grouped place insertsLines (cursorAt s at)
+        ≡ andThen (scriptLines grouped (cursorAt s from)) (λ ls c₂. got (whole (simple place (insert (optionOf a) ls))) c₂)
+    unfolding decode andThen
+    spot-read a from is =
+        ap (λ (y : Got (Option Target)). andThen y (λ t c₁. andThen (scriptLines grouped c₁) (λ ls c₂. got (whole (simple place (insert t ls))) c₂)))
+        (given-is optionOf s x (optionalTarget (cursorAt s at)) read a from is)
+
+  pub spot-code : (a : ℕ) → a ≤ 65537 → spotCode (optionOf a) ≡ spotWord a
+  unfolding spotCode optionOf spotWord
+  spot-code a le = go (eqb a 65537) refl
+    where
+      go : (t : Bool) → eqb a 65537 ≡ t → spotCode (cond t none (some (targetOf a))) ≡ cond t 0 (suc a)
+      go true e = refl
+      go false e = ap suc (target-code a (omega (arith, eqb-false a 65537 e)))
+
+  pub inserts-written : (x : Got Decoded) (a start end next v u : ℕ) → a ≤ 65537 → v ≡ head 22 place → u ≡ spotWord a
+      → x ≡ got (whole (simple place (insert (optionOf a) (linesTo s start end)))) (cursorAt s next) → at ≤ start → start ≤ end → next ≡ suc end → next ≤ length s
+      → Written s w (set (set (set (set w k v) (k + 1) u) (k + 2) start) (k + 3) end) place k x (Command.Whole next (k + 4))
+  unfolding ItemAt OpAt
+  inserts-written x a start end next v u small hd wd e from le nx to =
+      whole-four x (simple place (insert (optionOf a) (linesTo s start end))) next (omega (arith, r .named)) to v u start end e
+      (inr (
+        refl,
+        four-0 w k v u start end room ∙ hd,
+        four-1 w k v u start end room ∙ wd ∙ sym (spot-code a small),
+        lines-in s (getD (set (set (set (set w k v) (k + 1) u) (k + 2) start) (k + 3) end) (k + 2) 0) (getD (set (set (set (set w k v) (k + 1) u) (k + 2) start) (k + 3) end) (k + 3) 0) start end
+            (four-2 w k v u start end room) (four-3 w k v u start end room) le (omega arith),
+      ))
+    where
+      room : k + 19 < length w
+      room = omega (arith, far)
+
+  -- R
+  module _ (grouped : Bool) (x : Two) (read : lineSpan (cursorAt s at) ≡ answersTwo spanOf s x) where
+    pub span-refused : (n p : ℕ) (c : Command) → x ≡ Two.Refused n p → c ≡ refusedByTwo x → Written s w w place k (decode grouped place replaces (cursorAt s at)) c
+    unfolding decode
+    span-refused n p c is by =
+        upward-two s w place k n p spanOf (lineSpan (cursorAt s at)) (λ a c₁. andThen (scriptLines grouped c₁) (λ ls c₂. got (whole (simple place (replaceOp a ls))) c₂)) x c read is by
+
+    pub span-read : (a b from : ℕ) → x ≡ Two.Are a b from → decode grouped place replaces (cursorAt s at)
+        ≡ andThen (scriptLines grouped (cursorAt s from)) (λ ls c₂. got (whole (simple place (replace (targetOf a) (throughOf b) ls))) c₂)
+    unfolding decode andThen spanOf replaceOp
+    span-read a b from is =
+        ap (λ (y : Got Span). andThen y (λ t c₁. andThen (scriptLines grouped c₁) (λ ls c₂. got (whole (simple place (replaceOp t ls))) c₂)))
+        (given-are spanOf s x (lineSpan (cursorAt s at)) read a b from is)
+
+  pub replaces-written : (x : Got Decoded) (a b start end next v u : ℕ) → a < 65536 → v ≡ spanHead 19 place b → u ≡ spanWord a b
+      → x ≡ got (whole (simple place (replace (targetOf a) (throughOf b) (linesTo s start end)))) (cursorAt s next) → at ≤ start → start ≤ end → next ≡ suc end → next ≤ length s
+      → Written s w (set (set (set (set w k v) (k + 1) u) (k + 2) start) (k + 3) end) place k x (Command.Whole next (k + 4))
+  unfolding ItemAt OpAt
+  replaces-written x a b start end next v u small hd wd e from le nx to =
+      whole-four x (simple place (replace (targetOf a) (throughOf b) (linesTo s start end))) next (omega (arith, r .named)) to v u start end e (
+        refl,
+        span-item s (set (set (set (set w k v) (k + 1) u) (k + 2) start) (k + 3) end) k 19 place a b (four-0 w k v u start end room ∙ hd) (four-1 w k v u start end room ∙ wd) small,
+        lines-in s (getD (set (set (set (set w k v) (k + 1) u) (k + 2) start) (k + 3) end) (k + 2) 0) (getD (set (set (set (set w k v) (k + 1) u) (k + 2) start) (k + 3) end) (k + 3) 0) start end
+            (four-2 w k v u start end room) (four-3 w k v u start end room) le (omega arith),
+      )
+    where
+      room : k + 19 < length w
+      room = omega (arith, far)

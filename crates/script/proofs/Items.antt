@@ -1,0 +1,185 @@
+-- Items as they are written: counts, commands of one or two words, line numbers. Assumes nothing.
+use mathlib.Core.Path.{_≡_, refl, sym, ap, _∙_, subst}
+use mathlib.Core.Logic.{_⊎_, inl, inr}
+use mathlib.Core.Bool.{Bool, true, false, cond, _&&_, _||_}
+use mathlib.Core.List.{List, [], _∷_}
+use Prim.Native.Nat.{ℕ, zero, suc, _+_, _-_, _*_, _/_, _%_, _≤_, _<_}
+use native.Mathlib.Omega.{arith}
+use lib.ListN.{length, getD, set, length-set}
+use lib.Seq.{getD-set-same, getD-set-other}
+use lib.Dec.{eqb, leb}
+use borrow.Author.Tests.{eq-eqb, ne-eqb, le-leb, lt-leb, eqb-true, eqb-false}
+use Rattle.definitions.specs.Editor.{Target, here, line, eof}
+use Rattle.definitions.specs.Edit.{Op, move}
+use Rattle.definitions.specs.Control.{times, forever, branch, Item, simple, opens, leave}
+use Rattle.definitions.specs.Reader.{Cursor, cursor, Got, got, refused, andThen, placeAt, skipSpaces, Word, word, digits}
+use Rattle.definitions.specs.Commands.{Decoded, whole, prefix, Shape, moves, target, decode}
+use Rattle.reader.specs.Places.{cursorAt}
+use Rattle.reader.specs.Answers.{answers, answersTwo, capped, Within}
+use Rattle.reader.specs.Targets.{targetOf, throughOf, spanOf, SpanRead}
+use Rattle.reader.specs.Shapes.{plainOf}
+use Rattle.reader.proofs.Digits.{capped-small, capped-large}
+use Rattle.reader.specs.declared.Answer.{Answer}
+use Rattle.reader.specs.declared.Two.{Two}
+use Rattle.reader.specs.declared.shapes.Plain.{Plain}
+use Rattle.reader.specs.declared.shapes.Plain.the-variants.{Next, Previous, Copy, PointStart, Right, Left, CutByte, Lower, Upper, Quit}
+use Rattle.script.specs.Words.{head, targetCode, caseKind, Words1, SpanAt, OpAt, TimesAt, OpenerAt, ItemAt}
+use Rattle.script.specs.Reading.{Fits, Room, Laid, Kept, KeptBy, CommandIs, Written, counted}
+use Rattle.script.specs.Commands.{refusedBy, refusedByTwo, plainKind, spanHead, spanWord}
+use Rattle.script.specs.declared.Command.{Command}
+use Rattle.script.proofs.Keeping.{kept-all, kept-set}
+
+-- ---- words one by one
+
+module _ (w : List ℕ) (k a : ℕ) (room : k + 16 < length w) where
+  pub one-stays : Kept k 16 w (set w k a)
+  one-stays = kept-set k 16 k a w w (omega arith) room (kept-all k 16 w)
+
+  pub one-is : getD (set w k a) k 0 ≡ a
+  one-is = getD-set-same w k a 0 (omega arith)
+
+module _ (w : List ℕ) (k a b : ℕ) (room : k + 17 < length w) where
+  pub two-stay : Kept k 16 w (set (set w k a) (k + 1) b)
+  two-stay = kept-set k 16 (k + 1) b w (set w k a) (omega arith) (omega arith) (one-stays w k a (omega arith))
+
+  pub first-is : getD (set (set w k a) (k + 1) b) k 0 ≡ a
+  first-is = getD-set-other (set w k a) (k + 1) k b 0 (λ e. omega (arith, e)) ∙ one-is w k a (omega arith)
+
+  pub second-is : getD (set (set w k a) (k + 1) b) (k + 1) 0 ≡ b
+  second-is = getD-set-same (set w k a) (k + 1) b 0 (rw (length-set w k a) (omega arith))
+
+-- ---- refusals
+
+pub refused-written : (s w w' : List ℕ) (place k : ℕ) (x : Got Decoded) (n p : ℕ) → x ≡ refused n p → Written s w w' place k x (Command.Refused n p)
+unfolding CommandIs KeptBy
+refused-written s w w' place k x n p e = record { kept = tt; is = e }
+
+-- an argument was refused
+module _ {A : Type 0} (s w : List ℕ) (place k n p : ℕ) (f : ℕ → A) (x : Got A) (on : A → Cursor → Got Decoded) where
+  pub upward : (a : Answer) (r : Command) → x ≡ answers f s a → a ≡ Answer.Refused n p → r ≡ refusedBy a → Written s w w place k (andThen x on) r
+  unfolding answers andThen refusedBy
+  upward a r e is by = rw (by, is) (refused-written s w w place k (andThen x on) n p (ap (λ (y : Got A). andThen y on) (e ∙ ap (answers f s) is)))
+
+module _ {A : Type 0} (s w : List ℕ) (place k n p : ℕ) (f : ℕ → ℕ → A) (x : Got A) (on : A → Cursor → Got Decoded) where
+  pub upward-two : (a : Two) (r : Command) → x ≡ answersTwo f s a → a ≡ Two.Refused n p → r ≡ refusedByTwo a → Written s w w place k (andThen x on) r
+  unfolding answersTwo andThen refusedByTwo
+  upward-two a r e is by = rw (by, is) (refused-written s w w place k (andThen x on) n p (ap (λ (y : Got A). andThen y on) (e ∙ ap (answersTwo f s) is)))
+
+-- ---- an item of one or two words
+
+module _ (s w : List ℕ) (place at k : ℕ) (r : Room s w place at k) (x : Got Decoded) (i : Item) (next : ℕ) (from : at ≤ next) (to : next ≤ length s) where
+  pub room-two : k + 64 ≤ length w + 14
+  room-two = omega (arith, r .room, r .named, r .inside, r .fits .work)
+
+  pub whole-one : (a : ℕ) → x ≡ got (whole i) (cursorAt s next) → ItemAt s (set w k a) k (k + 1) i → Written s w (set w k a) place k x (Command.Whole next (k + 1))
+  unfolding CommandIs KeptBy
+  whole-one a e it = record {
+    kept = one-stays w k a (omega (arith, room-two));
+    is = (i, e, record { passed = omega (arith, r .named); inside = to; forth = omega arith; two = omega (arith, r .named); item = it });
+  }
+
+  pub prefix-one : (a : ℕ) (b : Bool) → x ≡ got (prefix b i) (cursorAt s next) → ItemAt s (set w k a) k (k + 1) i → Written s w (set w k a) place k x (Command.Prefix b next (k + 1))
+  unfolding CommandIs KeptBy
+  prefix-one a b e it = record {
+    kept = one-stays w k a (omega (arith, room-two));
+    is = (i, e, record { passed = omega (arith, r .named); inside = to; forth = omega arith; two = omega (arith, r .named); item = it });
+  }
+
+  pub whole-two : (a b : ℕ) → x ≡ got (whole i) (cursorAt s next) → ItemAt s (set (set w k a) (k + 1) b) k (k + 2) i
+      → Written s w (set (set w k a) (k + 1) b) place k x (Command.Whole next (k + 2))
+  unfolding CommandIs KeptBy
+  whole-two a b e it = record {
+    kept = two-stay w k a b (omega (arith, room-two));
+    is = (i, e, record { passed = omega (arith, r .named); inside = to; forth = omega arith; two = omega (arith, r .named); item = it });
+  }
+
+-- ---- counts
+
+module _ (s w : List ℕ) (place k v next : ℕ) (r : Room s w place (place + 1) k) (read : capped (digits (cursorAt s place)) ≡ word v (cursorAt s next)) where
+  is-counted : v ≤ 65535 → counted place (digits (cursorAt s place)) ≡ got (prefix false (opens place (times v))) (cursorAt s next)
+  unfolding counted
+  is-counted h = rw (capped-small (digits (cursorAt s place)) v (cursorAt s next) read h, counted, le-leb v 65535 h)
+
+  pub over-count : 65535 < v → counted place (digits (cursorAt s place)) ≡ refused 3 place
+  unfolding counted
+  over-count h =
+      let l = capped-large (digits (cursorAt s place)) v (cursorAt s next) read h in
+      over (l .0) (l .1) (l .2)
+    where
+      over : (n : ℕ) → digits (cursorAt s place) ≡ word n (cursorAt s next) → 65535 < n → counted place (digits (cursorAt s place)) ≡ refused 3 place
+      over n e m = rw (e, counted, lt-leb n 65535 m)
+
+  pub small-count : (a : ℕ) → a ≡ head 40 place → v < 2048 → place < next → next ≤ length s
+      → Written s w (set w k (a + 2097152 * v)) place k (counted place (digits (cursorAt s place))) (Command.Prefix false next (k + 1))
+  unfolding ItemAt OpenerAt TimesAt
+  small-count a is h far to =
+      prefix-one s w place (place + 1) k r (counted place (digits (cursorAt s place))) (opens place (times v)) next (omega arith) to (a + 2097152 * v) false
+      (is-counted (omega arith))
+      (inl (h, (refl, one-is w k (a + 2097152 * v) (omega (arith, r .room, r .named, r .inside, r .fits .work)) ∙ ap (λ (n : ℕ). n + 2097152 * v) is)))
+
+  pub large-count : (a : ℕ) → a ≡ head 41 place → v ≤ 65535 → suc place < next → next ≤ length s
+      → Written s w (set (set w k a) (k + 1) v) place k (counted place (digits (cursorAt s place))) (Command.Prefix false next (k + 2))
+  unfolding ItemAt OpenerAt TimesAt CommandIs KeptBy
+  large-count a is h far to =
+      let room : k + 17 < length w = omega (arith, r .room, r .named, r .inside, r .fits .work) in
+      record {
+        kept = two-stay w k a v room;
+        is = (
+          opens place (times v),
+          is-counted h,
+          record {
+            passed = omega arith;
+            inside = to;
+            forth = omega arith;
+            two = omega arith;
+            item = inr (refl, first-is w k a v room ∙ is, second-is w k a v room);
+          },
+        );
+      }
+
+-- ---- commands of one word
+
+pub plain-item : (s w : List ℕ) (k place : ℕ) (p : Plain) → getD w k 0 ≡ head (plainKind p) place → ItemAt s w k (k + 1) (simple place (plainOf p))
+unfolding ItemAt OpAt plainKind plainOf caseKind
+plain-item s w k place Next e = (refl, e)
+plain-item s w k place Previous e = (refl, e)
+plain-item s w k place Copy e = (refl, e)
+plain-item s w k place PointStart e = (refl, e)
+plain-item s w k place Right e = (refl, e)
+plain-item s w k place Left e = (refl, e)
+plain-item s w k place CutByte e = (refl, e)
+plain-item s w k place Lower e = (refl, e)
+plain-item s w k place Upper e = (refl, e)
+plain-item s w k place Quit e = (refl, e)
+
+-- ---- line numbers
+
+pub target-code : (n : ℕ) → n ≤ 65536 → targetCode (targetOf n) ≡ n
+unfolding targetCode targetOf
+target-code n h = go (eqb n 0) (eqb n 65536) refl refl
+  where
+    go : (t u : Bool) → eqb n 0 ≡ t → eqb n 65536 ≡ u → targetCode (cond t here (cond u eof (line n))) ≡ n
+    go true u e f = sym (eqb-true n 0 e)
+    go false true e f = sym (eqb-true n 65536 f)
+    go false false e f = refl
+
+module _ (s w : List ℕ) (place at k : ℕ) (r : Room s w place at k) (i : ℕ) (spaces : skipSpaces (cursorAt s at) ≡ cursorAt s i) (after : at ≤ i) (x : Answer)
+    (read : target (cursorAt s i) ≡ answers targetOf s x) where
+  pub moves-refused : (n p : ℕ) (c : Command) → x ≡ Answer.Refused n p → c ≡ refusedBy x → Written s w w place k (decode false place moves (cursorAt s at)) c
+  unfolding decode
+  moves-refused n p c is by = upward s w place k n p targetOf (target (skipSpaces (cursorAt s at))) (λ a c₁. got (whole (simple place (move a))) c₁) x c (ap target spaces ∙ read) is by
+
+  pub move-within : (a next : ℕ) → x ≡ Answer.Is a next → Within 65536 (suc i) (length s) x → (a ≤ 65536) × (suc i ≤ next) × (next ≤ length s)
+  unfolding Within
+  move-within a next is h = rw is at h
+
+  pub moves-written : (a next v : ℕ) → v ≡ head 16 place → x ≡ Answer.Is a next → (a ≤ 65536) × (suc i ≤ next) × (next ≤ length s)
+      → Written s w (set (set w k v) (k + 1) a) place k (decode false place moves (cursorAt s at)) (Command.Whole next (k + 2))
+  unfolding decode andThen answers ItemAt OpAt
+  moves-written a next v hd is (small, from, to) =
+      whole-two s w place at k r (decode false place moves (cursorAt s at)) (simple place (move (targetOf a))) next (omega arith) to v a
+      (ap (λ (y : Got Target). andThen y (λ t c₁. got (whole (simple place (move t))) c₁)) (ap target spaces ∙ read ∙ ap (answers targetOf s) is))
+      (refl, first-is w k v a room ∙ hd, second-is w k v a room ∙ sym (target-code a small))
+    where
+      room : k + 17 < length w
+      room = omega (arith, r .room, r .named, r .inside, r .fits .work)

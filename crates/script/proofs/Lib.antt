@@ -1,0 +1,14 @@
+pub mod Keeping
+pub mod Closing
+pub mod OneRound
+pub mod Nested
+pub mod Distances
+pub mod Items
+pub mod LineSpans
+pub mod Inserting
+pub mod Qualifying
+pub mod Searched
+pub mod NameLengths
+pub mod Choosing
+pub mod Classes
+pub mod WholeScript

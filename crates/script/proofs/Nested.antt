@@ -1,0 +1,261 @@
+-- Groups: what `(`, `)` and ELSE come to. Assumes nothing.
+use mathlib.Core.Path.{_≡_, refl, sym, ap, _∙_, subst}
+use mathlib.Core.Bool.{Bool, true, false, cond, _&&_}
+use mathlib.Core.List.{List, [], _∷_}
+use Prim.Native.Nat.{ℕ, zero, suc, _+_, _-_, _*_, _/_, _%_, _≤_, _<_}
+use native.Mathlib.Numerals.{add-one, sub-one}
+use native.Mathlib.Omega.{arith}
+use lib.ListN.{length, getD, set, length-set}
+use lib.Seq.{getD-set-same, getD-set-other}
+use lib.Dec.{eqb, ltb}
+use borrow.Author.Tests.{lt-ltb, le-ltb, eq-eqb, ne-eqb}
+use Rattle.definitions.specs.Control.{Item, opens, bare, bracket, otherwise, close}
+use Rattle.definitions.specs.Reader.{Cursor, cursor, nextByte, isNext, afterByte, placeAt}
+use Rattle.definitions.specs.Script.{Due, nothing, body, Group, group, Reading, reading, refusedAt, Next, more, done, closes, openGroup, groupItems, groupOf, elseGroup, isElse, afterElse, groupEnd, closeGroup}
+use Rattle.reader.specs.Places.{cursorAt}
+use Rattle.reader.proofs.AtPlace.{is-next, not-next, after-in, after-next, next-inside}
+use Rattle.script.specs.Words.{head, ItemAt, OpenerAt, Gathered}
+use Rattle.script.specs.Reading.{dueOf, flag, groupIn, groupsIn, bodiesIn, readingOf, Fits, Stands, Kept, Closed, Comes}
+use Rattle.script.specs.declared.State.{State}
+use Rattle.script.specs.declared.Step.{Step}
+use Rattle.script.proofs.Keeping.{gather, acc-kept, groups-kept, bodies-kept, fits-kept, free, kept-all, kept-set}
+use Rattle.script.proofs.Closing.{closed-kept, gathered-closes}
+use Rattle.script.proofs.OneRound.{none-due, some-due, no-groups, some-groups, some-bodies, many-groups}
+
+-- ---- the word of a group
+
+pub group-back : (k : ℕ) (e : Bool) → groupIn (2 * k + flag e) ≡ group k e
+unfolding groupIn flag
+group-back k true =
+    let a : (2 * k + 1) / 2 ≡ k = omega arith in
+    let b : (2 * k + 1) % 2 ≡ 1 = omega arith in
+    rw (a, b)
+group-back k false =
+    let a : (2 * k + 0) / 2 ≡ k = omega arith in
+    let b : (2 * k + 0) % 2 ≡ 0 = omega arith in
+    rw (a, b)
+
+pub flag-half : (k : ℕ) (e : Bool) → (2 * k + flag e) / 2 ≡ k
+unfolding flag
+flag-half k true = omega arith
+flag-half k false = omega arith
+
+pub flag-on : (e : Bool) → e ≡ true → 1 ≡ flag e
+unfolding flag
+flag-on e is = rw is
+
+pub flag-off : (e : Bool) → e ≡ false → 0 ≡ flag e
+unfolding flag
+flag-off e is = rw is
+
+-- one word is written at k, or two, then the word of a group
+module _ (w : List ℕ) (k top d : ℕ) (far : top + d < length w) where
+  module _ (a x : ℕ) (near : k < top) where
+    pub one-stays : Kept k d w (set (set w k a) top x)
+    one-stays =
+        kept-set k d top x w (set w k a) (omega arith) far (kept-set k d k a w w (omega arith) (omega arith) (kept-all k d w))
+
+    pub one-first : getD (set (set w k a) top x) k 0 ≡ a
+    one-first = getD-set-other (set w k a) top k x 0 (λ e. omega (arith, e)) ∙ getD-set-same w k a 0 (omega arith)
+
+    pub one-top : getD (set (set w k a) top x) top 0 ≡ x
+    one-top = getD-set-same (set w k a) top x 0 (rw (length-set w k a) (omega arith))
+
+  module _ (a b x : ℕ) (near : k + 1 < top) where
+    pub two-stay : Kept k d w (set (set (set w k a) (k + 1) b) top x)
+    two-stay =
+        kept-set k d top x w (set (set w k a) (k + 1) b) (omega arith) far
+        (kept-set k d (k + 1) b w (set w k a) (omega arith) (omega arith) (kept-set k d k a w w (omega arith) (omega arith) (kept-all k d w)))
+
+    pub two-first : getD (set (set (set w k a) (k + 1) b) top x) k 0 ≡ a
+    two-first = getD-set-other (set (set w k a) (k + 1) b) top k x 0 (λ e. omega (arith, e))
+        ∙ getD-set-other (set w k a) (k + 1) k b 0 (λ e. omega (arith, e)) ∙ getD-set-same w k a 0 (omega arith)
+
+    pub two-second : getD (set (set (set w k a) (k + 1) b) top x) (k + 1) 0 ≡ b
+    two-second = getD-set-other (set (set w k a) (k + 1) b) top (k + 1) x 0 (λ e. omega (arith, e))
+        ∙ getD-set-same (set w k a) (k + 1) b 0 (rw (length-set w k a) (omega arith))
+
+    pub two-top : getD (set (set (set w k a) (k + 1) b) top x) top 0 ≡ x
+    two-top = getD-set-same (set (set w k a) (k + 1) b) top x 0 (rw (length-set (set w k a) (k + 1) b, length-set w k a) (omega arith))
+
+-- ---- a group opens: x is its word, d groups are open around it
+
+module _ (s w w' : List ℕ) (k d d' x : ℕ) (one-more : d' ≡ d + 1) (kept : Kept k d w w') (word : getD w' (length w - d') 0 ≡ x) where
+  word-there : getD w' (length w' - suc d) 0 ≡ x
+  word-there = rw (kept .same-length, ← add-one d, ← one-more) word
+
+  groups-more : groupsIn w' d' ≡ groupIn x ∷ groupsIn w d
+  unfolding groupsIn
+  groups-more = rw (one-more, add-one d, groupsIn, word-there, groups-kept k d w w' kept d (omega arith))
+
+  bodies-more : bodiesIn w' d' ≡ x / 2 + bodiesIn w d
+  unfolding bodiesIn
+  bodies-more = rw (one-more, add-one d, bodiesIn, word-there, bodies-kept k d w w' kept d (omega arith))
+
+  pub opened : (from next k' : ℕ) (acc : List Item) (g : Group) → groupIn x ≡ g → Gathered s w' k' acc → from < next → next ≤ length s → d < 16 → Fits s w
+      → k' + x / 2 + bodiesIn w d + 2 * (length s - next) ≤ 2 * length s + d'
+      → Comes s w' from (more (reading (cursorAt s next) nothing (g ∷ groupsIn w d) acc)) (Step.More (record { at = next; k = k'; due = 0; elses = false; depth = d' }))
+  unfolding Comes readingOf dueOf
+  opened from next k' acc g is gathered far within deep fits room = (
+    acc,
+    rw (groups-more, is),
+    record {
+      inside = within;
+      deep = omega arith;
+      gathered = gathered;
+      room = omega (arith, room, bodies-more);
+      fits = fits-kept k d w w' kept s fits;
+    },
+    far,
+  )
+
+module _ (s w : List ℕ) (st : State) (acc : List Item) (h : Stands s w st acc) where
+  pub ending-room : 0 < st .depth → (n : ℕ) → n ≡ getD w (length w - st .depth) 0 / 2 → (st .k + n + 16 ≤ length w) × (n ≤ 32784)
+  ending-room pos n is =
+      let half = some-bodies w (st .depth) (λ z. omega (arith, z)) in
+      (omega (arith, h .room, h .deep, h .fits .work, h .inside, half), omega (arith, h .room, h .deep, h .fits .small, h .inside, half))
+
+  module _ (less : st .at < length s) where
+    module _ (deep : st .depth < 16) where
+      pub opens-bare : (a : ℕ) → a ≡ head 43 (st .at) →
+          Comes s (set (set (set w (st .k) a) (st .k + 1) 1) (length w - (st .depth + 1)) 2) (st .at)
+          (more (reading (cursorAt s (st .at + 1)) nothing (group 1 false ∷ groupsIn w (st .depth)) (bracket ∷ opens (st .at) bare ∷ acc)))
+          (Step.More (record { at = st .at + 1; k = st .k + 2; due = 0; elses = false; depth = st .depth + 1 }))
+      unfolding ItemAt OpenerAt groupIn
+      opens-bare a is =
+          let room = free s w st acc h in
+          let top : ℕ = length w - (st .depth + 1) in
+          let far : top + st .depth < length w = omega (arith, room) in
+          let near : st .k + 1 < top = omega (arith, room) in
+          let w' : List ℕ = set (set (set w (st .k) a) (st .k + 1) 1) top 2 in
+          let kept : Kept (st .k) (st .depth) w w' = two-stay w (st .k) top (st .depth) far a 1 2 near in
+          let e : st .k + 2 ≡ st .k + 1 + 1 = omega arith in
+          opened s w w' (st .k) (st .depth) (st .depth + 1) 2 refl kept (two-top w (st .k) top (st .depth) far a 1 2 near)
+          (st .at) (st .at + 1) (st .k + 2) (bracket ∷ opens (st .at) bare ∷ acc) (group 1 false) refl
+          (gather s w' (st .k + 1) (st .k + 2) bracket (opens (st .at) bare ∷ acc) (omega arith) (e, two-second w (st .k) top (st .depth) far a 1 2 near)
+          (gather s w' (st .k) (st .k + 1) (opens (st .at) bare) acc (omega arith) (refl, two-first w (st .k) top (st .depth) far a 1 2 near ∙ is)
+          (acc-kept (st .k) (st .depth) w w' kept s acc (omega (arith, room)) (h .gathered))))
+          (omega arith) (omega arith) deep (h .fits) (omega (arith, h .room))
+
+      pub opens-body : (x : ℕ) → x ≡ 2 * st .due + flag (st .elses) →
+          Comes s (set (set w (st .k) 1) (length w - (st .depth + 1)) x) (st .at)
+          (more (reading (cursorAt s (st .at + 1)) nothing (group (st .due) (st .elses) ∷ groupsIn w (st .depth)) (bracket ∷ acc)))
+          (Step.More (record { at = st .at + 1; k = st .k + 1; due = 0; elses = false; depth = st .depth + 1 }))
+      unfolding ItemAt
+      opens-body x is =
+          let room = free s w st acc h in
+          let top : ℕ = length w - (st .depth + 1) in
+          let far : top + st .depth < length w = omega (arith, room) in
+          let near : st .k < top = omega (arith, room) in
+          let w' : List ℕ = set (set w (st .k) 1) top x in
+          let kept : Kept (st .k) (st .depth) w w' = one-stays w (st .k) top (st .depth) far 1 x near in
+          let half : x / 2 ≡ st .due = ap (λ (n : ℕ). n / 2) is ∙ flag-half (st .due) (st .elses) in
+          opened s w w' (st .k) (st .depth) (st .depth + 1) x refl kept (one-top w (st .k) top (st .depth) far 1 x near)
+          (st .at) (st .at + 1) (st .k + 1) (bracket ∷ acc) (group (st .due) (st .elses)) (ap groupIn is ∙ group-back (st .due) (st .elses))
+          (gather s w' (st .k) (st .k + 1) bracket acc (omega arith) (refl, one-first w (st .k) top (st .depth) far 1 x near)
+          (acc-kept (st .k) (st .depth) w w' kept s acc (omega (arith, room)) (h .gathered)))
+          (omega arith) (omega arith) deep (h .fits) (omega (arith, h .room, half))
+
+      shallow : ltb (length (groupsIn w (st .depth))) 16 ≡ true
+      shallow = lt-ltb (length (groupsIn w (st .depth))) 16 (rw (many-groups w (st .depth)) deep)
+
+      pub opening-bare : st .due ≡ 0 → openGroup (dueOf (st .due) (st .elses)) (groupsIn w (st .depth)) acc (cursorAt s (st .at))
+          ≡ more (reading (cursorAt s (st .at + 1)) nothing (group 1 false ∷ groupsIn w (st .depth)) (bracket ∷ opens (st .at) bare ∷ acc))
+      unfolding openGroup groupOf groupItems placeAt
+      opening-bare z = rw (shallow, none-due (st .due) (st .elses) z, after-in s (st .at) less)
+
+      pub opening-body : (st .due ≡ 0 → ⊥) → openGroup (dueOf (st .due) (st .elses)) (groupsIn w (st .depth)) acc (cursorAt s (st .at))
+          ≡ more (reading (cursorAt s (st .at + 1)) nothing (group (st .due) (st .elses) ∷ groupsIn w (st .depth)) (bracket ∷ acc))
+      unfolding openGroup groupOf groupItems placeAt
+      opening-body z = rw (shallow, some-due (st .due) (st .elses) z, after-in s (st .at) less)
+
+    pub too-deep : 16 ≤ st .depth → openGroup (dueOf (st .due) (st .elses)) (groupsIn w (st .depth)) acc (cursorAt s (st .at)) ≡ done (refusedAt 5 (st .at))
+    unfolding openGroup placeAt
+    too-deep deep = rw (le-ltb (length (groupsIn w (st .depth))) 16 (rw (many-groups w (st .depth)) deep))
+
+    -- ---- a group ends
+
+    pub ends : 0 < st .depth → (n : ℕ) → n ≡ getD w (length w - st .depth) 0 / 2 → (w' : List ℕ) → Closed (st .k) n w w'
+        → Comes s w' (st .at) (more (reading (cursorAt s (st .at + 1)) nothing (groupsIn w (st .depth - 1)) (closes n acc)))
+        (Step.More (record { at = st .at + 1; k = st .k + n; due = 0; elses = false; depth = st .depth - 1 }))
+    unfolding Comes readingOf dueOf
+    ends pos n is w' c =
+        let half : bodiesIn w (st .depth) ≡ n + bodiesIn w (st .depth - 1) = some-bodies w (st .depth) (λ z. omega (arith, z)) ∙ ap (λ (m : ℕ). m + bodiesIn w (st .depth - 1)) (sym is) in
+        let far : st .k + n + 16 ≤ length w = omega (arith, h .room, h .deep, h .fits .work, h .inside, half) in
+        let kept : Kept (st .k) 16 w w' = closed-kept (st .k) 16 (st .k) n w w' (omega arith) far c in (
+          closes n acc,
+          rw (groups-kept (st .k) 16 w w' kept (st .depth - 1) (omega (arith, h .deep))),
+          record {
+            inside = omega arith;
+            deep = omega (arith, h .deep);
+            gathered = gathered-closes s w' (st .k) n acc (c .inside) (acc-kept (st .k) 16 w w' kept s acc (omega (arith, far)) (h .gathered));
+            room = omega (arith, h .room, half, bodies-kept (st .k) 16 w w' kept (st .depth - 1) (omega (arith, h .deep)));
+            fits = fits-kept (st .k) 16 w w' kept s (h .fits);
+          },
+          omega arith,
+        )
+
+    pub missing-body : (st .due ≡ 0 → ⊥) → closeGroup (dueOf (st .due) (st .elses)) (groupsIn w (st .depth)) acc (cursorAt s (st .at)) ≡ done (refusedAt 3 (st .at))
+    unfolding closeGroup placeAt
+    missing-body z = rw (some-due (st .due) (st .elses) z)
+
+    pub unmatched : st .due ≡ 0 → st .depth ≡ 0 → closeGroup (dueOf (st .due) (st .elses)) (groupsIn w (st .depth)) acc (cursorAt s (st .at)) ≡ done (refusedAt 5 (st .at))
+    unfolding closeGroup placeAt
+    unmatched z d = rw (none-due (st .due) (st .elses) z, no-groups w (st .depth) d)
+
+    module _ (z : st .due ≡ 0) (d : st .depth ≡ 0 → ⊥) where
+      pub closing-plain : (getD w (length w - st .depth) 0 % 2 ≡ 1 → ⊥)
+          → closeGroup (dueOf (st .due) (st .elses)) (groupsIn w (st .depth)) acc (cursorAt s (st .at))
+          ≡ more (reading (cursorAt s (st .at + 1)) nothing (groupsIn w (st .depth - 1)) (closes (getD w (length w - st .depth) 0 / 2) acc))
+      unfolding closeGroup groupEnd groupIn
+      closing-plain e =
+          rw (none-due (st .due) (st .elses) z, some-groups w (st .depth) d, after-in s (st .at) less, ne-eqb (getD w (length w - st .depth) 0 % 2) 1 e)
+
+      pub closing-alone : getD w (length w - st .depth) 0 % 2 ≡ 1 → isElse (cursorAt s (st .at + 1)) ≡ false
+          → closeGroup (dueOf (st .due) (st .elses)) (groupsIn w (st .depth)) acc (cursorAt s (st .at))
+          ≡ more (reading (cursorAt s (st .at + 1)) nothing (groupsIn w (st .depth - 1)) (closes (getD w (length w - st .depth) 0 / 2) acc))
+      unfolding closeGroup groupEnd groupIn
+      closing-alone e f =
+          rw (none-due (st .due) (st .elses) z, some-groups w (st .depth) d, after-in s (st .at) less, eq-eqb (getD w (length w - st .depth) 0 % 2) 1 e, f)
+
+      pub closing-else : (p : ℕ) → getD w (length w - st .depth) 0 % 2 ≡ 1 → isElse (cursorAt s (st .at + 1)) ≡ true → afterElse (cursorAt s (st .at + 1)) ≡ cursorAt s p
+          → closeGroup (dueOf (st .due) (st .elses)) (groupsIn w (st .depth)) acc (cursorAt s (st .at))
+          ≡ elseGroup (getD w (length w - st .depth) 0 / 2) (groupsIn w (st .depth - 1)) acc (cursorAt s p)
+      unfolding closeGroup groupEnd groupIn
+      closing-else p e f g =
+          rw (none-due (st .due) (st .elses) z, some-groups w (st .depth) d, after-in s (st .at) less, eq-eqb (getD w (length w - st .depth) 0 % 2) 1 e, f, g)
+
+  -- ---- ELSE, before p
+
+  module _ (p n : ℕ) where
+    pub else-missing : (nextByte (cursorAt s p) ≡ 40 → ⊥) → elseGroup n (groupsIn w (st .depth - 1)) acc (cursorAt s p) ≡ done (refusedAt 3 p)
+    unfolding elseGroup placeAt
+    else-missing e = rw (not-next 40 (cursorAt s p) e)
+
+    else-there : nextByte (cursorAt s p) ≡ 40 → elseGroup n (groupsIn w (st .depth - 1)) acc (cursorAt s p)
+        ≡ more (reading (cursorAt s (p + 1)) nothing (group n false ∷ groupsIn w (st .depth - 1)) (bracket ∷ otherwise ∷ acc))
+    unfolding elseGroup
+    else-there e = rw (is-next 40 (cursorAt s p) e, after-next s p (rw e (omega arith)))
+
+    pub else-opens : 0 < st .depth → st .at < p → n ≡ getD w (length w - st .depth) 0 / 2 → nextByte (cursorAt s p) ≡ 40
+        → Comes s (set (set (set w (st .k) 3) (st .k + 1) 1) (length w - st .depth) (2 * n)) (st .at) (elseGroup n (groupsIn w (st .depth - 1)) acc (cursorAt s p))
+        (Step.More (record { at = p + 1; k = st .k + 2; due = 0; elses = false; depth = st .depth }))
+    unfolding ItemAt flag
+    else-opens pos after is e =
+        let within : p < length s = next-inside s p (rw e (omega arith)) in
+        let half : bodiesIn w (st .depth) ≡ n + bodiesIn w (st .depth - 1) = some-bodies w (st .depth) (λ z. omega (arith, z)) ∙ ap (λ (m : ℕ). m + bodiesIn w (st .depth - 1)) (sym is) in
+        let room = free s w st acc h in
+        let top : ℕ = length w - st .depth in
+        let far : top + (st .depth - 1) < length w = omega (arith, room, h .deep) in
+        let near : st .k + 1 < top = omega (arith, room, h .deep) in
+        let w' : List ℕ = set (set (set w (st .k) 3) (st .k + 1) 1) top (2 * n) in
+        let kept : Kept (st .k) (st .depth - 1) w w' = two-stay w (st .k) top (st .depth - 1) far 3 1 (2 * n) near in
+        let e2 : st .k + 2 ≡ st .k + 1 + 1 = omega arith in
+        let zero-flag : 2 * n ≡ 2 * n + flag false = omega arith in
+        rw (else-there e)
+        (opened s w w' (st .k) (st .depth - 1) (st .depth) (2 * n) (omega arith) kept (two-top w (st .k) top (st .depth - 1) far 3 1 (2 * n) near)
+        (st .at) (p + 1) (st .k + 2) (bracket ∷ otherwise ∷ acc) (group n false) (ap groupIn zero-flag ∙ group-back n false)
+        (gather s w' (st .k + 1) (st .k + 2) bracket (otherwise ∷ acc) (omega arith) (e2, two-second w (st .k) top (st .depth - 1) far 3 1 (2 * n) near)
+        (gather s w' (st .k) (st .k + 1) otherwise acc (omega arith) (refl, two-first w (st .k) top (st .depth - 1) far 3 1 (2 * n) near)
+        (acc-kept (st .k) (st .depth - 1) w w' kept s acc (omega (arith, room)) (h .gathered))))
+        (omega arith) (omega arith) (omega (arith, h .deep)) (h .fits) (omega (arith, h .room, half)))

@@ -1,0 +1,220 @@
+-- One round: what each answer comes to in the definitions. Assumes nothing.
+use mathlib.Core.Path.{_≡_, refl, sym, ap, _∙_, subst}
+use mathlib.Core.Logic.{_⊎_, inl, inr}
+use mathlib.Core.Bool.{Bool, true, false, cond}
+use mathlib.Core.List.{List, [], _∷_, reverse}
+use Prim.Native.Nat.{ℕ, zero, suc, _+_, _-_, _*_, _/_, _%_, _≤_, _<_}
+use native.Mathlib.Nat.{not-suc-le-zero}
+use native.Mathlib.Numerals.{add-one, sub-one}
+use native.Mathlib.Omega.{arith}
+use lib.ListN.{length, getD, set, length-set}
+use lib.Seq.{getD-set-same, getD-set-other}
+use lib.Dec.{eqb, ltb}
+use borrow.Author.Tests.{lt-ltb, le-ltb, eq-eqb, ne-eqb}
+use Rattle.definitions.specs.Control.{Item, opens, bare, bracket, otherwise, lineEnd, close}
+use Rattle.definitions.specs.Reader.{Cursor, cursor, Got, got, refused, afterByte, placeAt}
+use Rattle.definitions.specs.Commands.{Decoded, whole, prefix}
+use Rattle.definitions.specs.Script.{Due, nothing, body, Group, group, Reading, reading, items, refusedAt, Next, more, done, bodies, closes, decoded, separator, lineItems, scriptEnd, openGroup, groupItems, groupOf}
+use Rattle.reader.specs.Places.{cursorAt}
+use Rattle.script.specs.Words.{ItemAt, Gathered}
+use Rattle.script.specs.Reading.{dueOf, flag, groupIn, groupsIn, bodiesIn, readingOf, Fits, Stands, Kept, Closed, Laid, KeptBy, CommandIs, Written, Comes}
+use Rattle.script.specs.declared.State.{State}
+use Rattle.script.specs.declared.Step.{Step}
+use Rattle.script.specs.declared.Command.{Command}
+use Rattle.script.proofs.Keeping.{gather, in-order, acc-kept, groups-kept, bodies-kept, fits-kept, free, stands-kept, kept-all, kept-set, item-kept}
+use Rattle.script.proofs.Closing.{closed-kept, gathered-closes}
+
+-- ---- what is due, and the groups
+
+pub none-due : (n : ℕ) (e : Bool) → n ≡ 0 → dueOf n e ≡ nothing
+unfolding dueOf
+none-due n e z = rw z
+
+pub some-due : (n : ℕ) (e : Bool) → (n ≡ 0 → ⊥) → dueOf n e ≡ body n e
+unfolding dueOf
+some-due zero e z = absurd (z refl)
+some-due (suc n) e z = refl
+
+pub bodies-due : (n : ℕ) (e : Bool) → bodies (dueOf n e) ≡ n
+unfolding dueOf bodies
+bodies-due zero e = refl
+bodies-due (suc n) e = refl
+
+pub no-groups : (w : List ℕ) (d : ℕ) → d ≡ 0 → groupsIn w d ≡ []
+unfolding groupsIn
+no-groups w d z = rw z
+
+pub some-groups : (w : List ℕ) (d : ℕ) → (d ≡ 0 → ⊥) → groupsIn w d ≡ groupIn (getD w (length w - d) 0) ∷ groupsIn w (d - 1)
+unfolding groupsIn
+some-groups w zero z = absurd (z refl)
+some-groups w (suc d) z = rw sub-one
+
+pub some-bodies : (w : List ℕ) (d : ℕ) → (d ≡ 0 → ⊥) → bodiesIn w d ≡ getD w (length w - d) 0 / 2 + bodiesIn w (d - 1)
+unfolding bodiesIn
+some-bodies w zero z = absurd (z refl)
+some-bodies w (suc d) z = rw sub-one
+
+pub no-bodies : (w : List ℕ) (d : ℕ) → d ≡ 0 → bodiesIn w d ≡ 0
+unfolding bodiesIn
+no-bodies w d z = rw z
+
+pub many-groups : (w : List ℕ) (d : ℕ) → length (groupsIn w d) ≡ d
+unfolding groupsIn
+many-groups w zero = refl
+many-groups w (suc d) = ap suc (many-groups w d)
+
+pub refusal-comes : (s w : List ℕ) (at : ℕ) (x : Next) (n p : ℕ) → x ≡ done (refusedAt n p) → Comes s w at x (Step.Refused n p)
+unfolding Comes
+refusal-comes s w at x n p e = e
+
+-- ---- separators and the end
+
+module _ (s w : List ℕ) (st : State) (acc : List Item) (h : Stands s w st acc) where
+  pub separator-missing : (st .due ≡ 0 → ⊥) → (acc' : List Item) (c : Cursor)
+      → separator (dueOf (st .due) (st .elses)) (groupsIn w (st .depth)) acc' (st .at) c ≡ done (refusedAt 3 (st .at))
+  unfolding separator
+  separator-missing z acc' c = rw (some-due (st .due) (st .elses) z)
+
+  separator-more : st .due ≡ 0 → (acc' : List Item) (c : Cursor)
+      → separator (dueOf (st .due) (st .elses)) (groupsIn w (st .depth)) acc' (st .at) c ≡ more (reading c (dueOf (st .due) (st .elses)) (groupsIn w (st .depth)) acc')
+  unfolding separator
+  separator-more z acc' c = rw (none-due (st .due) (st .elses) z)
+
+  pub passed : (next : ℕ) → st .due ≡ 0 → st .at < next → next ≤ length s
+      → Comes s w (st .at) (separator (dueOf (st .due) (st .elses)) (groupsIn w (st .depth)) acc (st .at) (cursorAt s next))
+      (Step.More (record { at = next; k = st .k; due = st .due; elses = st .elses; depth = st .depth }))
+  unfolding Comes readingOf
+  passed next z far within = (
+    acc,
+    separator-more z acc (cursorAt s next),
+    record { inside = within; deep = h .deep; gathered = h .gathered; room = omega (arith, h .room); fits = h .fits },
+    far,
+  )
+
+  in-group : (d : ℕ) (acc' : List Item) → (d ≡ 0 → ⊥) → lineItems (groupsIn w d) acc' ≡ acc'
+  unfolding lineItems
+  in-group d acc' z = rw (some-groups w d z)
+
+  outside : (d : ℕ) (acc' : List Item) → d ≡ 0 → lineItems (groupsIn w d) acc' ≡ lineEnd ∷ acc'
+  unfolding lineItems
+  outside d acc' z = rw (no-groups w d z)
+
+  pub line-inside : st .due ≡ 0 → (st .depth ≡ 0 → ⊥) → st .at < length s
+      → Comes s w (st .at) (separator (dueOf (st .due) (st .elses)) (groupsIn w (st .depth)) (lineItems (groupsIn w (st .depth)) acc) (st .at) (cursorAt s (st .at + 1)))
+      (Step.More (record { at = st .at + 1; k = st .k; due = st .due; elses = st .elses; depth = st .depth }))
+  line-inside z d less = rw (in-group (st .depth) acc d) (passed (st .at + 1) z (omega arith) (omega arith))
+
+  pub line-outside : st .due ≡ 0 → st .depth ≡ 0 → st .at < length s
+      → Comes s (set w (st .k) 0) (st .at) (separator (dueOf (st .due) (st .elses)) (groupsIn w (st .depth)) (lineItems (groupsIn w (st .depth)) acc) (st .at) (cursorAt s (st .at + 1)))
+      (Step.More (record { at = st .at + 1; k = st .k + 1; due = st .due; elses = st .elses; depth = st .depth }))
+  unfolding Comes readingOf ItemAt
+  line-outside z d less =
+      let far = free s w st acc h in
+      let kept : Kept (st .k) 16 w (set w (st .k) 0) = kept-set (st .k) 16 (st .k) 0 w w (omega arith) (omega (arith, far)) (kept-all (st .k) 16 w) in (
+        lineEnd ∷ acc,
+        separator-more z (lineItems (groupsIn w (st .depth)) acc) (cursorAt s (st .at + 1))
+            ∙ ap (λ (l : List Item). more (reading (cursorAt s (st .at + 1)) (dueOf (st .due) (st .elses)) (groupsIn w (st .depth)) l)) (outside (st .depth) acc d)
+            ∙ ap (λ (g : List Group). more (reading (cursorAt s (st .at + 1)) (dueOf (st .due) (st .elses)) g (lineEnd ∷ acc))) (sym (groups-kept (st .k) 16 w (set w (st .k) 0) kept (st .depth) (h .deep))),
+        record {
+          inside = omega arith;
+          deep = h .deep;
+          gathered = gather s (set w (st .k) 0) (st .k) (st .k + 1) lineEnd acc (omega arith) (refl, getD-set-same w (st .k) 0 0 (omega (arith, far)))
+              (acc-kept (st .k) 16 w (set w (st .k) 0) kept s acc (omega (arith, far)) (h .gathered));
+          room = omega (arith, h .room, bodies-kept (st .k) 16 w (set w (st .k) 0) kept (st .depth) (h .deep));
+          fits = fits-kept (st .k) 16 w (set w (st .k) 0) kept s (h .fits);
+        },
+        omega arith,
+      )
+
+  pub end-missing : (st .due ≡ 0 → ⊥) → done (scriptEnd (dueOf (st .due) (st .elses)) (groupsIn w (st .depth)) acc (st .at)) ≡ done (refusedAt 3 (st .at))
+  unfolding scriptEnd
+  end-missing z = rw (some-due (st .due) (st .elses) z)
+
+  pub end-open : st .due ≡ 0 → (st .depth ≡ 0 → ⊥) → done (scriptEnd (dueOf (st .due) (st .elses)) (groupsIn w (st .depth)) acc (st .at)) ≡ done (refusedAt 5 (st .at))
+  unfolding scriptEnd
+  end-open z d = rw (none-due (st .due) (st .elses) z, some-groups w (st .depth) d)
+
+  pub end-done : st .due ≡ 0 → st .depth ≡ 0 → Comes s w (st .at) (done (scriptEnd (dueOf (st .due) (st .elses)) (groupsIn w (st .depth)) acc (st .at))) (Step.Done (st .k))
+  unfolding Comes scriptEnd
+  end-done z d = (reverse acc, rw (none-due (st .due) (st .elses) z, no-groups w (st .depth) d), in-order s w (st .k) acc (h .gathered), omega (arith, free s w st acc h))
+
+  -- ---- a command that was read
+
+  module _ (x : Got Decoded) where
+    whole-comes : (next m : ℕ) (w' : List ℕ) → CommandIs s w (st .at) (st .k) x (Command.Whole next m) → Closed m (st .due) w w'
+        → Comes s w' (st .at) (decoded (dueOf (st .due) (st .elses)) (groupsIn w (st .depth)) acc x)
+        (Step.More (record { at = next; k = m + st .due; due = 0; elses = false; depth = st .depth }))
+    unfolding CommandIs Comes readingOf dueOf decoded
+    whole-comes next m w' (i, e, l) c =
+        let far : m + st .due + 16 ≤ length w = omega (arith, h .room, h .deep, h .fits .work, h .inside, l .two, l .inside, l .passed) in
+        let kept : Kept m 16 w w' = closed-kept m 16 m (st .due) w w' (omega arith) far c in (
+          closes (st .due) (i ∷ acc),
+          rw (e, bodies-due (st .due) (st .elses), groups-kept m 16 w w' kept (st .depth) (h .deep)),
+          record {
+            inside = l .inside;
+            deep = h .deep;
+            gathered = gathered-closes s w' m (st .due) (i ∷ acc) (c .inside)
+                (acc-kept m 16 w w' kept s (i ∷ acc) (omega (arith, far)) (gather s w (st .k) m i acc (l .forth) (l .item) (h .gathered)));
+            room = omega (arith, h .room, l .two, l .passed, l .inside, bodies-kept m 16 w w' kept (st .depth) (h .deep));
+            fits = fits-kept m 16 w w' kept s (h .fits);
+          },
+          l .passed,
+        )
+
+    prefix-comes : (b : Bool) (next m : ℕ) → CommandIs s w (st .at) (st .k) x (Command.Prefix b next m)
+        → Comes s w (st .at) (decoded (dueOf (st .due) (st .elses)) (groupsIn w (st .depth)) acc x)
+        (Step.More (record { at = next; k = m; due = st .due + 1; elses = b; depth = st .depth }))
+    unfolding CommandIs Comes readingOf dueOf decoded
+    prefix-comes b next m (i, e, l) = (
+      i ∷ acc,
+      rw (e, bodies-due (st .due) (st .elses), add-one (st .due)),
+      record {
+        inside = l .inside;
+        deep = h .deep;
+        gathered = gather s w (st .k) m i acc (l .forth) (l .item) (h .gathered);
+        room = omega (arith, h .room, l .two, l .passed, l .inside);
+        fits = h .fits;
+      },
+      l .passed,
+    )
+
+  closes-room : (next m : ℕ) (x : Got Decoded) → CommandIs s w (st .at) (st .k) x (Command.Whole next m) → m + st .due ≤ length w
+  unfolding CommandIs
+  closes-room next m x (i, e, l) = omega (arith, h .room, h .deep, h .fits .work, h .inside, l .two, l .inside, l .passed)
+
+module _ (s w w' : List ℕ) (st : State) (acc : List Item) (x : Got Decoded) (c : Command) (h : Stands s w st acc) (wr : Written s w w' (st .at) (st .k) x c) where
+  is-now : {r : Command} → c ≡ r → CommandIs s w' (st .at) (st .k) x r
+  is-now e = subst (λ (r : Command). CommandIs s w' (st .at) (st .k) x r) e (wr .is)
+
+  groups-now : Kept (st .k) 16 w w' → groupsIn w' (st .depth) ≡ groupsIn w (st .depth)
+  groups-now k = groups-kept (st .k) 16 w w' k (st .depth) (h .deep)
+
+  kept-whole : (next m : ℕ) → c ≡ Command.Whole next m → Kept (st .k) 16 w w'
+  unfolding KeptBy
+  kept-whole next m e = rw e at (wr .kept)
+
+  kept-prefix : (b : Bool) (next m : ℕ) → c ≡ Command.Prefix b next m → Kept (st .k) 16 w w'
+  unfolding KeptBy
+  kept-prefix b next m e = rw e at (wr .kept)
+
+  pub finish-room : (next m : ℕ) → c ≡ Command.Whole next m → m + st .due ≤ length w'
+  finish-room next m e = closes-room s w' st acc (stands-kept s w w' st acc (kept-whole next m e) h) next m x (is-now e)
+
+  pub finish-whole : (next m : ℕ) (w'' : List ℕ) → c ≡ Command.Whole next m → Closed m (st .due) w' w''
+      → Comes s w'' (st .at) (decoded (dueOf (st .due) (st .elses)) (groupsIn w (st .depth)) acc x)
+      (Step.More (record { at = next; k = m + st .due; due = 0; elses = false; depth = st .depth }))
+  finish-whole next m w'' e closed =
+      subst (λ (g : List Group). Comes s w'' (st .at) (decoded (dueOf (st .due) (st .elses)) g acc x) (Step.More (record { at = next; k = m + st .due; due = 0; elses = false; depth = st .depth })))
+      (groups-now (kept-whole next m e)) (whole-comes s w' st acc (stands-kept s w w' st acc (kept-whole next m e) h) x next m w'' (is-now e) closed)
+
+  pub finish-prefix : (b : Bool) (next m : ℕ) → c ≡ Command.Prefix b next m
+      → Comes s w' (st .at) (decoded (dueOf (st .due) (st .elses)) (groupsIn w (st .depth)) acc x)
+      (Step.More (record { at = next; k = m; due = st .due + 1; elses = b; depth = st .depth }))
+  finish-prefix b next m e =
+      subst (λ (g : List Group). Comes s w' (st .at) (decoded (dueOf (st .due) (st .elses)) g acc x) (Step.More (record { at = next; k = m; due = st .due + 1; elses = b; depth = st .depth })))
+      (groups-now (kept-prefix b next m e)) (prefix-comes s w' st acc (stands-kept s w w' st acc (kept-prefix b next m e) h) x b next m (is-now e))
+
+  pub finish-refused : (n p : ℕ) → c ≡ Command.Refused n p
+      → Comes s w' (st .at) (decoded (dueOf (st .due) (st .elses)) (groupsIn w (st .depth)) acc x) (Step.Refused n p)
+  unfolding CommandIs Comes decoded
+  finish-refused n p e = let is : x ≡ refused n p = is-now e in rw is

@@ -1,0 +1,152 @@
+-- Commands with qualified strings in words. Assumes nothing.
+use mathlib.Core.Path.{_≡_, refl, sym, ap, _∙_, subst}
+use mathlib.Core.Bool.{Bool, true, false}
+use mathlib.Core.List.{List, [], _∷_}
+use Prim.Native.Nat.{ℕ, zero, suc, _+_, _-_, _*_, _≤_, _<_}
+use native.Mathlib.Omega.{arith}
+use lib.ListN.{length, take, drop, getD, set, length-set}
+use lib.Seq.{sets, length-sets, getD-set-same, getD-set-other}
+use Rattle.definitions.specs.Matching.{Qualified, qualified}
+use Rattle.definitions.specs.Search.{Search, one}
+use Rattle.definitions.specs.Edit.{Change, alter, point}
+use Rattle.definitions.specs.Control.{Item, simple}
+use Rattle.definitions.specs.Reader.{Cursor, Got, got, refused, andThen}
+use Rattle.definitions.specs.Strings.{Pair, pair, qualifiedString, twoStrings}
+use Rattle.definitions.specs.Commands.{Decoded, whole, alters, points, alterOp, decode}
+use Rattle.matching.specs.Quals.{qualifiersOf}
+use Rattle.matching.specs.Words.{stringWords, Encodes, Writable}
+use Rattle.matching.specs.declared.Quals.{Quals}
+use Rattle.matching.proofs.Keeping.{string-encodes, kept-behind}
+use Rattle.reader.specs.Places.{cursorAt}
+use Rattle.strings.specs.Answers.{StringAt, Quoted, PairAt, Paired}
+use Rattle.strings.specs.declared.OneString.{OneString}
+use Rattle.strings.specs.declared.TwoStrings.{TwoStrings}
+use Rattle.strings.proofs.Callers.{string-not, string-at, string-is, pair-not, pair-at, pair-is, string-few, string-writable}
+use Rattle.script.specs.Words.{head, changeKind, pointKind, OpAt, ItemAt}
+use Rattle.script.specs.Reading.{Room, Laid, Kept, KeptBy, CommandIs, Written}
+use Rattle.script.specs.declared.Command.{Command}
+use Rattle.script.proofs.Keeping.{kept-set}
+use Rattle.script.proofs.Items.{one-stays, one-is, refused-written}
+use Rattle.script.proofs.Inserting.{string-in}
+
+-- ---- words stored in a run
+
+sets-below : (vs l : List ℕ) (i j : ℕ) → j < i → getD (sets l i vs) j 0 ≡ getD l j 0
+sets-below [] l i j h = refl
+sets-below (a ∷ vs) l i j h = sets-below vs (set l i a) (suc i) j (omega arith) ∙ getD-set-other l i j a 0 (λ e. omega (arith, e))
+
+kept-sets : (vs : List ℕ) (k d i : ℕ) (w w' : List ℕ) → k ≤ i → i + length vs + d ≤ length w → Kept k d w w' → Kept k d w (sets w' i vs)
+kept-sets [] k d i w w' le room h = h
+kept-sets (a ∷ vs) k d i w w' le room h = kept-sets vs k d (suc i) w (set w' i a) (omega arith) (omega arith) (kept-set k d i a w w' le (omega arith) h)
+
+module _ (s w : List ℕ) (place at k : ℕ) (r : Room s w place at k) where
+  -- ---- one string, from the second word on
+
+  module _ (q : Quals) (start end next : ℕ) (stands : StringAt s at q start end next) where
+    abbrev written : List ℕ
+    written = stringWords (qualifiersOf q) start (end - start)
+
+    pub string-room : k + 1 + length (stringWords (qualifiersOf q) start (end - start)) + 47 ≤ length w
+    string-room =
+        omega (arith, r .room, r .fits .work, r .named, r .inside, string-few s at q start end next stands, stands .after, stands .ordered, stands .ends, stands .within)
+
+    pub string-small : k + 1 + length (stringWords (qualifiersOf q) start (end - start)) ≤ 40000
+    string-small =
+        omega (arith, r .room, r .fits .small, r .named, r .inside, string-few s at q start end next stands, stands .after, stands .ordered, stands .ends, stands .within)
+
+    pub can-write : Writable q start (end - start)
+    can-write = string-writable s at q start end next stands (r .fits .form)
+
+    module _ (v : ℕ) where
+      abbrev after : List ℕ
+      after = sets (set w k v) (k + 1) written
+
+      pub string-stays : Kept k 16 w (sets (set w k v) (k + 1) (stringWords (qualifiersOf q) start (end - start)))
+      string-stays = kept-sets written k 16 (k + 1) w (set w k v) (omega arith) (omega (arith, string-room)) (one-stays w k v (omega (arith, string-room)))
+
+      pub string-head : getD (sets (set w k v) (k + 1) (stringWords (qualifiersOf q) start (end - start))) k 0 ≡ v
+      string-head = sets-below written (set w k v) (k + 1) k (omega arith) ∙ one-is w k v (omega (arith, string-room))
+
+      pub string-there : Encodes s (sets (set w k v) (k + 1) (stringWords (qualifiersOf q) start (end - start))) (k + 1) (k + 1 + length (stringWords (qualifiersOf q) start (end - start)))
+          (one (qualified (qualifiersOf q) (take (end - start) (drop start s))))
+      string-there =
+          string-encodes s (set w k v) (k + 1) q start (end - start) can-write (omega (arith, stands .ordered, stands .ends, stands .within))
+          (rw (length-set w k v) (omega (arith, string-room)))
+
+  -- ---- PA and PB
+
+  module _ (after : Bool) (x : OneString) (read : Quoted s at (qualifiedString false (cursorAt s at)) x) where
+    pub points-refused : (n p : ℕ) → x ≡ OneString.Refused n p → Written s w w place k (decode false place (points after) (cursorAt s at)) (Command.Refused n p)
+    unfolding decode andThen
+    points-refused n p is =
+        refused-written s w w place k (decode false place (points after) (cursorAt s at)) n p
+        (ap (λ (y : Got Qualified). andThen y (λ q c₁. got (whole (simple place (point after q))) c₁)) (string-not s at (qualifiedString false (cursorAt s at)) x read n p is))
+
+    pub points-written : (q : Quals) (start end next : ℕ) → x ≡ OneString.Next q start end next → (v m : ℕ) (w' : List ℕ) → v ≡ head (pointKind after) place
+        → w' ≡ sets (set w k v) (k + 1) (stringWords (qualifiersOf q) start (end - start)) → m ≡ k + 1 + length (stringWords (qualifiersOf q) start (end - start))
+        → Written s w w' place k (decode false place (points after) (cursorAt s at)) (Command.Whole next m)
+    unfolding decode andThen ItemAt OpAt CommandIs KeptBy
+    points-written q start end next is v m w' hd we me =
+        let stands = string-at s at (qualifiedString false (cursorAt s at)) x read q start end next is in
+        let few = string-few s at q start end next stands in
+        let l : Qualified = qualified (qualifiersOf q) (take (end - start) (drop start s)) in
+        rw (we, me) (record {
+          kept = string-stays q start end next stands v;
+          is = (
+            simple place (point after l),
+            ap (λ (y : Got Qualified). andThen y (λ z c₁. got (whole (simple place (point after z))) c₁)) (string-is s at (qualifiedString false (cursorAt s at)) x read q start end next is),
+            record {
+              passed = omega (arith, r .named, stands .after, stands .ordered, stands .ends);
+              inside = stands .within;
+              forth = omega arith;
+              two = omega (arith, r .named, few, stands .after, stands .ordered, stands .ends, stands .within);
+              item = (string-head q start end next stands v ∙ hd, string-there q start end next stands v);
+            },
+          );
+        })
+
+  -- ---- A, B, E, AP, BP, EP
+
+  module _ (change : Change) (pointing : Bool) (x : TwoStrings) (read : Paired s at (twoStrings (cursorAt s at)) x) where
+    pub alters-refused : (n p : ℕ) → x ≡ TwoStrings.Refused n p → Written s w w place k (decode false place (alters change pointing) (cursorAt s at)) (Command.Refused n p)
+    unfolding decode andThen
+    alters-refused n p is =
+        refused-written s w w place k (decode false place (alters change pointing) (cursorAt s at)) n p
+        (ap (λ (y : Got Pair). andThen y (λ q c₁. got (whole (simple place (alterOp change pointing q))) c₁)) (pair-not s at (twoStrings (cursorAt s at)) x read n p is))
+
+    pub alters-written : (q : Quals) (start end second second-end next : ℕ) → x ≡ TwoStrings.Next q start end second second-end next → (v m u : ℕ) (w' : List ℕ)
+        → v ≡ head (changeKind change pointing) place
+        → w' ≡ sets (set w k v) (k + 1) (stringWords (qualifiersOf q) start (end - start)) → m ≡ k + 1 + length (stringWords (qualifiersOf q) start (end - start))
+        → u ≡ second + 32768 * (second-end - second)
+        → Written s w (set w' m u) place k (decode false place (alters change pointing) (cursorAt s at)) (Command.Whole next (m + 1))
+    unfolding decode andThen ItemAt OpAt CommandIs alterOp KeptBy
+    alters-written q start end second second-end next is v m u w' hd we me wd =
+        let stands = pair-at s at (twoStrings (cursorAt s at)) x read q start end second second-end next is in
+        let few = string-few s at q start end second (stands .first) in
+        let room = string-room q start end second (stands .first) in
+        let l : Qualified = qualified (qualifiersOf q) (take (end - start) (drop start s)) in
+        let n : ℕ = k + 1 + length (stringWords (qualifiersOf q) start (end - start)) in
+        let w2 : List ℕ = sets (set w k v) (k + 1) (stringWords (qualifiersOf q) start (end - start)) in
+        let inside : n < length w2 = rw (length-sets (set w k v) (k + 1) (stringWords (qualifiersOf q) start (end - start)), length-set w k v) (omega (arith, room)) in
+        let there = string-there q start end second (stands .first) v in
+        rw (we, me) (record {
+          kept = kept-set k 16 n u w w2 (omega arith) (omega (arith, room)) (string-stays q start end second (stands .first) v);
+          is = (
+            simple place (alter change pointing l (take (second-end - second) (drop second s))),
+            ap (λ (y : Got Pair). andThen y (λ z c₁. got (whole (simple place (alterOp change pointing z))) c₁))
+                (pair-is s at (twoStrings (cursorAt s at)) x read q start end second second-end next is),
+            record {
+              passed = omega (arith, r .named, stands .first .after, stands .first .ordered, stands .first .ends, stands .ordered, stands .ends);
+              inside = stands .within;
+              forth = omega arith;
+              two = omega (arith, r .named, few, stands .first .after, stands .first .ordered, stands .first .ends, stands .ordered, stands .ends, stands .within);
+              item = (
+                n,
+                refl,
+                getD-set-other w2 n k u 0 (λ e. omega (arith, e)) ∙ string-head q start end second (stands .first) v ∙ hd,
+                kept-behind s w2 (k + 1) n (one l) there n u (omega arith),
+                rw (getD-set-same w2 n u 0 inside) (string-in s u second second-end (stands .ordered) (omega (arith, stands .ends, stands .within)) wd),
+              );
+            },
+          );
+        })

@@ -1,0 +1,197 @@
+-- Commands with a search expression in words. Assumes nothing.
+use mathlib.Core.Path.{_≡_, refl, sym, ap, _∙_, subst}
+use mathlib.Core.Bool.{Bool, true, false}
+use mathlib.Core.List.{List, [], _∷_, _++_}
+use Prim.Native.Nat.{ℕ, zero, suc, _+_, _-_, _*_, _≤_, _<_}
+use native.Mathlib.Omega.{arith}
+use lib.ListN.{length, take, drop, getD, set, length-set, length-append, length-drop, List·getD-append}
+use lib.Seq.{length-take-le, getD-take, getD-drop, getD-append-add}
+use Rattle.definitions.specs.Search.{Search}
+use Rattle.definitions.specs.Edit.{Test, is, isNot}
+use Rattle.definitions.specs.Control.{Seek, Item, seek, opens, branch, loop}
+use Rattle.definitions.specs.Reader.{Cursor, Got, got, refused, andThen}
+use Rattle.definitions.specs.Strings.{searchExpression}
+use Rattle.definitions.specs.Commands.{Decoded, whole, prefix, seeks, branches, loops, skipThen, testOf, decode}
+use Rattle.matching.specs.Words.{Encodes}
+use Rattle.matching.proofs.Running.{forward}
+use Rattle.matching.proofs.Keeping.{kept-append, kept-ahead}
+use Rattle.reader.specs.Places.{cursorAt}
+use Rattle.reader.specs.Shapes.{seekOf}
+use Rattle.searches.specs.Parsing.{Room as SearchRoom, Written as SearchWritten, Parsed}
+use Rattle.searches.specs.declared.Parse.{Parse}
+use Rattle.script.specs.Words.{head, seekKind, SearchAt, OpenerAt, ItemAt}
+use Rattle.script.specs.Reading.{Room, Laid, Kept, KeptBy, CommandIs, Written}
+use Rattle.script.specs.Searches.{branchKind, loopKind, Found, Searched}
+use Rattle.script.specs.declared.Command.{Command}
+use Rattle.script.proofs.Keeping.{kept-set}
+use Rattle.script.proofs.Items.{first-is, second-is, refused-written}
+
+module _ (s w : List ℕ) (place at k : ℕ) (r : Room s w place at k) where
+  pub search-room : SearchRoom s (take (length w - 16) w) at (k + 2)
+  search-room =
+      let len : length (take (length w - 16) w) ≡ length w - 16 = length-take-le (length w - 16) w (omega arith) in
+      record {
+        form = r .fits .form;
+        inside = r .inside;
+        enough = omega (arith, len, r .room, r .named, r .inside, r .fits .work);
+        fits = omega (arith, r .room, r .named, r .inside, r .fits .small);
+      }
+
+  -- the search was written before the last 16 words
+  module _ (ys : List ℕ) (same : length ys ≡ length (take (length w - 16) w)) where
+    count : length ys ≡ length w - 16
+    count = same ∙ length-take-le (length w - 16) w (omega arith)
+
+    whole-length : length (ys ++ drop (length w - 16) w) ≡ length w
+    whole-length = length-append ys (drop (length w - 16) w) ∙ omega (arith, count, length-drop (length w - 16) w, r .fits .work)
+
+    high : (j : ℕ) → length w ≤ j + 16 → getD (ys ++ drop (length w - 16) w) j 0 ≡ getD w j 0
+    high j far =
+        let e : j ≡ length ys + (j - (length w - 16)) = omega (arith, count, r .fits .work) in
+        let f : length w - 16 + (j - (length w - 16)) ≡ j = omega (arith, r .fits .work) in
+        ap (λ (i : ℕ). getD (ys ++ drop (length w - 16) w) i 0) e ∙ getD-append-add ys (drop (length w - 16) w) (j - (length w - 16)) 0
+        ∙ getD-drop (length w - 16) w (j - (length w - 16)) 0 ∙ ap (λ (i : ℕ). getD w i 0) f
+
+    module _ (kept : take (k + 2) ys ≡ take (k + 2) (take (length w - 16) w)) where
+      near : k + 2 + 46 ≤ length w
+      near = omega (arith, r .room, r .named, r .inside, r .fits .work)
+
+      low : (j : ℕ) → j < k + 2 → getD (ys ++ drop (length w - 16) w) j 0 ≡ getD w j 0
+      low j less =
+          List·getD-append ys (drop (length w - 16) w) 0 j (omega (arith, count, near)) ∙ sym (getD-take (k + 2) ys j 0 less)
+          ∙ ap (λ (l : List ℕ). getD l j 0) kept ∙ getD-take (k + 2) (take (length w - 16) w) j 0 less ∙ getD-take (length w - 16) w j 0 (omega (arith, near))
+
+      stays : Kept k 16 w (ys ++ drop (length w - 16) w)
+      stays = record { same-length = whole-length; below = λ j less. low j (omega arith); top = high }
+
+      pub search-found : (next m v first : ℕ) (x : ℕ → Got Search) → v ≡ first → SearchWritten s (take (length w - 16) w) ys at (k + 2) 0 x next m
+          → Found s w (set (set (ys ++ drop (length w - 16) w) k v) (k + 1) m) at k first next m (x 0)
+      unfolding SearchAt
+      search-found next m v first x hd wr =
+          let w1 : List ℕ = ys ++ drop (length w - 16) w in
+          let fwd = forward s ys (k + 2) m (wr .search) (wr .encodes) .0 in
+          let room : k + 17 < length w1 = omega (arith, whole-length, near) in
+          record {
+            search = wr .search;
+            is = wr .is 0 (omega arith);
+            lies = (
+              first-is w1 k v m room ∙ hd,
+              second-is w1 k v m room,
+              kept-ahead s (set w1 k v) (k + 2) m (wr .search)
+                  (kept-ahead s w1 (k + 2) m (wr .search) (kept-append s ys (k + 2) m (wr .search) (wr .encodes) (drop (length w - 16) w)) k v (omega arith)) (k + 1) m (omega arith),
+            );
+            kept = kept-set k 16 (k + 1) m w (set w1 k v) (omega arith) (omega (arith, near)) (kept-set k 16 k v w w1 (omega arith) (omega (arith, near)) stays);
+            forth = omega (arith, fwd);
+            passed = omega (arith, wr .after);
+            inside = wr .within;
+            two = omega (arith, wr .room);
+          }
+
+      pub search-small : (next m : ℕ) (x : ℕ → Got Search) → SearchWritten s (take (length w - 16) w) ys at (k + 2) 0 x next m → m ≤ 40000
+      search-small next m x wr = omega (arith, wr .room, wr .within, r .room, r .named, r .inside, r .fits .small)
+
+-- ---- the answers, taken apart
+
+module _ (s w w' : List ℕ) (at k first : ℕ) (x : Got Search) (a : Parse) (h : Searched s w w' at k first x a) where
+  pub found-next : (next m : ℕ) → a ≡ Parse.Next next m → Found s w w' at k first next m x
+  unfolding Searched
+  found-next next m e = rw e at h
+
+  pub found-refused : (n p : ℕ) → a ≡ Parse.Refused n p → x ≡ refused n p
+  unfolding Searched
+  found-refused n p e = rw e at h
+
+pub searched-next : (s w w' : List ℕ) (at k first : ℕ) (x : Got Search) (a : Parse) (next m : ℕ) → a ≡ Parse.Next next m → Found s w w' at k first next m x → Searched s w w' at k first x a
+unfolding Searched
+searched-next s w w' at k first x a next m e h = rw e h
+
+pub searched-refused : (s w w' : List ℕ) (at k first : ℕ) (x : Got Search) (a : Parse) (n p : ℕ) → a ≡ Parse.Refused n p → x ≡ refused n p → Searched s w w' at k first x a
+unfolding Searched
+searched-refused s w w' at k first x a n p e h = rw e h
+
+-- ---- F, BF, DF; IF, UL; WH, UT
+
+module _ (s w w' : List ℕ) (place at k : ℕ) (r : Room s w place at k) (first : ℕ) (a : Parse)
+    (h : Searched s w w' at k first (searchExpression (cursorAt s at)) a) where
+  module _ (next m : ℕ) (e : a ≡ Parse.Next next m) where
+    pub found : Found s w w' at k first next m (searchExpression (cursorAt s at))
+    found = found-next s w w' at k first (searchExpression (cursorAt s at)) a h next m e
+
+    laid : (i : Item) (after due : ℕ) → place + 1 + due ≤ at → due ≤ 1 → next ≤ after → after ≤ length s → ItemAt s w' k m i → Laid s w' place k after m due i
+    laid i after due long le from to it =
+        let f = found in
+        record {
+          passed = omega (arith, r .named, f .passed);
+          inside = to;
+          forth = omega (arith, f .forth);
+          two = omega (arith, r .named, f .two, f .inside, f .passed);
+          item = it;
+        }
+
+    lies-at : (f : ℕ) → first ≡ f → SearchAt s w' k m f (found .search)
+    lies-at f hd = subst (λ (y : ℕ). SearchAt s w' k m y (found .search)) hd (found .lies)
+
+    pub seeks-written : (f : Seek) → first ≡ head (seekKind f) place → Written s w w' place k (decode false place (seeks f) (cursorAt s at)) (Command.Whole next m)
+    unfolding decode andThen CommandIs KeptBy ItemAt
+    seeks-written f hd = record {
+      kept = found .kept;
+      is = (
+        seek place f (found .search),
+        ap (λ (y : Got Search). andThen y (λ se c₁. got (whole (seek place f se)) c₁)) (found .is),
+        laid (seek place f (found .search)) next 0 (omega (arith, r .named)) (omega arith) (omega arith) (found .inside) (lies-at (head (seekKind f) place) hd),
+      );
+    }
+
+    branch-item : (b : Bool) → first ≡ head (branchKind b) place → ItemAt s w' k m (opens place (branch (testOf b (found .search))))
+    unfolding ItemAt OpenerAt branchKind testOf
+    branch-item true hd = lies-at (head 44 place) hd
+    branch-item false hd = lies-at (head 45 place) hd
+
+    loop-item : (b : Bool) → first ≡ head (loopKind b) place → ItemAt s w' k m (opens place (loop (testOf b (found .search))))
+    unfolding ItemAt OpenerAt loopKind testOf
+    loop-item true hd = lies-at (head 47 place) hd
+    loop-item false hd = lies-at (head 48 place) hd
+
+    pub branches-written : (b : Bool) (after : ℕ) → place + 2 ≤ at → first ≡ head (branchKind b) place → skipThen (cursorAt s next) ≡ cursorAt s after → next ≤ after → after ≤ length s
+        → Written s w w' place k (decode false place (branches b) (cursorAt s at)) (Command.Prefix true after m)
+    unfolding decode andThen CommandIs KeptBy
+    branches-written b after long hd then from to = record {
+      kept = found .kept;
+      is = (
+        opens place (branch (testOf b (found .search))),
+        ap (λ (y : Got Search). andThen y (λ se c₁. got (prefix true (opens place (branch (testOf b se)))) (skipThen c₁))) (found .is)
+            ∙ ap (got (prefix true (opens place (branch (testOf b (found .search)))))) then,
+        laid (opens place (branch (testOf b (found .search)))) after 1 (omega arith) (omega arith) from to (branch-item b hd),
+      );
+    }
+
+    pub loops-written : (b : Bool) → place + 2 ≤ at → first ≡ head (loopKind b) place
+        → Written s w w' place k (decode false place (loops b) (cursorAt s at)) (Command.Prefix false next m)
+    unfolding decode andThen CommandIs KeptBy
+    loops-written b long hd = record {
+      kept = found .kept;
+      is = (
+        opens place (loop (testOf b (found .search))),
+        ap (λ (y : Got Search). andThen y (λ se c₁. got (prefix false (opens place (loop (testOf b se)))) c₁)) (found .is),
+        laid (opens place (loop (testOf b (found .search)))) next 1 (omega arith) (omega arith) (omega arith) (found .inside) (loop-item b hd),
+      );
+    }
+
+  module _ (n p : ℕ) (e : a ≡ Parse.Refused n p) where
+    not-found : searchExpression (cursorAt s at) ≡ refused n p
+    not-found = found-refused s w w' at k first (searchExpression (cursorAt s at)) a h n p e
+
+    pub seeks-refused : (f : Seek) → Written s w w' place k (decode false place (seeks f) (cursorAt s at)) (Command.Refused n p)
+    unfolding decode andThen
+    seeks-refused f = refused-written s w w' place k (decode false place (seeks f) (cursorAt s at)) n p
+        (ap (λ (y : Got Search). andThen y (λ se c₁. got (whole (seek place f se)) c₁)) not-found)
+
+    pub branches-refused : (b : Bool) → Written s w w' place k (decode false place (branches b) (cursorAt s at)) (Command.Refused n p)
+    unfolding decode andThen
+    branches-refused b = refused-written s w w' place k (decode false place (branches b) (cursorAt s at)) n p
+        (ap (λ (y : Got Search). andThen y (λ se c₁. got (prefix true (opens place (branch (testOf b se)))) (skipThen c₁))) not-found)
+
+    pub loops-refused : (b : Bool) → Written s w w' place k (decode false place (loops b) (cursorAt s at)) (Command.Refused n p)
+    unfolding decode andThen
+    loops-refused b = refused-written s w w' place k (decode false place (loops b) (cursorAt s at)) n p
+        (ap (λ (y : Got Search). andThen y (λ se c₁. got (prefix false (opens place (loop (testOf b se)))) c₁)) not-found)

@@ -1,0 +1,104 @@
+use Rattle.script.proofs.Qualifying.{string-small}
+use lib.ListN.{length}
+use mathlib.Core.Path.{_≡_, ap}
+use Prim.Native.Nat.{ℕ, _+_, _*_}
+use Rattle.script.proofs.Qualifying.{can-write, string-room, alters-written, alters-refused}
+use Rattle.strings.proofs.Callers.{pair-at}
+use lib.ListN.{length-set}
+use mathlib.Core.Path.{_∙_}
+use native.Mathlib.Omega.{arith}
+use borrow.Author.Needs.{needs}
+use Rattle.script.proofs.qualified.alters.Statement.{statement}
+use Rattle.script.proofs.qualified.alters.Tie as tie
+
+two-strings-requires : tie.Need-two-strings-requires
+two-strings-requires c κs = search needs
+
+enum-known-both : tie.Need-enum-known-both
+enum-known-both c = search needs
+
+change-kind-requires : tie.Need-change-kind-requires
+change-kind-requires c κs = search needs
+
+head-requires : tie.Need-head-requires
+head-requires c κs = search needs
+
+mul-w : tie.Need-mul-w
+mul-w c = search needs
+
+slice-write-w : tie.Need-slice-write-w
+slice-write-w c = search needs
+
+add-put-string : tie.Need-add-put-string
+add-put-string c = search needs
+
+sub-put-string : tie.Need-sub-put-string
+sub-put-string c =
+    let at = pair-at _ _ _ _ (c .before .before .before .before .before .before .two-strings .ensures) _ _ _ _ _ _ (c .before .before .before .before .both .given .1) .first in
+    omega (arith, at .ordered)
+
+put-string-requires : tie.Need-put-string-requires
+put-string-requires c κs =
+    let at = pair-at _ _ _ _ (c .before .before .before .before .before .before .two-strings .ensures) _ _ _ _ _ _ (c .before .before .before .before .both .given .1) .first in
+    (can-write _ _ _ _ _ (c .before .before .before .before .before .before .before .before .before .pre) _ _ _ _ at, simp length-set (omega (arith, string-room _ _ _ _ _ (c .before .before .before .before .before .before .before .before .before .pre) _ _ _ _ at)))
+
+string-word-requires : tie.Need-string-word-requires
+string-word-requires c κs =
+    let at = pair-at _ _ _ _ (c .before .before .before .before .before .before .before .before .before .two-strings .ensures) _ _ _ _ _ _ (c .before .before .before .before .before .before .before .both .given .1) in
+    (at .ordered, omega (arith, at .ends, at .within, c .before .before .before .before .before .before .before .before .before .before .before .before .pre .fits .small))
+
+mul-w-2 : tie.Need-mul-w-2
+mul-w-2 c =
+    let at = pair-at _ _ _ _ (c .before .before .before .before .before .before .before .before .before .before .two-strings .ensures) _ _ _ _ _ _ (c .before .before .before .before .before .before .before .before .both .given .1) .first in
+    let small = string-small _ _ _ _ _ (c .before .before .before .before .before .before .before .before .before .before .before .before .before .pre) _ _ _ _ at in
+    omega (arith, small, c .before .before .before .put-string .ensures .1)
+
+slice-write-w-2 : tie.Need-slice-write-w-2
+slice-write-w-2 c =
+    let a = c .before .before .before .before .before .before .before .before .before .before .before .before .before .args in
+    let at = pair-at _ _ _ _ (c .before .before .before .before .before .before .before .before .before .before .two-strings .ensures) _ _ _ _ _ _ (c .before .before .before .before .before .before .before .before .both .given .1) .first in
+    let room = string-room _ _ _ _ _ (c .before .before .before .before .before .before .before .before .before .before .before .before .before .pre) _ _ _ _ at in
+    let same : length (c .before .before .before .put-string .last .0) ≡ length (a .w .now) = c .before .before .before .put-string .kept .0 ∙ length-set (a .w .now) (a .k) (c .before .before .before .before .before .head .result) in
+    omega (arith, room, same, c .before .before .before .put-string .ensures .1)
+
+add-t21 : tie.Need-add-t21
+add-t21 c =
+    let at = pair-at _ _ _ _ (c .before .before .before .before .before .before .before .before .before .before .two-strings .ensures) _ _ _ _ _ _ (c .before .before .before .before .before .before .before .before .both .given .1) .first in
+    let small = string-small _ _ _ _ _ (c .before .before .before .before .before .before .before .before .before .before .before .before .before .pre) _ _ _ _ at in
+    omega (arith, small, c .before .before .before .put-string .ensures .1)
+
+enum-known-both-2 : tie.Need-enum-known-both-2
+enum-known-both-2 c = search needs
+
+same-length : tie.Need-same-length
+same-length c =
+    let a = c .before .before .before .before .before .before .before .before .before .before .before .before .before .args in
+    simp length-set (c .before .before .before .put-string .kept .0 ∙ length-set (a .w .now) (a .k) (c .before .before .before .before .before .head .result))
+
+returns : tie.Need-returns
+returns c = alters-written _ _ _ _ _ (c .before .before .before .before .before .before .before .before .before .before .before .before .before .pre) _ _ _ (c .before .before .before .before .before .before .before .before .before .before .two-strings .ensures) _ _ _ _ _ _ (c .before .before .before .before .before .before .before .before .both .given .1) _ _ _ _ (c .before .before .before .before .before .head .ensures .0 ∙ ap (λ (n : ℕ). n + 64 * c .before .before .before .before .before .before .before .before .before .before .before .before .before .args .place) (c .before .before .before .before .before .before .change-kind .ensures .0)) (c .before .before .before .put-string .ensures .0) (c .before .before .before .put-string .ensures .1) (c .string-word .ensures)
+
+returns-2 : tie.Need-returns-2
+returns-2 c = alters-refused _ _ _ _ _ (c .before .before .before .before .before .before .pre) _ _ _ (c .before .before .before .two-strings .ensures) _ _ (c .before .both2 .given .1)
+
+pub alters-spec : {M : Type 1} → statement M
+alters-spec =
+    tie.close
+    (tie.spec
+    two-strings-requires
+    enum-known-both
+    change-kind-requires
+    head-requires
+    mul-w
+    slice-write-w
+    add-put-string
+    sub-put-string
+    put-string-requires
+    string-word-requires
+    mul-w-2
+    slice-write-w-2
+    add-t21
+    enum-known-both-2
+    same-length
+    returns
+    returns-2)

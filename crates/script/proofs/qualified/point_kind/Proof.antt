@@ -1,0 +1,20 @@
+use Rattle.script.specs.Words.{pointKind}
+use native.Mathlib.Omega.{arith}
+use borrow.Author.Needs.{needs}
+use Rattle.script.proofs.qualified.point_kind.Statement.{statement}
+use Rattle.script.proofs.qualified.point_kind.Tie as tie
+
+returns : tie.Need-returns
+unfolding pointKind
+returns c = (rw (c .if1 .taken), omega arith)
+
+returns-2 : tie.Need-returns-2
+unfolding pointKind
+returns-2 c = (rw (c .if1 .left), omega arith)
+
+pub point-kind-spec : {M : Type 1} → statement M
+point-kind-spec =
+    tie.close
+    (tie.spec
+    returns
+    returns-2)

@@ -1,0 +1,71 @@
+use mathlib.Core.Path.{ap}
+use Prim.Native.Nat.{ℕ, _+_, _*_}
+use Rattle.script.proofs.Qualifying.{can-write, string-room, points-written, points-refused}
+use Rattle.strings.proofs.Callers.{string-at}
+use lib.ListN.{length-set}
+use mathlib.Core.Path.{_∙_}
+use native.Mathlib.Omega.{arith}
+use borrow.Author.Needs.{needs}
+use Rattle.script.proofs.qualified.points.Statement.{statement}
+use Rattle.script.proofs.qualified.points.Tie as tie
+
+qualified-string-requires : tie.Need-qualified-string-requires
+qualified-string-requires c κs = search needs
+
+enum-known-string : tie.Need-enum-known-string
+enum-known-string c = search needs
+
+point-kind-requires : tie.Need-point-kind-requires
+point-kind-requires c κs = search needs
+
+head-requires : tie.Need-head-requires
+head-requires c κs = search needs
+
+mul-w : tie.Need-mul-w
+mul-w c = search needs
+
+slice-write-w : tie.Need-slice-write-w
+slice-write-w c = search needs
+
+add-put-string : tie.Need-add-put-string
+add-put-string c = search needs
+
+sub-put-string : tie.Need-sub-put-string
+sub-put-string c =
+    let at = string-at _ _ _ _ (c .before .before .before .before .before .before .qualified-string .ensures) _ _ _ _ (c .before .before .before .before .string .given .1) in
+    omega (arith, at .ordered)
+
+put-string-requires : tie.Need-put-string-requires
+put-string-requires c κs =
+    let at = string-at _ _ _ _ (c .before .before .before .before .before .before .qualified-string .ensures) _ _ _ _ (c .before .before .before .before .string .given .1) in
+    (can-write _ _ _ _ _ (c .before .before .before .before .before .before .before .before .before .pre) _ _ _ _ at, simp length-set (omega (arith, string-room _ _ _ _ _ (c .before .before .before .before .before .before .before .before .before .pre) _ _ _ _ at)))
+
+enum-known-string-2 : tie.Need-enum-known-string-2
+enum-known-string-2 c = search needs
+
+same-length : tie.Need-same-length
+same-length c = c .before .before .put-string .kept .0 ∙ simp length-set
+
+returns : tie.Need-returns
+returns c = points-written _ _ _ _ _ (c .before .before .before .before .before .before .before .before .before .before .before .before .pre) _ _ (c .before .before .before .before .before .before .before .before .before .qualified-string .ensures) _ _ _ _ (c .before .before .before .before .before .before .before .string .given .1) _ _ _ (c .before .before .before .before .head .ensures .0 ∙ ap (λ (n : ℕ). n + 64 * c .before .before .before .before .before .before .before .before .before .before .before .before .args .place) (c .before .before .before .before .before .point-kind .ensures .0)) (c .before .before .put-string .ensures .0) (c .before .before .put-string .ensures .1)
+
+returns-2 : tie.Need-returns-2
+returns-2 c = points-refused _ _ _ _ _ (c .before .before .before .before .before .before .pre) _ _ (c .before .before .before .qualified-string .ensures) _ _ (c .before .string2 .given .1)
+
+pub points-spec : {M : Type 1} → statement M
+points-spec =
+    tie.close
+    (tie.spec
+    qualified-string-requires
+    enum-known-string
+    point-kind-requires
+    head-requires
+    mul-w
+    slice-write-w
+    add-put-string
+    sub-put-string
+    put-string-requires
+    enum-known-string-2
+    same-length
+    returns
+    returns-2)

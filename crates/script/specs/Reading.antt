@@ -1,0 +1,128 @@
+-- The reader's state: numbers, and the last words of the work area, which hold the open groups.
+use mathlib.Core.Path.{_≡_}
+use mathlib.Core.Logic.{_⊎_}
+use mathlib.Core.Bool.{Bool, true, false, cond}
+use mathlib.Core.List.{List, [], _∷_}
+use Prim.Native.Nat.{ℕ, zero, suc, _+_, _-_, _*_, _/_, _%_, _≤_, _<_}
+use lib.ListN.{length, getD}
+use lib.Dec.{eqb, leb}
+use Rattle.definitions.specs.Control.{times, Item, opens}
+use Rattle.definitions.specs.Table.{isScript}
+use Rattle.definitions.specs.Reader.{Cursor, Got, got, refused, Word, word}
+use Rattle.definitions.specs.Commands.{Decoded as Command-read, whole, prefix}
+use Rattle.definitions.specs.Script.{Due, nothing, body, Group, group, Reading, reading, Script, items, refusedAt, Next, more, done}
+use Rattle.reader.specs.Places.{cursorAt}
+use Rattle.script.specs.Words.{ItemAt, ItemsAt, Gathered}
+use Rattle.script.specs.declared.State.{State}
+use Rattle.script.specs.declared.Step.{Step}
+use Rattle.script.specs.declared.Command.{Command}
+use Rattle.script.specs.declared.Decoded.{Decoded}
+
+-- ---- what the numbers stand for
+
+-- 0 bodies are due: nothing must follow
+unfoldable pub dueOf : ℕ → Bool → Due
+dueOf zero e = nothing
+dueOf (suc k) e = body (suc k) e
+
+-- the word of an open group: twice its bodies, and 1 where ELSE may follow it
+unfoldable pub groupIn : ℕ → Group
+groupIn x = group (x / 2) (eqb (x % 2) 1)
+
+unfoldable pub flag : Bool → ℕ
+flag true = 1
+flag false = 0
+
+-- the open groups, innermost first: the outermost one stands in the last word
+unfoldable pub groupsIn : List ℕ → ℕ → List Group
+groupsIn w zero = []
+groupsIn w (suc d) = groupIn (getD w (length w - suc d) 0) ∷ groupsIn w d
+
+-- how many bodies they will close
+unfoldable pub bodiesIn : List ℕ → ℕ → ℕ
+bodiesIn w zero = 0
+bodiesIn w (suc d) = getD w (length w - suc d) 0 / 2 + bodiesIn w d
+
+unfoldable pub readingOf : List ℕ → List ℕ → State → List Item → Reading
+readingOf s w st acc = reading (cursorAt s (st .at)) (dueOf (st .due) (st .elses)) (groupsIn w (st .depth)) acc
+
+-- ---- the work area
+
+-- the script has its form, and the work area is large enough
+pub record Fits (s w : List ℕ) : Type 0 where
+  pub work : 2 * length s + 64 ≤ length w
+  pub small : length s ≤ 16384
+  pub form : isScript s ≡ true
+
+-- The state stands for the reading with the items `acc`. Every item takes at most two words a byte, the closes still to be written included;
+-- a group's `(` may take one more, which its `)` makes good.
+pub record Stands (s w : List ℕ) (st : State) (acc : List Item) : Type 0 where
+  pub inside : st .at ≤ length s
+  pub deep : st .depth ≤ 16
+  pub gathered : Gathered s w (st .k) acc
+  pub room : st .k + st .due + bodiesIn w (st .depth) + 2 * (length s - st .at) ≤ 2 * length s + st .depth
+  pub fits : Fits s w
+
+-- the words below k and the last d stay
+pub record Kept (k d : ℕ) (w w' : List ℕ) : Type 0 where
+  pub same-length : length w' ≡ length w
+  pub below : (j : ℕ) → j < k → getD w' j 0 ≡ getD w j 0
+  pub top : (j : ℕ) → length w ≤ j + d → getD w' j 0 ≡ getD w j 0
+
+-- n closes stand from k on, all else stays
+pub record Closed (k n : ℕ) (w w' : List ℕ) : Type 0 where
+  pub same-length : length w' ≡ length w
+  pub inside : (j : ℕ) → k ≤ j → j < k + n → getD w' j 0 ≡ 2
+  pub outside : (j : ℕ) → (j < k) ⊎ (k + n ≤ j) → getD w' j 0 ≡ getD w j 0
+
+-- ---- one command
+
+-- a command whose name stands at `place`, the next byte at `at`: its words go to k and on
+pub record Room (s w : List ℕ) (place at k : ℕ) : Type 0 where
+  pub named : place < at
+  pub inside : at ≤ length s
+  pub room : k + 2 * (length s - place) ≤ 2 * length s + 16
+  pub fits : Fits s w
+
+-- the command's item lies in the words from k up to m; `due` is 1 where a close will belong to it
+pub record Laid (s w : List ℕ) (place k next m due : ℕ) (i : Item) : Type 0 where
+  pub passed : place < next
+  pub inside : next ≤ length s
+  pub forth : k ≤ m
+  pub two : m + due ≤ k + 2 * (next - place)
+  pub item : ItemAt s w k m i
+
+unfoldable pub CommandIs : List ℕ → List ℕ → ℕ → ℕ → Got Command-read → Command → Type 0
+CommandIs s w place k x (Command.Whole next m) = (i : Item) × (x ≡ got (whole i) (cursorAt s next)) × Laid s w place k next m 0 i
+CommandIs s w place k x (Command.Prefix e next m) = (i : Item) × (x ≡ got (prefix e i) (cursorAt s next)) × Laid s w place k next m 1 i
+CommandIs s w place k x (Command.Refused n p) = x ≡ refused n p
+
+-- a command that was read leaves the words before it, and those of the groups
+unfoldable pub KeptBy : Command → ℕ → List ℕ → List ℕ → Type 0
+KeptBy (Command.Whole next m) k w w' = Kept k 16 w w'
+KeptBy (Command.Prefix e next m) k w w' = Kept k 16 w w'
+KeptBy (Command.Refused n p) k w w' = Unit {0}
+
+-- the answer r of the reader of a command, with the words before and after
+pub record Written (s w w' : List ℕ) (place k : ℕ) (x : Got Command-read) (r : Command) : Type 0 where
+  pub kept : KeptBy r k w w'
+  pub is : CommandIs s w' place k x r
+
+-- a repeat count at `place`
+unfoldable pub counted : ℕ → Word → Got Command-read
+counted place (word n c) = cond (leb n 65535) (got (prefix false (opens place (times n))) c) (refused 3 place)
+
+-- ---- one round
+
+-- the answer r of a round that began at place `at`, with the words after it
+unfoldable pub Comes : List ℕ → List ℕ → ℕ → Next → Step → Type 0
+Comes s w at x (Step.More st) = (acc : List Item) × (x ≡ more (readingOf s w st acc)) × Stands s w st acc × (at < st .at)
+Comes s w at x (Step.Done n) = (is : List Item) × (x ≡ done (items is)) × ItemsAt s w 0 n is × (n ≤ length w)
+Comes s w at x (Step.Refused n p) = x ≡ done (refusedAt n p)
+
+-- ---- the whole script
+
+-- the answer r of the reader, with the words after it: the items lie in the words from 0 on
+unfoldable pub Reads : List ℕ → List ℕ → Script → Decoded → Type 0
+Reads s w x (Decoded.Items n) = (is : List Item) × (x ≡ items is) × ItemsAt s w 0 n is × (n ≤ length w)
+Reads s w x (Decoded.Refused n p) = x ≡ refusedAt n p

@@ -1,0 +1,56 @@
+-- A search expression in a command.
+use mathlib.Core.Path.{_≡_}
+use mathlib.Core.Bool.{Bool, true, false}
+use mathlib.Core.List.{List}
+use Prim.Native.Nat.{ℕ, _+_, _-_, _*_, _≤_, _<_}
+use lib.ListN.{length}
+use Rattle.definitions.specs.Reader.{Got, got, refused}
+use Rattle.definitions.specs.Search.{Search}
+use Rattle.reader.specs.Places.{cursorAt}
+use Rattle.reader.specs.declared.shapes.Shape.{Shape}
+use Rattle.reader.specs.declared.shapes.Shape.the-variants.{Plain, Leaves, Seeks, Moves, Deletes, InsertsString, InsertsLines, Replaces, Alters, Points, Repeats, Branches, BranchesEof, Loops, Unknown}
+use Rattle.searches.specs.declared.Parse.{Parse}
+use Rattle.script.specs.Words.{SearchAt}
+use Rattle.script.specs.Reading.{Kept}
+
+-- IF and WH (true), UL and UT
+unfoldable pub branchKind : Bool → ℕ
+branchKind true = 44
+branchKind false = 45
+
+unfoldable pub loopKind : Bool → ℕ
+loopKind true = 47
+loopKind false = 48
+
+-- the names of tests have two letters at least
+unfoldable pub NameOf : Shape → ℕ → ℕ → Type 0
+NameOf (Plain p) place at = Unit {0}
+NameOf Leaves place at = Unit {0}
+NameOf (Seeks s) place at = Unit {0}
+NameOf Moves place at = Unit {0}
+NameOf Deletes place at = Unit {0}
+NameOf InsertsString place at = Unit {0}
+NameOf InsertsLines place at = Unit {0}
+NameOf Replaces place at = Unit {0}
+NameOf (Alters c pointing) place at = Unit {0}
+NameOf (Points after) place at = Unit {0}
+NameOf Repeats place at = Unit {0}
+NameOf (Branches b) place at = place + 2 ≤ at
+NameOf BranchesEof place at = Unit {0}
+NameOf (Loops b) place at = place + 2 ≤ at
+NameOf Unknown place at = Unit {0}
+
+-- the search was read up to `next`; with the first word it lies in the words from k up to m
+pub record Found (s w w' : List ℕ) (at k first next m : ℕ) (x : Got Search) : Type 0 where
+  pub search : Search
+  pub is : x ≡ got search (cursorAt s next)
+  pub lies : SearchAt s w' k m first search
+  pub kept : Kept k 16 w w'
+  pub forth : k + 2 ≤ m
+  pub passed : at < next
+  pub inside : next ≤ length s
+  pub two : m + 2 * (length s - next) ≤ k + 2 + 2 * (length s - at)
+
+unfoldable pub Searched : List ℕ → List ℕ → List ℕ → ℕ → ℕ → ℕ → Got Search → Parse → Type 0
+Searched s w w' at k first x (Parse.Next next m) = Found s w w' at k first next m x
+Searched s w w' at k first x (Parse.Refused n p) = x ≡ refused n p

@@ -1,0 +1,74 @@
+// The command that a name selects: its arguments are read by its shape.
+ghost use mathlib.Core.List.{List};
+ghost use Prim.Native.Nat.{_+_, _≤_, _<_};
+ghost use lib.ListN.{length};
+ghost use Rattle.definitions.specs.Control.{Item};
+ghost use Rattle.definitions.specs.Reader.{word};
+ghost use Rattle.definitions.specs.Commands.{decode as «decode-of»};
+ghost use Rattle.definitions.specs.Script.{named as «named-of»};
+ghost use Rattle.reader.specs.Places.{cursorAt};
+ghost use Rattle.reader.specs.Shapes.{shapeIn};
+ghost use Rattle.script.specs.Reading.{dueOf, groupsIn, Stands, Room, Written, Comes};
+ghost use Rattle.script.specs.Searches.{NameOf};
+use crate::Command;
+use crate::State;
+use crate::Step;
+use crate::commands::deletes;
+use crate::commands::moves;
+use crate::commands::plain_kind;
+use crate::commands::prefix_word;
+use crate::commands::whole_word;
+use crate::inserts::inserts_lines;
+use crate::inserts::inserts_string;
+use crate::inserts::replaces;
+use crate::qualified::alters;
+use crate::qualified::points;
+use crate::rounds::finish;
+use crate::searching::branches;
+use crate::searching::loops;
+use crate::searching::seeks;
+use reader::shapes::Shape;
+use reader::shapes::command;
+use reader::words::skip_then;
+
+// The command whose name stands at `place`; its arguments begin at `at`.
+fn decode(
+    s: &[u8],
+    w: &mut [u32],
+    k: usize,
+    place: usize,
+    at: usize,
+    shape: Shape,
+    grouped: bool,
+) -> Command
+    requires { ⌜ Room (now s) (now w) place at k × NameOf shape place at ⌝ }
+    ensures { λ r. ⌜ Written (now (s .entry)) (now (w .entry)) (now (w .exit)) place k («decode-of» grouped place (shapeIn shape) (cursorAt (now (s .entry)) at)) r ⌝ }
+{
+    match shape {
+        Shape::Plain(p) => whole_word(w, k, plain_kind(p), place, at),
+        Shape::Leaves => whole_word(w, k, 4, place, at),
+        Shape::Seeks(f) => seeks(s, w, k, place, at, f),
+        Shape::Moves => moves(s, w, k, place, at),
+        Shape::Deletes => deletes(s, w, k, place, at),
+        Shape::InsertsString => inserts_string(s, w, k, place, at),
+        Shape::InsertsLines => inserts_lines(s, w, k, place, at, grouped),
+        Shape::Replaces => replaces(s, w, k, place, at, grouped),
+        Shape::Alters(change, pointing) => alters(s, w, k, place, at, change, pointing),
+        Shape::Points(after) => points(s, w, k, place, at, after),
+        Shape::Repeats => prefix_word(w, k, 42, place, at, false),
+        Shape::Branches(holds) => branches(s, w, k, place, at, holds),
+        Shape::BranchesEof => prefix_word(w, k, 46, place, skip_then(s, at), true),
+        Shape::Loops(holds) => loops(s, w, k, place, at, holds),
+        Shape::Unknown => Command::Refused(2, place),
+    }
+}
+
+// A command with this name, which stands at the state's place and ends at `next`.
+pub fn named(s: &[u8], w: &mut [u32], st: State, letters: u32, next: usize) -> Step
+    requires { ⌜ ((acc : List Item) × Stands (now s) (now w) st acc) × (st .at < next) × (next ≤ length (now s)) × (256 ≤ letters → st .at + 2 ≤ next) ⌝ }
+    ensures { λ r. ⌜ ((acc : List Item) → Stands (now (s .entry)) (now (w .entry)) st acc → Comes (now (s .entry)) (now (w .exit)) (st .at) («named-of» (dueOf (st .due) (st .elses)) (groupsIn (now (w .entry)) (st .depth)) acc (st .at) (word letters (cursorAt (now (s .entry)) next))) r) ⌝ }
+{
+    let shape = command(letters);
+    let c = decode(s, w, st.k, st.at, next, shape, st.depth != 0);
+    finish(w, st, c)
+}

@@ -1,0 +1,87 @@
+// Commands with qualified strings: A, B, E, AP, BP, EP, PA and PB.
+ghost use mathlib.Core.Path.{_≡_};
+ghost use mathlib.Core.Bool.{false};
+ghost use Prim.Native.Nat.{_<_};
+ghost use Rattle.definitions.specs.Commands.{alters as «alters-shape», points as «points-shape», decode as «decode-of»};
+ghost use Rattle.reader.specs.Places.{cursorAt};
+ghost use Rattle.reader.specs.Shapes.{changeOf};
+ghost use Rattle.script.specs.Words.{changeKind, pointKind};
+ghost use Rattle.script.specs.Reading.{Room, Written};
+use crate::Command;
+use crate::inserts::string_word;
+use crate::words::head;
+use matching::search::put_string;
+use reader::shapes::Change;
+use strings::OneString;
+use strings::TwoStrings;
+use strings::qualified_string;
+use strings::two_strings;
+
+fn change_kind(change: Change, pointing: bool) -> u32
+    ensures { λ r. ⌜ (r ≡ changeKind (changeOf change) pointing) × (r < 64) ⌝ }
+{
+    match change {
+        Change::After => { if pointing { 25 } else { 24 } }
+        Change::Before => { if pointing { 27 } else { 26 } }
+        Change::Exchange => { if pointing { 29 } else { 28 } }
+    }
+}
+
+// A qualified string and a second string.
+pub fn alters(
+    s: &[u8],
+    w: &mut [u32],
+    k: usize,
+    place: usize,
+    at: usize,
+    change: Change,
+    pointing: bool,
+) -> Command
+    requires { ⌜ Room (now s) (now w) place at k ⌝ }
+    ensures { λ r. ⌜ Written (now (s .entry)) (now (w .entry)) (now (w .exit)) place k («decode-of» false place («alters-shape» (changeOf change) pointing) (cursorAt (now (s .entry)) at)) r ⌝ }
+{
+    let both = two_strings(s, at);
+    match both {
+        TwoStrings::Next {
+            quals,
+            start,
+            end,
+            second,
+            second_end,
+            next,
+        } => {
+            w[k] = head(change_kind(change, pointing), place);
+            let m = put_string(w, k + 1, quals, start, end - start);
+            w[m] = string_word(second, second_end);
+            Command::Whole(next, m + 1)
+        }
+        TwoStrings::Refused(n, p) => Command::Refused(n, p),
+    }
+}
+
+fn point_kind(after: bool) -> u32
+    ensures { λ r. ⌜ (r ≡ pointKind after) × (r < 64) ⌝ }
+{
+    if after { 30 } else { 31 }
+}
+
+// PA (true), PB: a qualified string.
+pub fn points(s: &[u8], w: &mut [u32], k: usize, place: usize, at: usize, after: bool) -> Command
+    requires { ⌜ Room (now s) (now w) place at k ⌝ }
+    ensures { λ r. ⌜ Written (now (s .entry)) (now (w .entry)) (now (w .exit)) place k («decode-of» false place («points-shape» after) (cursorAt (now (s .entry)) at)) r ⌝ }
+{
+    let string = qualified_string(s, at, false);
+    match string {
+        OneString::Next {
+            quals,
+            start,
+            end,
+            next,
+        } => {
+            w[k] = head(point_kind(after), place);
+            let m = put_string(w, k + 1, quals, start, end - start);
+            Command::Whole(next, m)
+        }
+        OneString::Refused(n, p) => Command::Refused(n, p),
+    }
+}

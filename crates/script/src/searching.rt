@@ -1,0 +1,90 @@
+// Commands with a search expression: F, BF, DF, IF, UL, WH and UT.
+ghost use mathlib.Core.Path.{_≡_};
+ghost use mathlib.Core.Bool.{false};
+ghost use Prim.Native.Nat.{_+_, _≤_, _<_};
+ghost use Rattle.definitions.specs.Strings.{searchExpression};
+ghost use Rattle.definitions.specs.Commands.{seeks as «seeks-shape», branches as «branches-shape», loops as «loops-shape», decode as «decode-of»};
+ghost use Rattle.reader.specs.Places.{cursorAt};
+ghost use Rattle.reader.specs.Shapes.{seekOf};
+ghost use Rattle.script.specs.Words.{head as «head-of», seekKind};
+ghost use Rattle.script.specs.Reading.{Room, Written};
+ghost use Rattle.script.specs.Searches.{branchKind, loopKind, Searched};
+use crate::Command;
+use crate::words::head;
+use crate::words::put_two;
+use reader::shapes::Seek;
+use reader::words::skip_then;
+use searches::Parse;
+use searches::search;
+
+// The first word, where the search ends, and the search. The groups' words are kept from it.
+fn search_words(s: &[u8], w: &mut [u32], k: usize, place: usize, at: usize, kind: u32) -> Parse
+    requires { ⌜ Room (now s) (now w) place at k × (kind < 64) ⌝ }
+    ensures { λ r. ⌜ Searched (now (s .entry)) (now (w .entry)) (now (w .exit)) at k («head-of» kind place) (searchExpression (cursorAt (now (s .entry)) at)) r ⌝ }
+{
+    let limit = w.len() - 16;
+    let found = search(s, at, &mut w[..limit], k + 2);
+    let Parse::Next(_, m) = found else {
+        return found;
+    };
+    put_two(w, k, head(kind, place), m as u32);
+    found
+}
+
+fn seek_kind(seek: Seek) -> u32
+    ensures { λ r. ⌜ (r ≡ seekKind (seekOf seek)) × (r < 64) ⌝ }
+{
+    match seek {
+        Seek::Forward => 32,
+        Seek::Backward => 33,
+        Seek::Deleting => 34,
+    }
+}
+
+// F, BF, DF.
+pub fn seeks(s: &[u8], w: &mut [u32], k: usize, place: usize, at: usize, seek: Seek) -> Command
+    requires { ⌜ Room (now s) (now w) place at k ⌝ }
+    ensures { λ r. ⌜ Written (now (s .entry)) (now (w .entry)) (now (w .exit)) place k («decode-of» false place («seeks-shape» (seekOf seek)) (cursorAt (now (s .entry)) at)) r ⌝ }
+{
+    let found = search_words(s, w, k, place, at, seek_kind(seek));
+    match found {
+        Parse::Next(next, m) => Command::Whole(next, m),
+        Parse::Refused(n, p) => Command::Refused(n, p),
+    }
+}
+
+fn branch_kind(holds: bool) -> u32
+    ensures { λ r. ⌜ (r ≡ branchKind holds) × (r < 64) ⌝ }
+{
+    if holds { 44 } else { 45 }
+}
+
+// IF (true), UL: THEN may follow.
+pub fn branches(s: &[u8], w: &mut [u32], k: usize, place: usize, at: usize, holds: bool) -> Command
+    requires { ⌜ Room (now s) (now w) place at k × (place + 2 ≤ at) ⌝ }
+    ensures { λ r. ⌜ Written (now (s .entry)) (now (w .entry)) (now (w .exit)) place k («decode-of» false place («branches-shape» holds) (cursorAt (now (s .entry)) at)) r ⌝ }
+{
+    let found = search_words(s, w, k, place, at, branch_kind(holds));
+    match found {
+        Parse::Next(next, m) => Command::Prefix(true, skip_then(s, next), m),
+        Parse::Refused(n, p) => Command::Refused(n, p),
+    }
+}
+
+fn loop_kind(holds: bool) -> u32
+    ensures { λ r. ⌜ (r ≡ loopKind holds) × (r < 64) ⌝ }
+{
+    if holds { 47 } else { 48 }
+}
+
+// WH (true), UT.
+pub fn loops(s: &[u8], w: &mut [u32], k: usize, place: usize, at: usize, holds: bool) -> Command
+    requires { ⌜ Room (now s) (now w) place at k × (place + 2 ≤ at) ⌝ }
+    ensures { λ r. ⌜ Written (now (s .entry)) (now (w .entry)) (now (w .exit)) place k («decode-of» false place («loops-shape» holds) (cursorAt (now (s .entry)) at)) r ⌝ }
+{
+    let found = search_words(s, w, k, place, at, loop_kind(holds));
+    match found {
+        Parse::Next(next, m) => Command::Prefix(false, next, m),
+        Parse::Refused(n, p) => Command::Refused(n, p),
+    }
+}

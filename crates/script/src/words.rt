@@ -1,0 +1,52 @@
+// The words of items.
+ghost use mathlib.Core.Path.{_≡_};
+ghost use Prim.Native.Nat.{_+_, _≤_, _<_};
+ghost use lib.ListN.{length, set};
+ghost use Rattle.script.specs.Words.{head as «head-of»};
+ghost use Rattle.script.specs.Reading.{Closed};
+
+// An item's first word: its kind and its place.
+pub fn head(kind: u32, place: usize) -> u32
+    requires { ⌜ (kind < 64) × (place ≤ 16384) ⌝ }
+    ensures { λ r. ⌜ (r ≡ «head-of» kind place) × (r < 2097152) ⌝ }
+{
+    kind + 64 * (place as u32)
+}
+
+// Writes n closes from k on.
+pub fn put_closes(w: &mut [u32], k: usize, n: usize)
+    requires { ⌜ k + n ≤ length (now w) ⌝ }
+    ensures { λ r. ⌜ Closed k n (now (w .entry)) (now (w .exit)) ⌝ }
+{
+    let mut i: usize = 0;
+    while i < n {
+        w[k + i] = 2;
+        i += 1;
+    }
+}
+
+// One word from k on, two, or four.
+pub fn put_one(w: &mut [u32], k: usize, a: u32)
+    requires { ⌜ k < length (now w) ⌝ }
+    ensures { λ r. ⌜ now (w .exit) ≡ set (now (w .entry)) k a ⌝ }
+{
+    w[k] = a;
+}
+
+pub fn put_two(w: &mut [u32], k: usize, a: u32, b: u32)
+    requires { ⌜ k + 1 < length (now w) ⌝ }
+    ensures { λ r. ⌜ now (w .exit) ≡ set (set (now (w .entry)) k a) (k + 1) b ⌝ }
+{
+    w[k] = a;
+    w[k + 1] = b;
+}
+
+pub fn put_four(w: &mut [u32], k: usize, a: u32, b: u32, c: u32, d: u32)
+    requires { ⌜ k + 3 < length (now w) ⌝ }
+    ensures { λ r. ⌜ now (w .exit) ≡ set (set (set (set (now (w .entry)) k a) (k + 1) b) (k + 2) c) (k + 3) d ⌝ }
+{
+    w[k] = a;
+    w[k + 1] = b;
+    w[k + 2] = c;
+    w[k + 3] = d;
+}

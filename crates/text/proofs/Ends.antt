@@ -1,0 +1,150 @@
+-- What a line's end found in a slice says, and the steps of the loop that finds it. Assumes nothing.
+use mathlib.Core.Path.{_≡_, refl, sym, ap, _∙_}
+use mathlib.Core.Bool.{Bool, true, false, cond, _&&_}
+use mathlib.Core.Option.{Option, none, some}
+use mathlib.Core.Logic.{_⊎_, inl, inr, ⊎-elim}
+use mathlib.Core.List.{List, _∷_, _++_}
+use Prim.Native.Nat.{ℕ, zero, suc, _+_, _-_, _≤_, _<_}
+use native.Mathlib.Nat.{add-zero, add-suc, suc-add}
+use native.Mathlib.Numerals.{add-one, sub-one}
+use native.Mathlib.Omega.{arith}
+use lib.ListN.{length, take, drop, getD, length-append, length-drop, drop-of-length-le}
+use lib.Seq.{drop-cons, take-at, drop-at, drop-drop, take-append-add}
+use lib.Dec.{leb, leb·zero, leb·suc-suc, leb·suc-zero}
+use borrow.Author.Tests.{eq-eqb, ne-eqb, le-leb, lt-leb}
+use Rattle.definitions.specs.Bytes.{Line, isText, lineBytes, allText, isLine}
+use Rattle.text.specs.Lines.{upToLF, cutAt, endOf, lineEnd, part}
+use Rattle.text.specs.declared.LineEnd.{LineEnd}
+use Rattle.text.specs.declared.LineEnd.the-variants.{At, Bad}
+use Rattle.text.proofs.Lines.{Plain, and-false, cut-of, first-cut}
+
+-- ---- the loop of `line_end`: what is found from `i` on, where `left` bytes may still come before the LF
+
+unfoldable pub endWithin : ℕ → ℕ → Option Line → LineEnd
+endWithin left i none = Bad
+endWithin left i (some l) = cond (allText l && leb (length l) left) (At (i + length l)) Bad
+
+unfoldable pub endFrom : ℕ → ℕ → List ℕ → LineEnd
+unfolding endWithin
+endFrom left i bs = endWithin left i (upToLF bs)
+
+pub end-start : (at : ℕ) (bs : List ℕ) → lineEnd at bs ≡ endFrom 255 at bs
+unfolding lineEnd endFrom isLine
+end-start at bs = go (upToLF bs)
+  where
+    go : (o : Option Line) → endOf at o ≡ endWithin 255 at o
+    go none = refl
+    go (some l) = refl
+
+module _ (s : List ℕ) (left i : ℕ) where
+  pub end-none : length s ≤ i → endFrom left i (drop i s) ≡ Bad
+  unfolding endFrom upToLF
+  end-none h = rw (drop-of-length-le s {i = i} h)
+
+  module _ (h : i < length s) where
+    pub end-here : getD s i 0 ≡ 10 → endFrom left i (drop i s) ≡ At i
+    unfolding endFrom upToLF allText
+    end-here e = rw (drop-cons s i 0 h, eq-eqb (getD s i 0) 10 e, leb·zero left, add-zero i)
+
+    module _ (e : getD s i 0 ≡ 10 → ⊥) where
+      pub end-wrong : isText (getD s i 0) ≡ false → endFrom left i (drop i s) ≡ Bad
+      unfolding endFrom upToLF allText
+      end-wrong f = rw (drop-cons s i 0 h, ne-eqb (getD s i 0) 10 e) (go (upToLF (drop (suc i) s)))
+        where
+          go : (o : Option Line) → endWithin left i (cutAt false (getD s i 0) o) ≡ Bad
+          go none = refl
+          go (some l) = rw f
+
+      pub end-full : left ≡ 0 → endFrom left i (drop i s) ≡ Bad
+      unfolding endFrom upToLF
+      end-full f = rw (drop-cons s i 0 h, ne-eqb (getD s i 0) 10 e, f) (go (upToLF (drop (suc i) s)))
+        where
+          go : (o : Option Line) → endWithin 0 i (cutAt false (getD s i 0) o) ≡ Bad
+          go none = refl
+          go (some l) = rw (leb·suc-zero (length l), and-false)
+
+      pub end-on : isText (getD s i 0) ≡ true → 0 < left → endFrom left i (drop i s) ≡ endFrom (left - 1) (i + 1) (drop (i + 1) s)
+      unfolding endFrom upToLF allText
+      end-on f k = rw (drop-cons s i 0 h, ne-eqb (getD s i 0) 10 e, add-one i) (go left k (upToLF (drop (suc i) s)))
+        where
+          go : (n : ℕ) → 0 < n → (o : Option Line) → endWithin n i (cutAt false (getD s i 0) o) ≡ endWithin (n - 1) (suc i) o
+          go zero k o = absurd (omega arith)
+          go (suc n) k none = refl
+          go (suc n) k (some l) = rw (f, leb·suc-suc, sub-one, add-suc, suc-add)
+
+pub is-text : (b : ℕ) → 32 ≤ b → b ≤ 126 → isText b ≡ true
+unfolding isText
+is-text b h k = rw (le-leb 32 b h, le-leb b 126 k)
+
+pub text-low : (b : ℕ) → b < 32 → isText b ≡ false
+unfolding isText
+text-low b h = rw (lt-leb 32 b h)
+
+pub text-high : (b : ℕ) → 126 < b → isText b ≡ false
+unfolding isText
+text-high b h = rw (lt-leb b 126 h, and-false)
+
+-- ---- what an end says of the bytes
+
+at-bad : (e : ℕ) → At e ≡ Bad → ⊥
+at-bad e h = let z : _≡_ {A = ℕ} 0 1 = cc in omega arith
+
+-- an end: the bytes are a line, its LF, and the rest
+pub line-there : (at : ℕ) (bs : List ℕ) (e : ℕ) → lineEnd at bs ≡ At e
+    → (l : Line) × (rest : List ℕ) × (bs ≡ l ++ (10 ∷ rest)) × (isLine l ≡ true) × (e ≡ at + length l)
+unfolding lineEnd
+line-there at bs e h = ⊎-elim (λ p. absurd (at-bad e (sym h ∙ ap (endOf at) p))) (λ w. go (w .0) (w .1) (w .2) (isLine (w .0)) refl (sym (rw (w .2, first-cut (w .0) (w .1) (w .3)) at h))) (cut-of bs)
+  where
+    go : (l rest : List ℕ) → bs ≡ l ++ (10 ∷ rest) → (t : Bool) → isLine l ≡ t → At e ≡ cond (isLine l) (At (at + length l)) Bad
+        → (l : Line) × (rest : List ℕ) × (bs ≡ l ++ (10 ∷ rest)) × (isLine l ≡ true) × (e ≡ at + length l)
+    go l rest f true g k = (l, rest, f, g, let m : At e ≡ At (at + length l) = rw g at k in cc)
+    go l rest f false g k = absurd (at-bad e (rw g at k))
+
+-- no end: no LF stands in the bytes, or their first line is none
+pub no-line : (at : ℕ) (bs : List ℕ) → lineEnd at bs ≡ Bad
+    → Plain bs ⊎ ((l : Line) × (rest : List ℕ) × (bs ≡ l ++ (10 ∷ rest)) × Plain l × (isLine l ≡ false))
+unfolding lineEnd
+no-line at bs h = ⊎-elim (λ p. inl p) (λ w. go (w .0) (w .1) (w .2) (w .3) (isLine (w .0)) refl (rw (w .2, first-cut (w .0) (w .1) (w .3)) at h)) (cut-of bs)
+  where
+    go : (l rest : List ℕ) → bs ≡ l ++ (10 ∷ rest) → Plain l → (t : Bool) → isLine l ≡ t → cond (isLine l) (At (at + length l)) Bad ≡ Bad
+        → Plain bs ⊎ ((l : Line) × (rest : List ℕ) × (bs ≡ l ++ (10 ∷ rest)) × Plain l × (isLine l ≡ false))
+    go l rest f p true g k = absurd (at-bad (at + length l) (rw g at k))
+    go l rest f p false g k = inr (l, rest, f, p, g)
+
+-- a line of `s` from `at` up to its LF at `e`
+pub record Ended (s : List ℕ) (at e : ℕ) : Type 0 where
+  pub low : at ≤ e
+  pub high : e < length s
+  pub line : isLine (part at e s) ≡ true
+  pub long : length (part at e s) ≡ e - at
+  pub split : drop at s ≡ part at e s ++ (10 ∷ drop (e + 1) s)
+
+pub ended : (s : List ℕ) (at e : ℕ) → lineEnd at (drop at s) ≡ At e → Ended s at e
+ended s at e h = let w = line-there at (drop at s) e h in go (w .0) (w .1) (w .2) (w .3) (w .4)
+  where
+    go : (l rest : List ℕ) → drop at s ≡ l ++ (10 ∷ rest) → isLine l ≡ true → e ≡ at + length l → Ended s at e
+    go l rest f g k =
+        let n : e - at ≡ length l = omega arith in
+        let is : part at e s ≡ l = ap (λ (m : ℕ). take m (drop at s)) n ∙ ap (take (length l)) f ∙ take-at l (10 ∷ rest) (length l) refl in
+        let left : drop (e + 1) s ≡ rest =
+        ap (λ (m : ℕ). drop m s) (let z : e + 1 ≡ at + (length l + 1) = omega arith in z)
+        ∙ sym (drop-drop (length l + 1) at s) ∙ ap (drop (length l + 1)) f ∙ past l rest in
+        let len : length s - at ≡ length l + suc (length rest) = sym (length-drop at s) ∙ ap length f ∙ length-append l (10 ∷ rest) in
+        record {
+          low = omega arith;
+          high = omega arith;
+          line = rw is g;
+          long = rw is (sym n);
+          split = rw (is, left) f;
+        }
+      where
+        past : (l rest : List ℕ) → drop (length l + 1) (l ++ (10 ∷ rest)) ≡ rest
+        past l rest = sym (drop-drop 1 (length l) (l ++ (10 ∷ rest))) ∙ ap (drop 1) (drop-at l (10 ∷ rest) (length l) refl)
+
+-- the line with its LF
+pub ended-bytes : (s : List ℕ) (at e : ℕ) → Ended s at e → part at (e + 1) s ≡ lineBytes (part at e s)
+unfolding lineBytes
+ended-bytes s at e k =
+    let l : Line = part at e s in
+    let n : e + 1 - at ≡ length l + 1 = rw (k .long) (let low = k .low in omega arith) in
+    ap (λ (m : ℕ). take m (drop at s)) n ∙ ap (take (length l + 1)) (k .split) ∙ take-append-add l (10 ∷ drop (e + 1) s) 1
