@@ -1,0 +1,16 @@
+pub mod Reading
+pub mod Keeping
+pub mod Standing
+pub mod Classes
+pub mod Passing
+pub mod Failing
+pub mod Openers
+pub mod Starting
+pub mod Ending
+pub mod Again
+pub mod Leaving
+pub mod Looking
+pub mod Running
+pub mod Groups
+pub mod Pulling
+pub mod Answers

@@ -1,0 +1,95 @@
+-- The end of a run: the buffer becomes the journal's bytes. Assumes nothing.
+use mathlib.Core.Path.{_≡_, refl, sym, ap, _∙_}
+use mathlib.Core.Bool.{true}
+use Prim.Native.Nat.{ℕ, suc, _+_, _-_, _<_}
+use native.Mathlib.Omega.{arith}
+use native.Mathlib.Numerals.{add-one}
+use mathlib.Core.List.{List, [], _∷_, _++_, map, reverseAux, append-assoc, append-nil}
+use lib.ListN.{length, take, drop, getD, set, length-append}
+use lib.Seq.{take-suc, drop-cons, set-at, getD-at, take-at, drop-at, length-take-le}
+use borrow.Author.Tests.{eq-eqb, ne-eqb}
+use Rattle.gap.specs.Gap.{zeros, movedDown}
+use Rattle.gap.proofs.Laws.{down-parts}
+use Rattle.definitions.specs.Bytes.{Line, isLine, lineBytes}
+use Rattle.definitions.specs.Journal.{Record, kept, changed, deleted, inserted, recordBytes, journalBytes, journalLength}
+use Rattle.editor.specs.Records.{enc, encAll, encBefore, Good, Goods, lineEnd}
+use Rattle.editor.specs.Shows.{Holds}
+use Rattle.editor.specs.declared.State.{State}
+use Rattle.editor.proofs.Records.{Text, line-text, all-length, before-all, goods-reverse}
+use Rattle.editor.proofs.Held.{held-length}
+use Rattle.editor.proofs.Reading.{map-append}
+
+text-ends : (l : List ℕ) → Text l → map lineEnd l ≡ l
+unfolding Text
+text-ends [] t = refl
+text-ends (x ∷ l) t = rw (ne-eqb x 0 (λ e. omega (arith, t .0)), text-ends l (t .2))
+
+line-ends : (l : Line) → isLine l ≡ true → map lineEnd (l ++ (10 ∷ [])) ≡ l ++ (10 ∷ [])
+line-ends l g = map-append lineEnd l (10 ∷ []) ∙ rw (text-ends l (line-text l g))
+
+record-ends : (r : Record) → Good r → map lineEnd (enc r) ≡ recordBytes r
+unfolding recordBytes lineBytes
+record-ends (kept l) g = ap (λ (z : List ℕ). 61 ∷ 61 ∷ z) (line-ends l g)
+record-ends (changed o n) g =
+    let first : map lineEnd (o ++ (0 ∷ n)) ≡ o ++ (10 ∷ n) = map-append lineEnd o (0 ∷ n) ∙ rw (text-ends o (line-text o (g .0)), text-ends n (line-text n (g .1))) in
+    ap (λ (z : List ℕ). 60 ∷ 62 ∷ z) (map-append lineEnd (o ++ (0 ∷ n)) (10 ∷ []) ∙ rw first (simp append-assoc))
+record-ends (deleted l) g = ap (λ (z : List ℕ). 45 ∷ 45 ∷ z) (line-ends l g)
+record-ends (inserted l) g = ap (λ (z : List ℕ). 43 ∷ 43 ∷ z) (line-ends l g)
+
+pub records-end : (rs : List Record) → Goods rs → map lineEnd (encAll rs) ≡ journalBytes rs
+unfolding encAll journalBytes
+records-end [] g = refl
+records-end (r ∷ rs) g = map-append lineEnd (enc r) (encAll rs) ∙ rw (record-ends r (g .0), records-end rs (g .1))
+
+-- ---- the loop: the first i bytes are done
+
+abbrev pub endedTo : ℕ → List ℕ → List ℕ
+endedTo i j = map lineEnd (take i j) ++ drop i j
+
+map-length : (l : List ℕ) → length (map lineEnd l) ≡ length l
+map-length [] = refl
+map-length (x ∷ l) = ap suc (map-length l)
+
+-- the byte at i, and what it becomes
+pub ended-next : (j : List ℕ) (i : ℕ) → i < length j → endedTo (i + 1) j ≡ map lineEnd (take i j) ++ (lineEnd (getD j i 0) ∷ drop (i + 1) j)
+ended-next j i h =
+    rw (add-one i, take-suc j i 0 h, map-append lineEnd (take i j) (getD j i 0 ∷ []))
+    (append-assoc (map lineEnd (take i j)) (lineEnd (getD j i 0) ∷ []) (drop (suc i) j))
+
+pub ended-now : (j : List ℕ) (i : ℕ) → i < length j → endedTo i j ≡ map lineEnd (take i j) ++ (getD j i 0 ∷ drop (i + 1) j)
+ended-now j i h = rw (drop-cons j i 0 h, add-one i)
+
+module _ (j : List ℕ) (i : ℕ) (h : i < length j) where
+  at : length (map lineEnd (take i j)) ≡ i
+  at = map-length (take i j) ∙ length-take-le i j (omega arith)
+
+  pub ended-byte : getD (endedTo i j) i 0 ≡ getD j i 0
+  ended-byte = rw (ended-now j i h) (getD-at (map lineEnd (take i j)) (getD j i 0) (drop (i + 1) j) 0 i at)
+
+  pub ended-keep : (getD j i 0 ≡ 0 → ⊥) → endedTo i j ≡ endedTo (i + 1) j
+  ended-keep e = ended-now j i h ∙ rw (ended-next j i h, ne-eqb (getD j i 0) 0 e)
+
+  pub ended-set : getD j i 0 ≡ 0 → set (endedTo i j) i 10 ≡ endedTo (i + 1) j
+  ended-set e =
+      rw (ended-now j i h) (set-at (map lineEnd (take i j)) (getD j i 0) (drop (i + 1) j) 10 i at ∙ sym (ended-next j i h ∙ rw (eq-eqb (getD j i 0) 0 e)))
+
+-- ---- the whole
+
+pub close-all : (j k l : List ℕ) (st : State) (used : ℕ) → k ≡ movedDown (st .front) (st .back) (length j - st .back) j
+    → used ≡ st .front + (length j - st .back) → l ≡ endedTo used k
+    → (b a : List Record) → Holds j st b a
+    → (used ≡ journalLength (reverseAux b a)) × (l ≡ journalBytes (reverseAux b a) ++ zeros (length j - journalLength (reverseAux b a)))
+close-all j k l st used moves is ends b a h =
+    let g : ℕ = st .back - st .front in
+    let rs : List Record = reverseAux b a in
+    let long : length j - st .back ≡ length (encAll a) = omega (arith, held-length h) in
+    let whole : j ≡ encBefore b ++ (zeros g ++ (encAll a ++ [])) = h .bytes ∙ rw (append-nil (encAll a)) in
+    let down : k ≡ encBefore b ++ (encAll a ++ (zeros g ++ [])) =
+    moves ∙ rw (long, whole) (down-parts (encBefore b) (encAll a) [] g (st .front) (st .back) (length (encAll a)) (h .front) (omega (arith, h .order)) refl) in
+    let packed : k ≡ encAll rs ++ zeros g = down ∙ rw (append-nil (zeros g)) (sym (append-assoc (encBefore b) (encAll a) (zeros g)) ∙ ap (λ (z : List ℕ). z ++ zeros g) (before-all b a)) in
+    let all : length (encBefore b ++ encAll a) ≡ length (encAll rs) = ap length (before-all b a) in
+    let size : used ≡ length (encAll rs) = omega (arith, all, length-append (encBefore b) (encAll a), h .front) in
+    let gap : g ≡ length j - journalLength rs = omega (arith, h .order, held-length h, all-length rs) in (
+      size ∙ all-length rs,
+      ends ∙ rw (packed, take-at (encAll rs) (zeros g) used (sym size), drop-at (encAll rs) (zeros g) used (sym size), records-end rs (goods-reverse b a (h .past-good) (h .good)), ← gap),
+    )

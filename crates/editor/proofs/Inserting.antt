@@ -1,0 +1,138 @@
+-- Insertion of a line before the current one. Assumes nothing.
+use mathlib.Core.Path.{_≡_, refl, sym, ap, _∙_}
+use mathlib.Core.Bool.{true, cond}
+use mathlib.Core.Option.{none}
+use Prim.Native.Nat.{ℕ, suc, _+_, _-_, _≤_, _<_}
+use native.Mathlib.Omega.{arith}
+use mathlib.Core.List.{List, [], _∷_, _++_, map, reverseAux, append-assoc}
+use lib.ListN.{length, take, drop, set, length-append, length-replicate, length-drop, replicate-append-replicate}
+use lib.Seq.{paste, set-at, length-take-le}
+use lib.Dec.{leb}
+use borrow.Author.Tests.{le-leb, lt-leb}
+use Rattle.gap.specs.Gap.{zeros}
+use Rattle.gap.proofs.Laws.{paste-parts}
+use Rattle.definitions.specs.Bytes.{Line, isLine}
+use Rattle.definitions.specs.Journal.{Record, kept, inserted, recordLength, journalLength}
+use Rattle.definitions.specs.Tape.{Tape, restLines}
+use Rattle.definitions.specs.Editor.{Ed, ed, edited, halt, journal, sources, putBefore}
+use Rattle.definitions.specs.Edit.{Op, need, act, insertLines, within, step}
+use Rattle.editor.specs.Records.{encAll, encBefore}
+use Rattle.editor.specs.Shows.{Holds, Shows, Stays, Answers, Answered}
+use Rattle.editor.specs.declared.State.{State}
+use Rattle.editor.specs.declared.Moved.the-variants.{On, Stop}
+use Rattle.editor.proofs.Records.{line-short, sources-cons, all-length, before-all}
+use Rattle.editor.proofs.Held.{held-length}
+use Rattle.editor.proofs.Reading.{reachOf}
+use Rattle.editor.proofs.Answers.{step-still, shown-reach, journal-is, shows-of, leaves-of, same-here}
+
+-- ---- bytes
+
+-- g zeros, where a record with n bytes of text goes in
+split-zeros : (g n r : ℕ) → g ≡ n + 3 + r → (Z : List ℕ) → zeros g ++ Z ≡ 0 ∷ 0 ∷ (zeros n ++ (0 ∷ (zeros r ++ Z)))
+split-zeros g n r is Z =
+    let two : g ≡ suc (suc (n + suc r)) = omega arith in
+    rw (two, ← replicate-append-replicate {A = ℕ} n (suc r) 0) (ap (λ (z : List ℕ). 0 ∷ 0 ∷ z) (append-assoc (zeros n) (0 ∷ zeros r) Z))
+
+module _ (B A s : List ℕ) (f n r : ℕ) (at : length B ≡ f) (fits : n ≤ length s) where
+  marked-at : set (set (B ++ (0 ∷ 0 ∷ (zeros n ++ (0 ∷ (zeros r ++ A))))) f 43) (f + 1) 43 ≡ (B ++ (43 ∷ 43 ∷ [])) ++ (zeros n ++ (0 ∷ (zeros r ++ A)))
+  marked-at =
+      let R : List ℕ = zeros n ++ (0 ∷ (zeros r ++ A)) in
+      let one : length (B ++ (43 ∷ [])) ≡ f + 1 = length-append B (43 ∷ []) ∙ ap (λ (i : ℕ). i + 1) at in
+      rw (set-at B 0 (0 ∷ R) 43 f at, ← append-assoc B (43 ∷ []) (0 ∷ R), set-at (B ++ (43 ∷ [])) 0 R 43 (f + 1) one)
+      (append-assoc B (43 ∷ []) (43 ∷ R) ∙ sym (append-assoc B (43 ∷ 43 ∷ []) R))
+
+  pub put-bytes : set (paste (set (set (B ++ (0 ∷ 0 ∷ (zeros n ++ (0 ∷ (zeros r ++ A))))) f 43) (f + 1) 43) (f + 2) s n) (f + 2 + n) 10
+      ≡ (B ++ (43 ∷ 43 ∷ (take n s ++ (10 ∷ [])))) ++ (zeros r ++ A)
+  put-bytes =
+      let M : List ℕ = B ++ (43 ∷ 43 ∷ []) in
+      let Z : List ℕ = zeros r ++ A in
+      let two : length M ≡ f + 2 = length-append B (43 ∷ 43 ∷ []) ∙ ap (λ (i : ℕ). i + 2) at in
+      let end : length (M ++ take n s) ≡ f + 2 + n = length-append M (take n s) ∙ rw (two, length-take-le n s fits) in
+      let text : paste (M ++ (zeros n ++ (0 ∷ Z))) (f + 2) s n ≡ (M ++ take n s) ++ (0 ∷ Z) =
+      paste-parts M (zeros n) (0 ∷ Z) s (f + 2) n two (length-replicate n 0) ∙ sym (append-assoc M (take n s) (0 ∷ Z)) in
+      rw (marked-at, text, set-at (M ++ take n s) 0 Z 10 (f + 2 + n) end) (simp append-assoc)
+
+-- what `put_line` makes of a buffer
+pub put-holds : (j k : List ℕ) (st s : State) (text : List ℕ) (n : ℕ) → n ≤ length text → isLine (take n text) ≡ true → st .front + (n + 3) ≤ st .back
+    → k ≡ set (paste (set (set j (st .front) 43) (st .front + 1) 43) (st .front + 2) text n) (st .front + 2 + n) 10
+    → s .front ≡ st .front + 2 + n + 1 → s .back ≡ st .back → s .past ≡ st .past → s .lines ≡ st .lines
+    → (b a : List Record) → Holds j st b a → Holds k s (inserted (take n text) ∷ b) a
+unfolding encBefore
+put-holds j k st s text n fits good room is f e c l b a h =
+    let T : List ℕ = take n text in
+    let r : ℕ = s .back - s .front in
+    let long : length T ≡ n = length-take-le n text fits in
+    let j-is : j ≡ encBefore b ++ (0 ∷ 0 ∷ (zeros n ++ (0 ∷ (zeros r ++ encAll a)))) =
+    h .bytes ∙ ap (λ (z : List ℕ). encBefore b ++ z) (split-zeros (st .back - st .front) n r (omega arith) (encAll a)) in
+    record {
+      bytes = is ∙ rw j-is (put-bytes (encBefore b) (encAll a) text (st .front) n r (h .front) fits);
+      front = rw (length-append, length-append) (omega (arith, h .front));
+      order = omega arith;
+      past-good = (good, h .past-good);
+      good = h .good;
+      past = c ∙ h .past ∙ sym (sources-cons (inserted T) b ∙ (let z : 0 + sources b ≡ sources b = omega arith in z));
+      lines = omega (arith, h .lines, sources-cons (inserted T) b);
+      few = omega (arith, h .few);
+    }
+
+-- the text of a line is short
+pub text-length : (s : List ℕ) (from n : ℕ) → from + n ≤ length s → length (take n (drop from s)) ≡ n
+text-length s from n fits = length-take-le n (drop from s) (simp length-drop (omega arith))
+
+pub text-short : (s : List ℕ) (from n : ℕ) → from + n ≤ length s → isLine (take n (drop from s)) ≡ true → n ≤ 255
+text-short s from n fits good = omega (arith, line-short (take n (drop from s)) good, text-length s from n fits)
+
+-- ---- the journal's length
+
+-- what is not the gap is the journal
+pub held-journal : {j : List ℕ} {st : State} {b a : List Record} → Holds j st b a → journalLength (reverseAux b a) + (st .back - st .front) ≡ length j
+held-journal {b = b} {a = a} h =
+    omega (arith, all-length (reverseAux b a), ap length (before-all b a), length-append (encBefore b) (encAll a), h .front, h .order, held-length h)
+
+length-reverse : (b a : List Record) → journalLength (reverseAux b a) ≡ journalLength b + journalLength a
+unfolding journalLength
+length-reverse [] a = omega arith
+length-reverse (r ∷ b) a = omega (arith, length-reverse b (r ∷ a))
+
+inserted-length : (l : Line) (b a : List Record) → journalLength (reverseAux (inserted l ∷ b) a) ≡ 3 + length l + journalLength (reverseAux b a)
+unfolding journalLength recordLength
+inserted-length l b a = omega (arith, length-reverse (inserted l ∷ b) a, length-reverse b a)
+
+-- ---- IS
+
+insert-step : (n : ℕ) (l : Line) (b a : List Record) (p : ℕ) (t : Tape)
+    → step n (Op.insert none (l ∷ [])) (ed b a p) t
+    ≡ cond (leb (journalLength (journal (ed (inserted l ∷ b) a p) t)) n) (edited (ed (inserted l ∷ b) a p), t) (halt 26 (ed b a p), t)
+unfolding need act insertLines putBefore within
+insert-step n l b a p t = step-still n (Op.insert none (l ∷ [])) (ed b a p) t refl
+
+-- how long the journal would be
+insert-length : {j : List ℕ} {st : State} (l : Line) (b a : List Record) (p : ℕ) (t : Tape) → Shows j st (ed b a p) t
+    → journalLength (journal (ed (inserted l ∷ b) a p) t) + (st .back - st .front) ≡ 3 + length l + length j
+insert-length l b a p t h =
+    let U : List Record = a ++ map kept (restLines t) in
+    let new : journalLength (journal (ed (inserted l ∷ b) a p) t) ≡ journalLength (reverseAux (inserted l ∷ b) U) = ap journalLength (sym (journal-is (inserted l ∷ b) a p t)) in
+    omega (arith, inserted-length l b U, held-journal (h .holds))
+
+pub insert-full : {j : List ℕ} {st : State} (l : Line) (e : Ed) (t : Tape) → Shows j st e t → st .back - st .front < length l + 3
+    → Answered j (Stop 26 st) (step (length j) (Op.insert none (l ∷ [])) e t)
+unfolding Answers
+insert-full {j} l (ed b a p) t h full =
+    rw (insert-step (length j) l b a p t, lt-leb (journalLength (journal (ed (inserted l ∷ b) a p) t)) (length j) (omega (arith, insert-length l b a p t h)))
+    (refl, leaves-of b a p t (same-here (h .holds)) (shown-reach b a p t h))
+
+pub insert-on : {j k : List ℕ} {st s : State} (l : Line) (e : Ed) (t : Tape) → Shows j st e t → length l + 3 ≤ st .back - st .front
+    → ((b : List Record) (a : List Record) → Holds j st b a → Holds k s (inserted l ∷ b) a) → Stays st s
+    → Answered k (On s) (step (length j) (Op.insert none (l ∷ [])) e t)
+unfolding Answers
+insert-on {j} l (ed b a p) t h room puts same =
+    rw (insert-step (length j) l b a p t, le-leb (journalLength (journal (ed (inserted l ∷ b) a p) t)) (length j) (omega (arith, insert-length l b a p t h)))
+    (shows-of (inserted l ∷ b) a p t (puts b (a ++ map kept (restLines t)) (h .holds))
+    (same .furthest ∙ shown-reach b a p t h ∙ ap (λ (m : ℕ). reachOf m t) (sym (same .lines))) (same .p ∙ h .p) (h .grounded))
+
+-- the text is in the slice
+pub text-fits : (s : List ℕ) (from n : ℕ) → from + n ≤ length s → n ≤ length (drop from s)
+text-fits s from n fits = simp length-drop (omega arith)
+
+pub put-is : (k l : List ℕ) (end x : ℕ) → k ≡ l → set k end x ≡ set l end x
+put-is k l end x q = ap (λ (z : List ℕ). set z end x) q

@@ -1,0 +1,174 @@
+-- The text of the current line, and its copy. Assumes nothing.
+use mathlib.Core.Path.{_≡_, refl, sym, ap, _∙_}
+use mathlib.Core.Bool.{true}
+use mathlib.Core.Option.{none}
+use Prim.Native.Nat.{ℕ, suc, _+_, _-_, _≤_, _<_}
+use native.Mathlib.Omega.{arith}
+use mathlib.Core.List.{List, [], _∷_, _++_, map, append-assoc}
+use lib.ListN.{length, take, drop, getD, set, length-append, length-drop}
+use lib.Seq.{paste, take-at, drop-drop, drop-at, drop-set-lt, length-take-le}
+use Rattle.definitions.specs.Bytes.{Line, isLine}
+use Rattle.definitions.specs.Journal.{Record, kept, changed, deleted, inserted}
+use Rattle.definitions.specs.Tape.{Tape, restLines}
+use Rattle.definitions.specs.Editor.{Ed, ed, current}
+use Rattle.definitions.specs.Edit.{Op, need, act, withLine, insertLines, within, step}
+use Rattle.gap.specs.Lines.{lineLength}
+use Rattle.editor.specs.Records.{enc, encAll, Good, zeroPlace}
+use Rattle.editor.specs.Shows.{Holds, Shows, Stays, TextAt, Answers, Answered}
+use Rattle.editor.specs.declared.State.{State}
+use Rattle.editor.specs.declared.Moved.the-variants.{On, Stop}
+use Rattle.editor.proofs.Records.{line-text, line-short}
+use Rattle.editor.proofs.Held.{held-drop, held-record, held-mark, held-more, held-first, held-none}
+use Rattle.editor.proofs.Answers.{step-still, shown-reach, leaves-of, same-here, current-is, unread-none}
+use Rattle.editor.proofs.Striking.{zero-of}
+use Rattle.editor.proofs.Inserting.{put-holds, insert-full, insert-on}
+
+-- ---- where it stands
+
+-- a text after m bytes of what stands from b on
+text-from : (j m l z : List ℕ) (b : ℕ) → drop b j ≡ m ++ (l ++ z) → take (length l) (drop (b + length m) j) ≡ l
+text-from j m l z b q =
+    rw (← drop-drop (length m) b j, q, drop-at m (l ++ z) (length m) refl) (take-at l z (length l) refl)
+
+module _ {j : List ℕ} {st : State} {b : List Record} {a : List Record} where
+  -- the line of a record that is not of a changed one
+  plain-at : (x y : ℕ) (l : Line) (r : Record) → enc r ≡ x ∷ y ∷ (l ++ (10 ∷ [])) → current r ≡ l → Holds j st b (r ∷ a)
+      → (end : ℕ) → end ≡ st .back + lineLength (drop (st .back) j) - 1 → TextAt j (st .back) (st .back + 2) (end - (st .back + 2)) r
+  unfolding encAll
+  plain-at x y l r is c h end at =
+      let size : length (enc r) ≡ suc (suc (length l + 1)) = ap length is ∙ ap (λ (i : ℕ). suc (suc i)) (length-append l (10 ∷ [])) in
+      let n : end - (st .back + 2) ≡ length l = omega (arith, held-record h) in
+      let q : drop (st .back) j ≡ (x ∷ y ∷ []) ++ (l ++ ((10 ∷ []) ++ encAll a)) = held-drop h ∙ rw is (simp append-assoc) in
+      record {
+        text = rw n (text-from j (x ∷ y ∷ []) l ((10 ∷ []) ++ encAll a) (st .back) q ∙ sym c);
+        after = omega arith;
+        within = omega (arith, held-more h);
+      }
+
+  pub text-plain : (getD j (st .back) 0 ≡ 60 → ⊥) → (r : Record) → Holds j st b (r ∷ a)
+      → (end : ℕ) → end ≡ st .back + lineLength (drop (st .back) j) - 1 → TextAt j (st .back) (st .back + 2) (end - (st .back + 2)) r
+  unfolding current
+  text-plain m (kept l) h = plain-at 61 61 l (kept l) refl refl h
+  text-plain m (changed o n) h = absurd (m (held-mark h))
+  text-plain m (deleted l) h = plain-at 45 45 l (deleted l) refl refl h
+  text-plain m (inserted l) h = plain-at 43 43 l (inserted l) refl refl h
+
+  new-at : (o n : Line) → Holds j st b (changed o n ∷ a) → (end z : ℕ) → end ≡ st .back + lineLength (drop (st .back) j) - 1
+      → z ≡ st .back + zeroPlace (drop (st .back) j) → TextAt j (st .back) (z + 1) (end - (z + 1)) (changed o n)
+  unfolding encAll current zeroPlace
+  new-at o n h end z at place =
+      let m : List ℕ = (60 ∷ 62 ∷ o) ++ (0 ∷ []) in
+      let R : List ℕ = (10 ∷ []) ++ encAll a in
+      let q : drop (st .back) j ≡ m ++ (n ++ R) = held-drop h ∙ simp append-assoc in
+      let q₂ : drop (st .back) j ≡ 60 ∷ 62 ∷ (o ++ (0 ∷ (n ++ R))) = held-drop h ∙ simp append-assoc in
+      let zp : zeroPlace (drop (st .back) j) ≡ 2 + length o = rw (q₂, zero-of o (n ++ R) (line-text o (h .good .0 .0))) (omega arith) in
+      let size : length (enc (changed o n)) ≡ 4 + (length o + length n) = simp length-append (omega arith) in
+      let lm : length m ≡ length o + 3 = simp length-append (omega arith) in
+      let from : z + 1 ≡ st .back + length m = omega arith in
+      let len : end - (z + 1) ≡ length n = omega (arith, held-record h) in
+      record {
+        text = rw (len, from) (text-from j m n R (st .back) q);
+        after = omega arith;
+        within = omega (arith, held-more h, held-record h);
+      }
+
+  pub text-new : getD j (st .back) 0 ≡ 60 → (r : Record) → Holds j st b (r ∷ a) → (end z : ℕ) → end ≡ st .back + lineLength (drop (st .back) j) - 1
+      → z ≡ st .back + zeroPlace (drop (st .back) j) → TextAt j (st .back) (z + 1) (end - (z + 1)) r
+  text-new m (kept l) h = absurd (omega (arith, held-mark h))
+  text-new m (changed o n) h = new-at o n h
+  text-new m (deleted l) h = absurd (omega (arith, held-mark h))
+  text-new m (inserted l) h = absurd (omega (arith, held-mark h))
+
+  -- a place inside the record
+  pub zero-inside : getD j (st .back) 0 ≡ 60 → (r : Record) → Holds j st b (r ∷ a) → zeroPlace (drop (st .back) j) + 2 ≤ length (enc r)
+  unfolding encAll zeroPlace
+  zero-inside m (kept l) h = absurd (omega (arith, held-mark h))
+  zero-inside m (changed o n) h =
+      let R : List ℕ = n ++ ((10 ∷ []) ++ encAll a) in
+      let q : drop (st .back) j ≡ 60 ∷ 62 ∷ (o ++ (0 ∷ R)) = held-drop h ∙ simp append-assoc in
+      let zp : zeroPlace (drop (st .back) j) ≡ 2 + length o = rw (q, zero-of o R (line-text o (h .good .0 .0))) (omega arith) in
+      let size : length (enc (changed o n)) ≡ 4 + (length o + length n) = simp length-append (omega arith) in
+      omega arith
+  zero-inside m (deleted l) h = absurd (omega (arith, held-mark h))
+  zero-inside m (inserted l) h = absurd (omega (arith, held-mark h))
+
+-- ---- its copy
+
+pub current-good : (r : Record) → Good r → isLine (current r) ≡ true
+unfolding current
+current-good (kept l) g = g
+current-good (changed o n) g = g .1
+current-good (deleted l) g = g
+current-good (inserted l) g = g
+
+copy-none : {j : List ℕ} {st : State} (n : ℕ) (b : List Record) (p : ℕ) (t : Tape) → Shows j st (ed b [] p) t → Answered j (Stop 20 st) (step n Op.copy (ed b [] p) t)
+unfolding Answers need act withLine within
+copy-none n b p t h = rw (step-still n Op.copy (ed b [] p) t refl) (refl, leaves-of b [] p t (same-here (h .holds)) (shown-reach b [] p t h))
+
+pub copy-eof : {j : List ℕ} {st : State} (n : ℕ) (e : Ed) (t : Tape) → Shows j st e t → length j ≤ st .back → Answered j (Stop 20 st) (step n Op.copy e t)
+copy-eof {j} {st} n (ed b a p) t h end = at-none a (unread-none a t (held-none (h .holds) end)) h
+  where
+    at-none : (c : List Record) → c ≡ [] → Shows j st (ed b c p) t → Answered j (Stop 20 st) (step n Op.copy (ed b c p) t)
+    at-none [] q h = copy-none n b p t h
+    at-none (r ∷ c) q h = absurd (let z : _≡_ {A = ℕ} 0 1 = cc in omega arith)
+
+-- IC is the insertion of the current line's text
+copy-step : (n : ℕ) (b : List Record) (r : Record) (a : List Record) (p : ℕ) (t : Tape)
+    → step n Op.copy (ed b (r ∷ a) p) t ≡ step n (Op.insert none (current r ∷ [])) (ed b (r ∷ a) p) t
+unfolding need act withLine insertLines
+copy-step n b r a p t = step-still n Op.copy (ed b (r ∷ a) p) t refl ∙ sym (step-still n (Op.insert none (current r ∷ [])) (ed b (r ∷ a) p) t refl)
+
+-- the text's length
+text-size : {j : List ℕ} {b from n : ℕ} {r : Record} → TextAt j b from n r → length (current r) ≡ n
+text-size {j} {b} {from} {n} x = ap length (sym (x .text)) ∙ length-take-le n (drop from j) (simp length-drop (omega (arith, x .within)))
+
+module _ {j : List ℕ} {st : State} (from n : ℕ) (e : Ed) (t : Tape) (more : st .back < length j)
+    (texts : (b : List Record) (x : Record) (a : List Record) → Holds j st b (x ∷ a) → TextAt j (st .back) from n x) where
+  pub copy-full : Shows j st e t → st .back - st .front < n + 3 → Answered j (Stop 26 st) (step (length j) Op.copy e t)
+  copy-full = elim e [
+    | ed b a p ↦ λ h full.
+        let f : (r : Record) × (c : List Record) × (a ++ map kept (restLines t) ≡ r ∷ c) = held-first (h .holds) more in
+        full-at b p a h (current-is a t (h .grounded) (f .0) (f .1) (f .2)) full
+  ]
+    where
+      full-at : (b : List Record) (p : ℕ) (a : List Record) → Shows j st (ed b a p) t → {r : Record} {d : List Record} → (c : List Record) × (a ≡ r ∷ c) × (d ≡ c ++ map kept (restLines t))
+          → st .back - st .front < n + 3 → Answered j (Stop 26 st) (step (length j) Op.copy (ed b a p) t)
+      full-at b p [] h w full = absurd (let z : _≡_ {A = ℕ} 0 1 = cc (w .1) in omega arith)
+      full-at b p (r ∷ c) h w full =
+          rw (copy-step (length j) b r c p t)
+          (insert-full (current r) (ed b (r ∷ c) p) t h (omega (arith, text-size (texts b r (c ++ map kept (restLines t)) (h .holds)))))
+
+  pub copy-on : {k : List ℕ} {s : State} → Shows j st e t → n + 3 ≤ st .back - st .front
+      → ((b : List Record) (a : List Record) → Holds j st b a → Holds k s (inserted (take n (drop from j)) ∷ b) a) → Stays st s
+      → Answered k (On s) (step (length j) Op.copy e t)
+  copy-on {k} {s} = elim e [
+    | ed b a p ↦ λ h room puts same.
+        let f : (r : Record) × (c : List Record) × (a ++ map kept (restLines t) ≡ r ∷ c) = held-first (h .holds) more in
+        on-at b p a h (current-is a t (h .grounded) (f .0) (f .1) (f .2)) room puts same
+  ]
+    where
+      on-at : (b : List Record) (p : ℕ) (a : List Record) → Shows j st (ed b a p) t → {r : Record} {d : List Record} → (c : List Record) × (a ≡ r ∷ c) × (d ≡ c ++ map kept (restLines t))
+          → n + 3 ≤ st .back - st .front → ((b : List Record) (a : List Record) → Holds j st b a → Holds k s (inserted (take n (drop from j)) ∷ b) a) → Stays st s
+          → Answered k (On s) (step (length j) Op.copy (ed b a p) t)
+      on-at b p [] h w room puts same = absurd (let z : _≡_ {A = ℕ} 0 1 = cc (w .1) in omega arith)
+      on-at b p (r ∷ c) h w room puts same =
+          let x : TextAt j (st .back) from n r = texts b r (c ++ map kept (restLines t)) (h .holds) in
+          rw (copy-step (length j) b r c p t)
+          (insert-on (current r) (ed b (r ∷ c) p) t h (omega (arith, text-size x)) (λ b₁ a₁ h₁. rw (x .text) at (puts b₁ a₁ h₁)) same)
+
+-- what `put_copy` makes of a buffer
+pub put-copy-holds : (j k : List ℕ) (st s : State) (from n : ℕ) → st .back ≤ from → from + n ≤ length j → isLine (take n (drop from j)) ≡ true → st .front + (n + 3) ≤ st .back
+    → k ≡ set (paste (set (set j (st .front) 43) (st .front + 1) 43) (st .front + 2) (drop from (set (set j (st .front) 43) (st .front + 1) 43)) n) (st .front + 2 + n) 10
+    → s .front ≡ st .front + 2 + n + 1 → s .back ≡ st .back → s .past ≡ st .past → s .lines ≡ st .lines
+    → (b a : List Record) → Holds j st b a → Holds k s (inserted (take n (drop from j)) ∷ b) a
+put-copy-holds j k st s from n far fits good room is f e c l =
+    let f₀ : ℕ = st .front in
+    let same : drop from (set (set j f₀ 43) (f₀ + 1) 43) ≡ drop from j = drop-set-lt from (set j f₀ 43) (f₀ + 1) 43 (omega arith) ∙ drop-set-lt from j f₀ 43 (omega arith) in
+    let is₂ : k ≡ set (paste (set (set j f₀ 43) (f₀ + 1) 43) (f₀ + 2) (drop from j) n) (f₀ + 2 + n) 10 = rw same at is in
+    put-holds j k st s (drop from j) n (simp length-drop (omega arith)) good room is₂ f e c l
+
+pub copied-good : {j : List ℕ} {b from n : ℕ} {r : Record} → Good r → TextAt j b from n r → isLine (take n (drop from j)) ≡ true
+copied-good {r = r} g x = rw (x .text) (current-good r g)
+
+pub copied-short : {j : List ℕ} {b from n : ℕ} {r : Record} → Good r → TextAt j b from n r → n ≤ 255
+copied-short {r = r} g x = omega (arith, text-size x, line-short (current r) (current-good r g))

@@ -1,0 +1,67 @@
+use mathlib.Core.Path.{_≡_, refl, _∙_}
+use mathlib.Core.List.{List}
+use Prim.Native.Nat.{_<_}
+use native.Mathlib.Omega.{arith}
+use lib.ListN.{length}
+use Rattle.definitions.specs.Journal.{Record}
+use Rattle.editor.specs.Shows.{Holds, Stays, Same}
+use Rattle.editor.proofs.Landed.{same-start, past-some, same-back}
+use Rattle.editor.proofs.Answers.{unpassable}
+use Rattle.editor.proofs.moves.back_to.Statement.{statement}
+use Rattle.editor.proofs.moves.back_to.Tie as tie
+
+abbrev Inv-loop : tie.InvT-loop
+Inv-loop j₀ k s₀ j s = ((b a : List Record) → Holds j₀ s₀ b a → Same j s b a) × Stays s₀ s × (length j ≡ length j₀)
+
+abbrev μ-loop : tie.MeasureT-loop
+μ-loop j₀ k s₀ j s = s .front
+
+-- records that the buffer holds at the loop's head
+shown : (c : tie.At-loop Inv-loop μ-loop) → Same (c .loop .j) (c .loop .s) (c .before .before .pre .0) (c .before .before .pre .1)
+shown c = c .loop .inv .0 (c .before .before .pre .0) (c .before .before .pre .1) (c .before .before .pre .2)
+
+some : (c : tie.Then1 Inv-loop μ-loop) → 0 < c .before .before .loop .s .front
+some c = past-some (shown (c .before .before) .holds) (let h = c .if1 .taken in omega arith)
+
+loop-holds : tie.Need-loop-holds Inv-loop μ-loop
+loop-holds c = (same-start, record { furthest = refl; lines = refl; p = refl }, refl)
+
+unpass-record-requires : tie.Need-unpass-record-requires Inv-loop μ-loop
+unpass-record-requires c κs = unpassable (shown (c .before .before .before) .holds) (some (c .before))
+
+loop-less : tie.Need-loop-less Inv-loop μ-loop
+loop-less c = c .before .before .unpass-record .ensures .2
+
+loop-again : tie.Need-loop-again Inv-loop μ-loop
+loop-again c =
+    let l = c .before .before .before .before .before .before .loop in
+    let r = c .before .before .unpass-record in (
+      (λ b a h. same-back (l .inv .0 b a h) (some (c .before .before .before .before)) (r .ensures .0)),
+      record {
+        furthest = r .ensures .1 .furthest ∙ l .inv .1 .furthest;
+        lines = r .ensures .1 .lines ∙ l .inv .1 .lines;
+        p = r .ensures .1 .p ∙ l .inv .1 .p;
+      },
+      r .kept .0 ∙ l .inv .2,
+    )
+
+same-length : tie.Need-same-length Inv-loop μ-loop
+same-length c = c .before .before .loop .inv .2
+
+returns : tie.Need-returns Inv-loop μ-loop
+returns c =
+    let l = c .before .before .loop in
+    (l .inv .0, l .inv .1, omega arith)
+
+pub back-to-spec : {M : Type 1} → statement M
+back-to-spec =
+    tie.close
+    (tie.spec
+    Inv-loop
+    μ-loop
+    loop-holds
+    unpass-record-requires
+    loop-less
+    loop-again
+    same-length
+    returns)

@@ -1,0 +1,83 @@
+-- Records as they stand in the journal buffer during a run: one line feed a record, so that they can be walked both ways. Assumes nothing.
+use mathlib.Core.Path.{_≡_}
+use mathlib.Core.Bool.{true, cond}
+use mathlib.Core.List.{List, [], _∷_, _++_}
+use Prim.Native.Nat.{ℕ, suc, _+_, _-_}
+use lib.ListN.{length, take}
+use lib.Dec.{eqb}
+use Rattle.definitions.specs.Bytes.{isLine}
+use Rattle.definitions.specs.Journal.{Record, kept, changed, deleted, inserted}
+
+-- a record without the line feed that ends it; a 0 stands between the two lines of a changed one
+abbrev pub body : Record → List ℕ
+body (kept l) = 61 ∷ 61 ∷ l
+body (changed o n) = 60 ∷ 62 ∷ (o ++ (0 ∷ n))
+body (deleted l) = 45 ∷ 45 ∷ l
+body (inserted l) = 43 ∷ 43 ∷ l
+
+abbrev pub enc : Record → List ℕ
+enc r = body r ++ (10 ∷ [])
+
+-- records in order
+unfoldable pub encAll : List Record → List ℕ
+encAll [] = []
+encAll (r ∷ rs) = enc r ++ encAll rs
+
+-- records of which the last stands first in the list
+unfoldable pub encBefore : List Record → List ℕ
+encBefore [] = []
+encBefore (r ∷ rs) = encBefore rs ++ enc r
+
+-- a record's first byte
+abbrev pub mark : Record → ℕ
+mark (kept l) = 61
+mark (changed o n) = 60
+mark (deleted l) = 45
+mark (inserted l) = 43
+
+-- its lines are of text bytes, at most 255 of them
+abbrev pub Good : Record → Type 0
+Good (kept l) = isLine l ≡ true
+Good (changed o n) = (isLine o ≡ true) × (isLine n ≡ true)
+Good (deleted l) = isLine l ≡ true
+Good (inserted l) = isLine l ≡ true
+
+abbrev pub Goods : List Record → Type 0
+Goods [] = Unit {0}
+Goods (r ∷ rs) = Good r × Goods rs
+
+-- "Live records are all but `--`"
+abbrev pub Live : Record → Type 0
+Live (kept l) = Unit {0}
+Live (changed o n) = Unit {0}
+Live (deleted l) = ⊥
+Live (inserted l) = Unit {0}
+
+-- ---- walking bytes
+
+-- the place of the first 0; the length where there is none
+unfoldable pub zeroPlace : List ℕ → ℕ
+zeroPlace [] = 0
+zeroPlace (x ∷ l) = cond (eqb x 0) 0 (suc (zeroPlace l))
+
+-- ---- the opening and the end
+
+-- what a byte of a table becomes in the opening journal: the next line's mark stands after a line feed
+abbrev pub piece : ℕ → List ℕ
+piece x = cond (eqb x 10) (10 ∷ 61 ∷ 61 ∷ []) (x ∷ [])
+
+abbrev pub pieces : List ℕ → List ℕ
+pieces [] = []
+pieces (x ∷ t) = piece x ++ pieces t
+
+-- the opening journal of a table that has lines, without its first mark: no mark stands after the last line feed
+abbrev pub unmarkedOpening : List ℕ → List ℕ
+unmarkedOpening t = pieces (take (length t - 1) t) ++ (10 ∷ [])
+
+abbrev pub lineFeeds : List ℕ → ℕ
+lineFeeds [] = 0
+lineFeeds (x ∷ t) = cond (eqb x 10) 1 0 + lineFeeds t
+
+-- the byte that a 0 between two lines becomes
+abbrev pub lineEnd : ℕ → ℕ
+lineEnd x = cond (eqb x 0) 10 x

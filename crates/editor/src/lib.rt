@@ -1,0 +1,25 @@
+// The journal buffer during a run, and the commands on it.
+pub mod edits;
+pub mod ends;
+pub mod moves;
+pub mod walk;
+
+// The numbers that go with the journal buffer.
+pub struct State {
+    // The gap is from front to back.
+    pub front: usize,
+    pub back: usize,
+    // The source lines before the current record.
+    pub past: usize,
+    // The furthest source line read, EOF counting as lines + 1.
+    pub furthest: usize,
+    // The source lines of the table.
+    pub lines: usize,
+    pub p: usize,
+}
+
+// What a command comes to: the run goes on, or stops with a number.
+pub enum Moved {
+    On(State),
+    Stop(usize, State),
+}

@@ -1,0 +1,5 @@
+pub mod Texts
+pub mod Tests
+pub mod Finding
+pub mod Deleting
+pub mod Seeking

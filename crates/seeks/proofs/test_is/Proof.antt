@@ -1,0 +1,16 @@
+use Rattle.seeks.proofs.Tests.{is-yes, is-no}
+use borrow.Author.Needs.{needs}
+use Rattle.seeks.proofs.test_is.Statement.{statement}
+use Rattle.seeks.proofs.test_is.Tie as tie
+
+holds-here-requires : tie.Need-holds-here-requires
+holds-here-requires c κs = search needs
+
+returns : tie.Need-returns
+returns c = λ se e t w h i. is-yes _ _ se e t h i (c .before .holds-here .ensures se e t w h i) (c .if1 .taken)
+
+returns-2 : tie.Need-returns-2
+returns-2 c = λ se e t w h i. is-no _ _ se e t h i (c .before .holds-here .ensures se e t w h i) (c .if1 .left)
+
+pub test-is-spec : {M : Type 1} → statement M
+test-is-spec = tie.close (tie.spec holds-here-requires returns returns-2)

@@ -1,0 +1,86 @@
+use mathlib.Core.Path.{_≡_, refl, sym, _∙_}
+use mathlib.Core.List.{List, _∷_, _++_}
+use Prim.Native.Nat.{_+_, _-_, _<_}
+use native.Mathlib.Omega.{arith}
+use lib.ListN.{length}
+use Rattle.definitions.specs.Journal.{Record}
+use Rattle.editor.specs.Records.{encAll}
+use Rattle.editor.specs.Shows.{Holds, Stays}
+use Rattle.spans.proofs.Struck.{Striking, striking-start, striking-first, striking-done, striking-on, strike-still, stays-still, stays-on}
+use Rattle.spans.proofs.striking.strike_to.Statement.{statement}
+use Rattle.spans.proofs.striking.strike_to.Tie as tie
+
+abbrev Inv-loop : tie.InvT-loop
+Inv-loop j₀ end s₀ j s = ((c m d : List Record) → Holds j₀ s₀ c (m ++ d) → end + length (encAll d) ≡ length j₀ → Striking j s c m d) × Stays s₀ s × (length j ≡ length j₀)
+
+abbrev μ-loop : tie.MeasureT-loop
+μ-loop j₀ end s₀ j s = end - s .back
+
+-- records that the buffer holds at the loop's head
+shown : (c : tie.At-loop Inv-loop μ-loop) → Striking (c .loop .j) (c .loop .s) (c .before .before .pre .0) (c .before .before .pre .1) (c .before .before .pre .2)
+shown c =
+    let p = c .before .before .pre in
+    c .loop .inv .0 (p .0) (p .1) (p .2) (p .3) (p .4)
+
+at-end : (c : tie.At-loop Inv-loop μ-loop) → c .before .before .args .end + length (encAll (c .before .before .pre .2)) ≡ length (c .loop .j)
+at-end c = c .before .before .pre .4 ∙ sym (c .loop .inv .2)
+
+less : (c : tie.Then1 Inv-loop μ-loop) → c .before .before .loop .s .back < c .before .before .before .before .args .end
+less c = let h = c .if1 .taken in omega arith
+
+-- the record that is current
+first : (c : tie.Then1 Inv-loop μ-loop) → (b : List Record) × (r : Record) × (a : List Record) × Holds (c .before .before .loop .j) (c .before .before .loop .s) b (r ∷ a)
+first c = striking-first (shown (c .before .before)) (c .before .before .before .before .args .end) (at-end (c .before .before)) (less c)
+
+loop-holds : tie.Need-loop-holds Inv-loop μ-loop
+loop-holds c = ((λ c m d h q. striking-start c m d h), stays-still, refl)
+
+pass-record-requires : tie.Need-pass-record-requires Inv-loop μ-loop
+pass-record-requires c κs = first (c .before)
+
+strike-record-requires : tie.Need-strike-record-requires Inv-loop μ-loop
+strike-record-requires c κs =
+    let w = first (c .before .before .before .before .before) in
+    (w .1, w .0, w .2, c .before .before .before .pass-record .ensures .0 (w .0) (w .1) (w .2) (w .3), w .3 .front)
+
+loop-less : tie.Need-loop-less Inv-loop μ-loop
+loop-less c =
+    let w = first (c .before .before .before .before .before .before .before .before) in
+    let r = c .before .before .before .before .before .before .pass-record in
+    let v = c .before .before .strike-record in
+    let h = r .ensures .0 (w .0) (w .1) (w .2) (w .3) in
+    omega (arith, less (c .before .before .before .before .before .before .before .before), r .ensures .2, strike-still h (v .ensures .0 (w .1) (w .0) (w .2) h (w .3 .front)) (v .kept .0))
+
+loop-again : tie.Need-loop-again Inv-loop μ-loop
+loop-again c =
+    let l = c .before .before .before .before .before .before .before .before .before .before .loop in
+    let r = c .before .before .before .before .before .before .pass-record in
+    let v = c .before .before .strike-record in
+    let end = c .before .before .before .before .before .before .before .before .before .before .before .before .args .end in (
+      (λ b m d h q. striking-on (l .inv .0 b m d h q) end (q ∙ sym (l .inv .2)) (less (c .before .before .before .before .before .before .before .before)) refl (r .ensures .0) (v .ensures .0)),
+      stays-on (l .inv .1) (stays-on (r .ensures .1) (v .ensures .1)),
+      v .kept .0 ∙ r .kept .0 ∙ l .inv .2,
+    )
+
+same-length : tie.Need-same-length Inv-loop μ-loop
+same-length c = c .before .before .loop .inv .2
+
+returns : tie.Need-returns Inv-loop μ-loop
+returns c =
+    let l = c .before .before .loop in
+    let end = c .before .before .before .before .args .end in
+    ((λ b m d h q. striking-done (l .inv .0 b m d h q) end (q ∙ sym (l .inv .2)) (λ x. let y = c .if1 .left in omega arith)), l .inv .1)
+
+pub strike-to-spec : {M : Type 1} → statement M
+strike-to-spec =
+    tie.close
+    (tie.spec
+    Inv-loop
+    μ-loop
+    loop-holds
+    pass-record-requires
+    strike-record-requires
+    loop-less
+    loop-again
+    same-length
+    returns)
