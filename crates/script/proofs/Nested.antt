@@ -12,10 +12,11 @@ use borrow.Author.Tests.{lt-ltb, le-ltb, eq-eqb, ne-eqb}
 use Rattle.definitions.specs.Control.{Item, opens, bare, bracket, otherwise, close}
 use Rattle.definitions.specs.Reader.{Cursor, cursor, nextByte, isNext, afterByte, placeAt}
 use Rattle.definitions.specs.Script.{Due, nothing, body, Group, group, Reading, reading, refusedAt, Next, more, done, closes, openGroup, groupItems, groupOf, elseGroup, isElse, afterElse, groupEnd, closeGroup}
+use Rattle.matching.specs.Words.{bitOf}
 use Rattle.reader.specs.Places.{cursorAt}
 use Rattle.reader.proofs.AtPlace.{is-next, not-next, after-in, after-next, next-inside}
 use Rattle.script.specs.Words.{head, ItemAt, OpenerAt, Gathered}
-use Rattle.script.specs.Reading.{dueOf, flag, groupIn, groupsIn, bodiesIn, readingOf, Fits, Stands, Kept, Closed, Comes}
+use Rattle.script.specs.Reading.{dueOf, groupIn, groupsIn, bodiesIn, readingOf, Fits, Stands, Kept, Closed, Comes}
 use Rattle.script.specs.declared.State.{State}
 use Rattle.script.specs.declared.Step.{Step}
 use Rattle.script.proofs.Keeping.{gather, acc-kept, groups-kept, bodies-kept, fits-kept, free, kept-all, kept-set}
@@ -24,8 +25,8 @@ use Rattle.script.proofs.OneRound.{none-due, some-due, no-groups, some-
 
 -- ---- the word of a group
 
-pub group-back : (k : ℕ) (e : Bool) → groupIn (2 * k + flag e) ≡ group k e
-unfolding groupIn flag
+pub group-back : (k : ℕ) (e : Bool) → groupIn (2 * k + bitOf e) ≡ group k e
+unfolding groupIn bitOf
 group-back k true =
     let a : (2 * k + 1) / 2 ≡ k = omega arith in
     let b : (2 * k + 1) % 2 ≡ 1 = omega arith in
@@ -35,17 +36,17 @@ group-back k false =
     let b : (2 * k + 0) % 2 ≡ 0 = omega arith in
     rw (a, b)
 
-pub flag-half : (k : ℕ) (e : Bool) → (2 * k + flag e) / 2 ≡ k
-unfolding flag
+pub flag-half : (k : ℕ) (e : Bool) → (2 * k + bitOf e) / 2 ≡ k
+unfolding bitOf
 flag-half k true = omega arith
 flag-half k false = omega arith
 
-pub flag-on : (e : Bool) → e ≡ true → 1 ≡ flag e
-unfolding flag
+pub flag-on : (e : Bool) → e ≡ true → 1 ≡ bitOf e
+unfolding bitOf
 flag-on e is = rw is
 
-pub flag-off : (e : Bool) → e ≡ false → 0 ≡ flag e
-unfolding flag
+pub flag-off : (e : Bool) → e ≡ false → 0 ≡ bitOf e
+unfolding bitOf
 flag-off e is = rw is
 
 -- one word is written at k, or two, then the word of a group
@@ -137,7 +138,7 @@ module _ (s w : List ℕ) (st : State) (acc : List Item) (h : Stands s w st acc)
           (acc-kept (st .k) (st .depth) w w' kept s acc (omega (arith, room)) (h .gathered))))
           (omega arith) (omega arith) deep (h .fits) (omega (arith, h .room))
 
-      pub opens-body : (x : ℕ) → x ≡ 2 * st .due + flag (st .elses) →
+      pub opens-body : (x : ℕ) → x ≡ 2 * st .due + bitOf (st .elses) →
           Comes s (set (set w (st .k) 1) (length w - (st .depth + 1)) x) (st .at)
           (more (reading (cursorAt s (st .at + 1)) nothing (group (st .due) (st .elses) ∷ groupsIn w (st .depth)) (bracket ∷ acc)))
           (Step.More (record { at = st .at + 1; k = st .k + 1; due = 0; elses = false; depth = st .depth + 1 }))
@@ -240,7 +241,7 @@ module _ (s w : List ℕ) (st : State) (acc : List Item) (h : Stands s w st acc)
     pub else-opens : 0 < st .depth → st .at < p → n ≡ getD w (length w - st .depth) 0 / 2 → nextByte (cursorAt s p) ≡ 40
         → Comes s (set (set (set w (st .k) 3) (st .k + 1) 1) (length w - st .depth) (2 * n)) (st .at) (elseGroup n (groupsIn w (st .depth - 1)) acc (cursorAt s p))
         (Step.More (record { at = p + 1; k = st .k + 2; due = 0; elses = false; depth = st .depth }))
-    unfolding ItemAt flag
+    unfolding ItemAt bitOf
     else-opens pos after is e =
         let within : p < length s = next-inside s p (rw e (omega arith)) in
         let half : bodiesIn w (st .depth) ≡ n + bodiesIn w (st .depth - 1) = some-bodies w (st .depth) (λ z. omega (arith, z)) ∙ ap (λ (m : ℕ). m + bodiesIn w (st .depth - 1)) (sym is) in
@@ -251,7 +252,7 @@ module _ (s w : List ℕ) (st : State) (acc : List Item) (h : Stands s w st acc)
         let w' : List ℕ = set (set (set w (st .k) 3) (st .k + 1) 1) top (2 * n) in
         let kept : Kept (st .k) (st .depth - 1) w w' = two-stay w (st .k) top (st .depth - 1) far 3 1 (2 * n) near in
         let e2 : st .k + 2 ≡ st .k + 1 + 1 = omega arith in
-        let zero-flag : 2 * n ≡ 2 * n + flag false = omega arith in
+        let zero-flag : 2 * n ≡ 2 * n + bitOf false = omega arith in
         rw (else-there e)
         (opened s w w' (st .k) (st .depth - 1) (st .depth) (2 * n) (omega arith) kept (two-top w (st .k) top (st .depth - 1) far 3 1 (2 * n) near)
         (st .at) (p + 1) (st .k + 2) (bracket ∷ otherwise ∷ acc) (group n false) (ap groupIn zero-flag ∙ group-back n false)

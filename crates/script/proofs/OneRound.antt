@@ -17,7 +17,7 @@ use Rattle.definitions.specs.Commands.{Decoded, whole, prefix}
 use Rattle.definitions.specs.Script.{Due, nothing, body, Group, group, Reading, reading, items, refusedAt, Next, more, done, bodies, closes, decoded, separator, lineItems, scriptEnd, openGroup, groupItems, groupOf}
 use Rattle.reader.specs.Places.{cursorAt}
 use Rattle.script.specs.Words.{ItemAt, Gathered}
-use Rattle.script.specs.Reading.{dueOf, flag, groupIn, groupsIn, bodiesIn, readingOf, Fits, Stands, Kept, Closed, Laid, KeptBy, CommandIs, Written, Comes}
+use Rattle.script.specs.Reading.{dueOf, groupIn, groupsIn, bodiesIn, readingOf, Fits, Stands, Kept, Closed, Laid, KeptBy, CommandIs, Written, Comes}
 use Rattle.script.specs.declared.State.{State}
 use Rattle.script.specs.declared.Step.{Step}
 use Rattle.script.specs.declared.Command.{Command}

@@ -24,10 +24,21 @@ use Rattle.strings.specs.declared.TwoStrings.{TwoStrings}
 use Rattle.strings.proofs.Callers.{string-not, string-at, string-is, pair-not, pair-at, pair-is, string-few, string-writable}
 use Rattle.script.specs.Words.{head, changeKind, pointKind, OpAt, ItemAt}
 use Rattle.script.specs.Reading.{Room, Laid, Kept, KeptBy, CommandIs, Written}
+use Rattle.script.specs.Commands.{refusedByString, refusedByPair}
 use Rattle.script.specs.declared.Command.{Command}
 use Rattle.script.proofs.Keeping.{kept-set}
 use Rattle.script.proofs.Items.{one-stays, one-is, refused-written}
 use Rattle.script.proofs.Inserting.{string-in}
+
+-- ---- refusals
+
+pub refused-string : (a : OneString) (r : Command) (n p : ℕ) → r ≡ refusedByString a → a ≡ OneString.Refused n p → r ≡ Command.Refused n p
+unfolding refusedByString
+refused-string a r n p by e = by ∙ rw e
+
+pub refused-pair : (a : TwoStrings) (r : Command) (n p : ℕ) → r ≡ refusedByPair a → a ≡ TwoStrings.Refused n p → r ≡ Command.Refused n p
+unfolding refusedByPair
+refused-pair a r n p by e = by ∙ rw e
 
 -- ---- words stored in a run
 

@@ -21,7 +21,7 @@ use Rattle.searches.specs.Parsing.{Room as SearchRoom, Written as SearchWritten
 use Rattle.searches.specs.declared.Parse.{Parse}
 use Rattle.script.specs.Words.{head, seekKind, SearchAt, OpenerAt, ItemAt}
 use Rattle.script.specs.Reading.{Room, Laid, Kept, KeptBy, CommandIs, Written}
-use Rattle.script.specs.Searches.{branchKind, loopKind, Found, Searched}
+use Rattle.script.specs.Searches.{refusedSearch, branchKind, loopKind, Found, Searched}
 use Rattle.script.specs.declared.Command.{Command}
 use Rattle.script.proofs.Keeping.{kept-set}
 use Rattle.script.proofs.Items.{first-is, second-is, refused-written}
@@ -91,6 +91,10 @@ module _ (s w : List ℕ) (place at k : ℕ) (r : Room s w place at k) where
       search-small next m x wr = omega (arith, wr .room, wr .within, r .room, r .named, r .inside, r .fits .small)
 
 -- ---- the answers, taken apart
+
+pub refused-search : (a : Parse) (r : Command) (n p : ℕ) → r ≡ refusedSearch a → a ≡ Parse.Refused n p → r ≡ Command.Refused n p
+unfolding refusedSearch
+refused-search a r n p by e = by ∙ rw e
 
 module _ (s w w' : List ℕ) (at k first : ℕ) (x : Got Search) (a : Parse) (h : Searched s w w' at k first x a) where
   pub found-next : (next m : ℕ) → a ≡ Parse.Next next m → Found s w w' at k first next m x

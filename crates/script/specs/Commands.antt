@@ -7,6 +7,8 @@ use Rattle.reader.specs.declared.Answer.{Answer}
 use Rattle.reader.specs.declared.Two.{Two}
 use Rattle.reader.specs.declared.shapes.Plain.{Plain}
 use Rattle.reader.specs.declared.shapes.Plain.the-variants.{Next, Previous, Copy, PointStart, Right, Left, CutByte, Lower, Upper, Quit}
+use Rattle.strings.specs.declared.OneString.{OneString}
+use Rattle.strings.specs.declared.TwoStrings.{TwoStrings}
 use Rattle.script.specs.Words.{head}
 use Rattle.script.specs.declared.Command.{Command}
 
@@ -18,6 +20,14 @@ refusedBy (Answer.Refused n p) = Command.Refused n p
 unfoldable pub refusedByTwo : Two → Command
 refusedByTwo (Two.Are a b next) = Command.Refused 0 next
 refusedByTwo (Two.Refused n p) = Command.Refused n p
+
+unfoldable pub refusedByString : OneString → Command
+refusedByString (OneString.Next q start end next) = Command.Refused 0 next
+refusedByString (OneString.Refused n p) = Command.Refused n p
+
+unfoldable pub refusedByPair : TwoStrings → Command
+refusedByPair (TwoStrings.Next q start end second secondEnd next) = Command.Refused 0 next
+refusedByPair (TwoStrings.Refused n p) = Command.Refused n p
 
 unfoldable pub plainKind : Plain → ℕ
 plainKind Quit = 5

@@ -29,10 +29,6 @@ dueOf (suc k) e = body (suc k) e
 unfoldable pub groupIn : ℕ → Group
 groupIn x = group (x / 2) (eqb (x % 2) 1)
 
-unfoldable pub flag : Bool → ℕ
-flag true = 1
-flag false = 0
-
 -- the open groups, innermost first: the outermost one stands in the last word
 unfoldable pub groupsIn : List ℕ → ℕ → List Group
 groupsIn w zero = []

@@ -12,6 +12,12 @@ use Rattle.reader.specs.declared.shapes.Shape.the-variants.{Plain, Leaves, Seek
 use Rattle.searches.specs.declared.Parse.{Parse}
 use Rattle.script.specs.Words.{SearchAt}
 use Rattle.script.specs.Reading.{Kept}
+use Rattle.script.specs.declared.Command.{Command}
+
+-- a refusal of the search refuses the command; 0 is no number of a refusal
+unfoldable pub refusedSearch : Parse → Command
+refusedSearch (Parse.Next next m) = Command.Refused 0 next
+refusedSearch (Parse.Refused n p) = Command.Refused n p
 
 -- IF and WH (true), UL and UT
 unfoldable pub branchKind : Bool → ℕ

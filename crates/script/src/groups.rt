@@ -6,8 +6,9 @@ ghost use Prim.Native.Nat.{ℕ, _+_, _-_, _*_, _/_, _≤_, _<_};
 ghost use lib.ListN.{length, getD};
 ghost use Rattle.definitions.specs.Control.{Item, opens, bare, bracket, otherwise};
 ghost use Rattle.definitions.specs.Script.{nothing, group, reading, more, closes, openGroup, elseGroup, closeGroup};
+ghost use Rattle.matching.specs.Words.{bitOf};
 ghost use Rattle.reader.specs.Places.{cursorAt};
-ghost use Rattle.script.specs.Reading.{dueOf, flag as «flag-of», groupsIn, Stands, Comes};
+ghost use Rattle.script.specs.Reading.{dueOf, groupsIn, Stands, Comes};
 use crate::State;
 use crate::Step;
 use crate::words::head;
@@ -17,7 +18,7 @@ use reader::words::Else;
 use reader::words::skip_else;
 
 fn flag(b: bool) -> u32
-    ensures { λ r. ⌜ (r ≡ «flag-of» b) × (r ≤ 1) ⌝ }
+    ensures { λ r. ⌜ (r ≡ bitOf b) × (r ≤ 1) ⌝ }
 {
     if b { 1 } else { 0 }
 }

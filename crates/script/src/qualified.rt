@@ -7,6 +7,7 @@ ghost use Rattle.reader.specs.Places.{cursorAt};
 ghost use Rattle.reader.specs.Shapes.{changeOf};
 ghost use Rattle.script.specs.Words.{changeKind, pointKind};
 ghost use Rattle.script.specs.Reading.{Room, Written};
+ghost use Rattle.script.specs.Commands.{refusedByString, refusedByPair};
 use crate::Command;
 use crate::inserts::string_word;
 use crate::words::head;
@@ -16,6 +17,37 @@ use strings::OneString;
 use strings::TwoStrings;
 use strings::qualified_string;
 use strings::two_strings;
+
+// A refusal of a string refuses the command. 0 is no number of a refusal.
+fn refusal(string: OneString) -> Command
+    ensures { λ r. ⌜ r ≡ refusedByString string ⌝ }
+{
+    match string {
+        OneString::Next {
+            quals: _,
+            start: _,
+            end: _,
+            next,
+        } => Command::Refused(0, next),
+        OneString::Refused(n, p) => Command::Refused(n, p),
+    }
+}
+
+fn refusal_pair(both: TwoStrings) -> Command
+    ensures { λ r. ⌜ r ≡ refusedByPair both ⌝ }
+{
+    match both {
+        TwoStrings::Next {
+            quals: _,
+            start: _,
+            end: _,
+            second: _,
+            second_end: _,
+            next,
+        } => Command::Refused(0, next),
+        TwoStrings::Refused(n, p) => Command::Refused(n, p),
+    }
+}
 
 fn change_kind(change: Change, pointing: bool) -> u32
     ensures { λ r. ⌜ (r ≡ changeKind (changeOf change) pointing) × (r < 64) ⌝ }
@@ -41,22 +73,21 @@ pub fn alters(
     ensures { λ r. ⌜ Written (now (s .entry)) (now (w .entry)) (now (w .exit)) place k («decode-of» false place («alters-shape» (changeOf change) pointing) (cursorAt (now (s .entry)) at)) r ⌝ }
 {
     let both = two_strings(s, at);
-    match both {
-        TwoStrings::Next {
-            quals,
-            start,
-            end,
-            second,
-            second_end,
-            next,
-        } => {
-            w[k] = head(change_kind(change, pointing), place);
-            let m = put_string(w, k + 1, quals, start, end - start);
-            w[m] = string_word(second, second_end);
-            Command::Whole(next, m + 1)
-        }
-        TwoStrings::Refused(n, p) => Command::Refused(n, p),
-    }
+    let TwoStrings::Next {
+        quals,
+        start,
+        end,
+        second,
+        second_end,
+        next,
+    } = both
+    else {
+        return refusal_pair(both);
+    };
+    w[k] = head(change_kind(change, pointing), place);
+    let m = put_string(w, k + 1, quals, start, end - start);
+    w[m] = string_word(second, second_end);
+    Command::Whole(next, m + 1)
 }
 
 fn point_kind(after: bool) -> u32
@@ -71,17 +102,16 @@ pub fn points(s: &[u8], w: &mut [u32], k: usize, place: usize, at: usize, after:
     ensures { λ r. ⌜ Written (now (s .entry)) (now (w .entry)) (now (w .exit)) place k («decode-of» false place («points-shape» after) (cursorAt (now (s .entry)) at)) r ⌝ }
 {
     let string = qualified_string(s, at, false);
-    match string {
-        OneString::Next {
-            quals,
-            start,
-            end,
-            next,
-        } => {
-            w[k] = head(point_kind(after), place);
-            let m = put_string(w, k + 1, quals, start, end - start);
-            Command::Whole(next, m)
-        }
-        OneString::Refused(n, p) => Command::Refused(n, p),
-    }
+    let OneString::Next {
+        quals,
+        start,
+        end,
+        next,
+    } = string
+    else {
+        return refusal(string);
+    };
+    w[k] = head(point_kind(after), place);
+    let m = put_string(w, k + 1, quals, start, end - start);
+    Command::Whole(next, m)
 }

@@ -8,7 +8,7 @@ ghost use Rattle.reader.specs.Places.{cursorAt};
 ghost use Rattle.reader.specs.Shapes.{seekOf};
 ghost use Rattle.script.specs.Words.{head as «head-of», seekKind};
 ghost use Rattle.script.specs.Reading.{Room, Written};
-ghost use Rattle.script.specs.Searches.{branchKind, loopKind, Searched};
+ghost use Rattle.script.specs.Searches.{refusedSearch, branchKind, loopKind, Searched};
 use crate::Command;
 use crate::words::head;
 use crate::words::put_two;
@@ -31,6 +31,16 @@ fn search_words(s: &[u8], w: &mut [u32], k: usize, place: usize, at: usize, kind
     found
 }
 
+// A refusal of the search refuses the command. 0 is no number of a refusal.
+fn refusal(found: Parse) -> Command
+    ensures { λ r. ⌜ r ≡ refusedSearch found ⌝ }
+{
+    match found {
+        Parse::Next(next, _) => Command::Refused(0, next),
+        Parse::Refused(n, p) => Command::Refused(n, p),
+    }
+}
+
 fn seek_kind(seek: Seek) -> u32
     ensures { λ r. ⌜ (r ≡ seekKind (seekOf seek)) × (r < 64) ⌝ }
 {
@@ -47,10 +57,10 @@ pub fn seeks(s: &[u8], w: &mut [u32], k: usize, place: usize, at: usize, seek: S
     ensures { λ r. ⌜ Written (now (s .entry)) (now (w .entry)) (now (w .exit)) place k («decode-of» false place («seeks-shape» (seekOf seek)) (cursorAt (now (s .entry)) at)) r ⌝ }
 {
     let found = search_words(s, w, k, place, at, seek_kind(seek));
-    match found {
-        Parse::Next(next, m) => Command::Whole(next, m),
-        Parse::Refused(n, p) => Command::Refused(n, p),
-    }
+    let Parse::Next(next, m) = found else {
+        return refusal(found);
+    };
+    Command::Whole(next, m)
 }
 
 fn branch_kind(holds: bool) -> u32
@@ -65,10 +75,10 @@ pub fn branches(s: &[u8], w: &mut [u32], k: usize, place: usize, at: usize, hold
     ensures { λ r. ⌜ Written (now (s .entry)) (now (w .entry)) (now (w .exit)) place k («decode-of» false place («branches-shape» holds) (cursorAt (now (s .entry)) at)) r ⌝ }
 {
     let found = search_words(s, w, k, place, at, branch_kind(holds));
-    match found {
-        Parse::Next(next, m) => Command::Prefix(true, skip_then(s, next), m),
-        Parse::Refused(n, p) => Command::Refused(n, p),
-    }
+    let Parse::Next(next, m) = found else {
+        return refusal(found);
+    };
+    Command::Prefix(true, skip_then(s, next), m)
 }
 
 fn loop_kind(holds: bool) -> u32
@@ -83,8 +93,8 @@ pub fn loops(s: &[u8], w: &mut [u32], k: usize, place: usize, at: usize, holds: 
     ensures { λ r. ⌜ Written (now (s .entry)) (now (w .entry)) (now (w .exit)) place k («decode-of» false place («loops-shape» holds) (cursorAt (now (s .entry)) at)) r ⌝ }
 {
     let found = search_words(s, w, k, place, at, loop_kind(holds));
-    match found {
-        Parse::Next(next, m) => Command::Prefix(false, next, m),
-        Parse::Refused(n, p) => Command::Refused(n, p),
-    }
+    let Parse::Next(next, m) = found else {
+        return refusal(found);
+    };
+    Command::Prefix(false, next, m)
 }

@@ -1,3 +1,4 @@
+-- `script::counted` meets its contract. Assumes nothing.
 use Rattle.script.proofs.Choosing.{room-of, count-is}
 use native.Mathlib.Omega.{arith}
 use borrow.Author.Needs.{needs}

@@ -1,3 +1,4 @@
+-- `script::read_at` meets its contract. Assumes nothing.
 use Rattle.script.proofs.Classes.{at-semicolon, at-line-end, at-open, at-close, at-digit, at-letter, at-comment, at-sign}
 use Rattle.script.proofs.Distances.{name-far, name-longer}
 use mathlib.Core.Path.{sym, _∙_}

@@ -1,3 +1,4 @@
+-- `script::read_one` meets its contract. Assumes nothing.
 use Rattle.script.proofs.Classes.{at-end, past-spaces, stands-on, comes-from}
 use borrow.Author.Needs.{needs}
 use Rattle.script.proofs.read_one.Statement.{statement}

@@ -1,3 +1,4 @@
+-- `script::read_script` meets its contract. Assumes nothing.
 use Rattle.script.proofs.WholeScript.{Going, begins, goes-on, ends-done, ends-refused}
 use Rattle.definitions.specs.Script.{readScript}
 use lib.ListN.{length}

@@ -1,53 +1,38 @@
+-- `script::commands::count` meets its contract. Assumes nothing.
 use Rattle.script.proofs.Items.{refused-written, over-count, small-count, large-count}
 use Rattle.script.proofs.Distances.{digits-far}
 use native.Mathlib.Omega.{arith}
 use borrow.Author.Needs.{needs}
 use Rattle.script.proofs.commands.count.Statement.{statement}
 use Rattle.script.proofs.commands.count.Tie as tie
-use Rattle.script.proofs.commands.count.Reads as reads
-use Rattle.script.proofs.commands.count.Lts as lts
-use Rattle.reader.proofs.numbers.digits.Reads as digits-reads
-use Rattle.script.proofs.words.head.Reads as head-reads
-use Rattle.script.proofs.words.put_one.Reads as put-one-reads
-use Rattle.script.proofs.words.put_two.Reads as put-two-reads
 
--- src/commands.rt:49:9
 digits-requires : tie.Need-digits-requires
 digits-requires c κs = search needs
 
--- src/commands.rt:53:9
 returns : tie.Need-returns
 returns c = refused-written _ _ _ _ _ _ _ _ (over-count _ _ _ _ _ _ (c .before .before .before .before .pre .0) (c .before .digits .ensures .0) (c .if1 .taken))
 
--- src/commands.rt:56:23
 head-requires : tie.Need-head-requires
 head-requires c κs = search needs
 
--- src/commands.rt:56:49
 cast-put-one : tie.Need-cast-put-one
 cast-put-one c = search needs
 
--- src/commands.rt:56:38
 mul-put-one : tie.Need-mul-put-one
 mul-put-one c = search needs
 
--- src/commands.rt:56:23
 add-put-one : tie.Need-add-put-one
 add-put-one c = search needs
 
--- src/commands.rt:56:9
 put-one-requires : tie.Need-put-one-requires
 put-one-requires c κs = search needs
 
--- src/commands.rt:57:45
 add-t16 : tie.Need-add-t16
 add-t16 c = search needs
 
--- src/commands.rt:57:9
 same-length : tie.Need-same-length
 same-length c = search needs
 
--- src/commands.rt:57:9
 returns-2 : tie.Need-returns-2
 returns-2 c =
     let start = c .before .before .before .before .before .before .before .before .before .before in
@@ -55,27 +40,21 @@ returns-2 c =
     let far = digits-far _ _ _ _ (omega (arith, start .pre .0 .inside)) (start .pre .1) (d .ensures .0) in
     rw (c .before .before .put-one .ensures) (small-count _ _ _ _ _ _ (start .pre .0) (d .ensures .0) _ (c .before .before .before .head .ensures .0) (c .before .before .before .before .before .if2 .taken) (far .0) (d .ensures .1 .1))
 
--- src/commands.rt:59:19
 head-requires-2 : tie.Need-head-requires-2
 head-requires-2 c κs = search needs
 
--- src/commands.rt:59:33
 cast-put-two : tie.Need-cast-put-two
 cast-put-two c = search needs
 
--- src/commands.rt:59:5
 put-two-requires : tie.Need-put-two-requires
 put-two-requires c κs = search needs
 
--- src/commands.rt:60:34
 add-t22 : tie.Need-add-t22
 add-t22 c = search needs
 
--- src/commands.rt:45:1
 same-length-2 : tie.Need-same-length-2
 same-length-2 c = search needs
 
--- src/commands.rt:45:1
 returns-3 : tie.Need-returns-3
 returns-3 c =
     let start = c .before .before .before .before .before .before .before .before .before .before in

@@ -1,44 +1,31 @@
+-- `script::commands::deletes` meets its contract. Assumes nothing.
 use Rattle.script.proofs.LineSpans.{deletes-refused, deletes-written}
 use native.Mathlib.Omega.{arith}
 use Rattle.reader.proofs.Given.{span-are}
 use borrow.Author.Needs.{needs}
 use Rattle.script.proofs.commands.deletes.Statement.{statement}
 use Rattle.script.proofs.commands.deletes.Tie as tie
-use Rattle.script.proofs.commands.deletes.Reads as reads
-use Rattle.script.proofs.commands.deletes.Lts as lts
-use Rattle.reader.proofs.targets.line_span.Reads as line-span-reads
-use Rattle.script.proofs.commands.refusal_two.Reads as refusal-two-reads
-use Rattle.script.proofs.commands.span_head.Reads as span-head-reads
-use Rattle.script.proofs.commands.span_word.Reads as span-word-reads
-use Rattle.script.proofs.words.put_two.Reads as put-two-reads
 
--- src/commands.rt:138:9
 line-span-requires : tie.Need-line-span-requires
 line-span-requires c κs = search needs
 
--- src/commands.rt:139:18
 enum-known-span : tie.Need-enum-known-span
 enum-known-span c = search needs
 
--- src/commands.rt:140:9
 enum-told : tie.Need-enum-told
 enum-told c = search needs
 
--- src/commands.rt:140:9
 refusal-two-requires : tie.Need-refusal-two-requires
 refusal-two-requires c κs = search needs
 
--- src/commands.rt:140:9
 returns : tie.Need-returns
 returns c =
     let t = c .before .before .before .line-span in
     deletes-refused _ _ _ _ _ (c .before .before .before .before .before .before .pre) _ (t .ensures .0) _ _ _ (c .before .enum-told .given .1) (c .refusal-two .ensures)
 
--- src/commands.rt:142:19
 span-head-requires : tie.Need-span-head-requires
 span-head-requires c κs = search needs
 
--- src/commands.rt:142:44
 span-word-requires : tie.Need-span-word-requires
 span-word-requires c κs =
     let t = c .before .before .before .before .before .line-span in
@@ -46,19 +33,15 @@ span-word-requires c κs =
     let m = span-are _ _ _ _ _ _ is (t .ensures .1) in
     (omega (arith, m .0), m .1)
 
--- src/commands.rt:142:5
 put-two-requires : tie.Need-put-two-requires
 put-two-requires c κs = search needs
 
--- src/commands.rt:143:26
 add-t15 : tie.Need-add-t15
 add-t15 c = search needs
 
--- src/commands.rt:134:1
 same-length : tie.Need-same-length
 same-length c = search needs
 
--- src/commands.rt:134:1
 returns-2 : tie.Need-returns-2
 returns-2 c =
     let t = c .before .before .before .before .before .before .before .before .before .line-span in

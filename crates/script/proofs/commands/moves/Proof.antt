@@ -1,66 +1,48 @@
+-- `script::commands::moves` meets its contract. Assumes nothing.
 use Rattle.script.proofs.Items.{moves-refused, moves-written}
 use Rattle.reader.proofs.Given.{within-is}
 use native.Mathlib.Omega.{arith}
 use borrow.Author.Needs.{needs}
 use Rattle.script.proofs.commands.moves.Statement.{statement}
 use Rattle.script.proofs.commands.moves.Tie as tie
-use Rattle.script.proofs.commands.moves.Reads as reads
-use Rattle.script.proofs.commands.moves.Lts as lts
-use Rattle.reader.proofs.spaces.skip_spaces.Reads as skip-spaces-reads
-use Rattle.reader.proofs.targets.target.Reads as target-reads
-use Rattle.script.proofs.commands.refusal.Reads as refusal-reads
-use Rattle.script.proofs.words.head.Reads as head-reads
-use Rattle.script.proofs.words.put_two.Reads as put-two-reads
 
--- src/commands.rt:103:27
 skip-spaces-requires : tie.Need-skip-spaces-requires
 skip-spaces-requires c κs = search needs
 
--- src/commands.rt:103:9
 target-requires : tie.Need-target-requires
 target-requires c κs = search needs
 
--- src/commands.rt:104:20
 enum-known-first : tie.Need-enum-known-first
 enum-known-first c = search needs
 
--- src/commands.rt:105:9
 enum-told : tie.Need-enum-told
 enum-told c = search needs
 
--- src/commands.rt:105:9
 refusal-requires : tie.Need-refusal-requires
 refusal-requires c κs = search needs
 
--- src/commands.rt:105:9
 returns : tie.Need-returns
 returns c =
     let t = c .before .before .before .target in
     moves-refused _ _ _ _ _ (c .before .before .before .before .before .before .before .pre) _ (c .before .before .before .before .skip-spaces .ensures .0) (c .before .before .before .before .skip-spaces .ensures .1 .0) _ (t .ensures .0) _ _ _ (c .before .enum-told .given .1) (c .refusal .ensures)
 
--- src/commands.rt:107:19
 head-requires : tie.Need-head-requires
 head-requires c κs = search needs
 
--- src/commands.rt:107:36
 cast-put-two : tie.Need-cast-put-two
 cast-put-two c =
     let m = within-is _ _ _ _ _ _ (c .before .before .before .first .given .1) (c .before .before .before .before .before .target .ensures .1) in
     omega (arith, m .0)
 
--- src/commands.rt:107:5
 put-two-requires : tie.Need-put-two-requires
 put-two-requires c κs = search needs
 
--- src/commands.rt:108:26
 add-t9 : tie.Need-add-t9
 add-t9 c = search needs
 
--- src/commands.rt:99:1
 same-length : tie.Need-same-length
 same-length c = search needs
 
--- src/commands.rt:99:1
 returns-2 : tie.Need-returns-2
 returns-2 c =
     let t = c .before .before .before .before .before .before .before .before .target in

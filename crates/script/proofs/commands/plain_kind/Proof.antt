@@ -1,97 +1,76 @@
+-- `script::commands::plain_kind` meets its contract. Assumes nothing.
 use Rattle.script.specs.Commands.{plainKind}
 use native.Mathlib.Omega.{arith}
 use borrow.Author.Needs.{needs}
 use Rattle.script.proofs.commands.plain_kind.Statement.{statement}
 use Rattle.script.proofs.commands.plain_kind.Tie as tie
-use Rattle.script.proofs.commands.plain_kind.Reads as reads
-use Rattle.script.proofs.commands.plain_kind.Lts as lts
 
--- src/commands.rt:67:24
 enum-told : tie.Need-enum-told
 enum-told c = search needs
 
--- src/commands.rt:68:24
 enum-told-2 : tie.Need-enum-told-2
 enum-told-2 c = search needs
 
--- src/commands.rt:69:28
 enum-told-3 : tie.Need-enum-told-3
 enum-told-3 c = search needs
 
--- src/commands.rt:70:24
 enum-told-4 : tie.Need-enum-told-4
 enum-told-4 c = search needs
 
--- src/commands.rt:71:30
 enum-told-5 : tie.Need-enum-told-5
 enum-told-5 c = search needs
 
--- src/commands.rt:72:25
 enum-told-6 : tie.Need-enum-told-6
 enum-told-6 c = search needs
 
--- src/commands.rt:73:24
 enum-told-7 : tie.Need-enum-told-7
 enum-told-7 c = search needs
 
--- src/commands.rt:74:27
 enum-told-8 : tie.Need-enum-told-8
 enum-told-8 c = search needs
 
--- src/commands.rt:75:25
 enum-told-9 : tie.Need-enum-told-9
 enum-told-9 c = search needs
 
--- src/commands.rt:76:25
 enum-told-10 : tie.Need-enum-told-10
 enum-told-10 c = search needs
 
--- src/commands.rt:63:1
 returns : tie.Need-returns
 unfolding plainKind
 returns c = (rw (c .enum-told .given .1), omega arith)
 
--- src/commands.rt:63:1
 returns-2 : tie.Need-returns-2
 unfolding plainKind
 returns-2 c = (rw (c .enum-told2 .given .1), omega arith)
 
--- src/commands.rt:63:1
 returns-3 : tie.Need-returns-3
 unfolding plainKind
 returns-3 c = (rw (c .enum-told3 .given .1), omega arith)
 
--- src/commands.rt:63:1
 returns-4 : tie.Need-returns-4
 unfolding plainKind
 returns-4 c = (rw (c .enum-told4 .given .1), omega arith)
 
--- src/commands.rt:63:1
 returns-5 : tie.Need-returns-5
 unfolding plainKind
 returns-5 c = (rw (c .enum-told5 .given .1), omega arith)
 
--- src/commands.rt:63:1
 returns-6 : tie.Need-returns-6
 unfolding plainKind
 returns-6 c = (rw (c .enum-told6 .given .1), omega arith)
 
--- src/commands.rt:63:1
 returns-7 : tie.Need-returns-7
 unfolding plainKind
 returns-7 c = (rw (c .enum-told7 .given .1), omega arith)
 
--- src/commands.rt:63:1
 returns-8 : tie.Need-returns-8
 unfolding plainKind
 returns-8 c = (rw (c .enum-told8 .given .1), omega arith)
 
--- src/commands.rt:63:1
 returns-9 : tie.Need-returns-9
 unfolding plainKind
 returns-9 c = (rw (c .enum-told9 .given .1), omega arith)
 
--- src/commands.rt:63:1
 returns-10 : tie.Need-returns-10
 unfolding plainKind
 returns-10 c = (rw (c .enum-told10 .given .1), omega arith)

@@ -1,33 +1,25 @@
+-- `script::commands::prefix_word` meets its contract. Assumes nothing.
 use lib.ListN.{set}
 use mathlib.Core.Path.{ap, refl}
 use borrow.Author.Needs.{needs}
 use Rattle.script.proofs.commands.prefix_word.Statement.{statement}
 use Rattle.script.proofs.commands.prefix_word.Tie as tie
-use Rattle.script.proofs.commands.prefix_word.Reads as reads
-use Rattle.script.proofs.commands.prefix_word.Lts as lts
-use Rattle.script.proofs.words.head.Reads as head-reads
 
--- src/commands.rt:94:12
 head-requires : tie.Need-head-requires
 head-requires c κs = search needs
 
--- src/commands.rt:94:5
 mul-w : tie.Need-mul-w
 mul-w c = search needs
 
--- src/commands.rt:94:5
 slice-write-w : tie.Need-slice-write-w
 slice-write-w c = search needs
 
--- src/commands.rt:95:32
 add-t8 : tie.Need-add-t8
 add-t8 c = search needs
 
--- src/commands.rt:90:1
 same-length : tie.Need-same-length
 same-length c = search needs
 
--- src/commands.rt:90:1
 returns : tie.Need-returns
 returns c = (rw (c .head .ensures .0), refl)
 

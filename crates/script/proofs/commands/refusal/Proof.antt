@@ -1,24 +1,19 @@
+-- `script::commands::refusal` meets its contract. Assumes nothing.
 use Rattle.script.specs.Commands.{refusedBy}
 use borrow.Author.Needs.{needs}
 use Rattle.script.proofs.commands.refusal.Statement.{statement}
 use Rattle.script.proofs.commands.refusal.Tie as tie
-use Rattle.script.proofs.commands.refusal.Reads as reads
-use Rattle.script.proofs.commands.refusal.Lts as lts
 
--- src/commands.rt:30:23
 enum-known-a : tie.Need-enum-known-a
 enum-known-a c = search needs
 
--- src/commands.rt:31:25
 enum-known-a-2 : tie.Need-enum-known-a-2
 enum-known-a-2 c = search needs
 
--- src/commands.rt:26:1
 returns : tie.Need-returns
 unfolding refusedBy
 returns c = rw (c .before .a .given .1)
 
--- src/commands.rt:26:1
 returns-2 : tie.Need-returns-2
 unfolding refusedBy
 returns-2 c = rw (c .before .a2 .given .1)

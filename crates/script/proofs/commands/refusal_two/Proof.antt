@@ -1,24 +1,19 @@
+-- `script::commands::refusal_two` meets its contract. Assumes nothing.
 use Rattle.script.specs.Commands.{refusedByTwo}
 use borrow.Author.Needs.{needs}
 use Rattle.script.proofs.commands.refusal_two.Statement.{statement}
 use Rattle.script.proofs.commands.refusal_two.Tie as tie
-use Rattle.script.proofs.commands.refusal_two.Reads as reads
-use Rattle.script.proofs.commands.refusal_two.Lts as lts
 
--- src/commands.rt:39:24
 enum-known-a : tie.Need-enum-known-a
 enum-known-a c = search needs
 
--- src/commands.rt:40:22
 enum-known-a-2 : tie.Need-enum-known-a-2
 enum-known-a-2 c = search needs
 
--- src/commands.rt:35:1
 returns : tie.Need-returns
 unfolding refusedByTwo
 returns c = rw (c .before .a .given .1)
 
--- src/commands.rt:35:1
 returns-2 : tie.Need-returns-2
 unfolding refusedByTwo
 returns-2 c = rw (c .before .a2 .given .1)

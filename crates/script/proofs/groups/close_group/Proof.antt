@@ -1,3 +1,4 @@
+-- `script::groups::close_group` meets its contract. Assumes nothing.
 use lib.ListN.{length}
 use Prim.Native.Nat.{_-_}
 use Rattle.script.proofs.Nested.{missing-body, unmatched, closing-plain, closing-alone, closing-else}
@@ -8,62 +9,45 @@ use native.Mathlib.Omega.{arith}
 use borrow.Author.Needs.{needs}
 use Rattle.script.proofs.groups.close_group.Statement.{statement}
 use Rattle.script.proofs.groups.close_group.Tie as tie
-use Rattle.script.proofs.groups.close_group.Reads as reads
-use Rattle.script.proofs.groups.close_group.Lts as lts
-use Rattle.reader.proofs.words.skip_else.Reads as skip-else-reads
-use Rattle.script.proofs.groups.else_group.Reads as else-group-reads
-use Rattle.script.proofs.groups.end_group.Reads as end-group-reads
 
--- src/groups.rt:125:9
 returns : tie.Need-returns
 returns c = λ acc h. refusal-comes _ _ _ _ _ _ (missing-body _ _ _ acc h (c .before .before .before .before .pre .1) (c .if1 .taken))
 
--- src/groups.rt:129:9
 returns-2 : tie.Need-returns-2
 returns-2 c = λ acc h. refusal-comes _ _ _ _ _ _ (unmatched _ _ _ acc h (c .before .before .before .before .before .pre .1) (c .before .if1 .left) (c .if2 .taken))
 
--- src/groups.rt:131:15
 sub-top : tie.Need-sub-top
 sub-top c = search needs
 
--- src/groups.rt:132:16
 mul-word : tie.Need-mul-word
 mul-word c = search needs
 
--- src/groups.rt:132:16
 slice-read-word : tie.Need-slice-read-word
 slice-read-word c = search needs
 
--- src/groups.rt:133:18
 cast-bodies : tie.Need-cast-bodies
 cast-bodies c =
     let a = c .before .before .before .before .before .before .args in
     omega (arith, c .slice-known2 .given (length (a .w .now) - a .st .depth))
 
--- src/groups.rt:135:34
 add-skip-else : tie.Need-add-skip-else
 add-skip-else c = search needs
 
--- src/groups.rt:135:13
 skip-else-requires : tie.Need-skip-else-requires
 skip-else-requires c κs = search needs
 
--- src/groups.rt:136:28
 enum-known-found : tie.Need-enum-known-found
 enum-known-found c = search needs
 
--- src/groups.rt:137:13
 else-group-requires : tie.Need-else-group-requires
 else-group-requires c κs =
     let start = c .before .before .before .before .before .before .before .before .before .before .before .before .before in
     let e = else-after _ _ _ _ (c .before .before .found .given .1) (c .before .before .before .before .skip-else .ensures) in
     ((start .pre .0 .0, start .pre .0 .1), omega (arith, c .before .before .before .before .before .before .before .before .if2 .left), omega (arith, e .2), e .3, refl)
 
--- src/groups.rt:137:13
 same-length : tie.Need-same-length
 same-length c = search needs
 
--- src/groups.rt:137:13
 returns-3 : tie.Need-returns-3
 returns-3 c = λ acc h.
     let start = c .before .before .before .before .before .before .before .before .before .before .before .before .before .before .before .before in
@@ -73,30 +57,24 @@ returns-3 c = λ acc h.
 enum-told : tie.Need-enum-told
 enum-told c = search needs
 
--- src/groups.rt:139:9
 end-group-requires : tie.Need-end-group-requires
 end-group-requires c κs = search needs
 
--- src/groups.rt:139:9
 same-length-2 : tie.Need-same-length-2
 same-length-2 c = search needs
 
--- src/groups.rt:139:9
 returns-4 : tie.Need-returns-4
 returns-4 c = λ acc h.
     let start = c .before .before .before .before .before .before .before .before .before .before .before .before .before .before .before in
     let e = else-missing _ _ _ (c .before .before .before .before .enum-told .given .1) (c .before .before .before .before .before .before .skip-else .ensures) in
     rw (closing-alone _ _ _ acc h (start .pre .1) (c .before .before .before .before .before .before .before .before .before .before .before .if1 .left) (c .before .before .before .before .before .before .before .before .before .before .if2 .left) (c .before .before .before .before .before .before .before .before .if3 .taken) e) (c .before .before .end-group .ensures _ acc h (start .pre .1))
 
--- src/groups.rt:141:5
 end-group-requires-2 : tie.Need-end-group-requires-2
 end-group-requires-2 c κs = search needs
 
--- src/groups.rt:120:1
 same-length-3 : tie.Need-same-length-3
 same-length-3 c = search needs
 
--- src/groups.rt:120:1
 returns-5 : tie.Need-returns-5
 returns-5 c = λ acc h.
     let start = c .before .before .before .before .before .before .before .before .before .before .before in

@@ -1,3 +1,4 @@
+-- `script::groups::else_group` meets its contract. Assumes nothing.
 use native.Mathlib.Omega.{arith}
 use lib.ListN.{length-set}
 use Rattle.script.proofs.Keeping.{free}
@@ -7,71 +8,52 @@ use Rattle.script.proofs.Nested.{ending-room, else-missing, else-opens}
 use borrow.Author.Needs.{needs}
 use Rattle.script.proofs.groups.else_group.Statement.{statement}
 use Rattle.script.proofs.groups.else_group.Tie as tie
-use Rattle.script.proofs.groups.else_group.Reads as reads
-use Rattle.script.proofs.groups.else_group.Lts as lts
-use Rattle.reader.proofs.bytes.next_byte.Reads as next-byte-reads
 
--- src/groups.rt:83:8
 next-byte-requires : tie.Need-next-byte-requires
 next-byte-requires c κs = search needs
 
--- src/groups.rt:84:9
 returns : tie.Need-returns
 returns c = λ acc h. refusal-comes _ _ _ _ _ _ (else-missing _ _ _ acc h _ _ (λ e. c .if1 .taken (c .before .next-byte .ensures ∙ e)))
 
--- src/groups.rt:88:15
 sub-top : tie.Need-sub-top
 sub-top c = search needs
 
--- src/groups.rt:89:5
 mul-w : tie.Need-mul-w
 mul-w c = search needs
 
--- src/groups.rt:89:5
 slice-write-w : tie.Need-slice-write-w
 slice-write-w c = search needs
 
--- src/groups.rt:90:7
 add-w : tie.Need-add-w
 add-w c = search needs
 
--- src/groups.rt:90:5
 mul-w-2 : tie.Need-mul-w-2
 mul-w-2 c = search needs
 
--- src/groups.rt:90:5
 slice-write-w-2 : tie.Need-slice-write-w-2
 slice-write-w-2 c = simp length-set (omega (arith, free _ _ _ _ (c .before .before .before .before .pre .0 .1)))
 
--- src/groups.rt:91:19
 cast-w : tie.Need-cast-w
 cast-w c = omega (arith, ending-room _ _ _ _ (c .before .before .before .before .pre .0 .1) (c .before .before .before .before .pre .1) _ (c .before .before .before .before .pre .4))
 
--- src/groups.rt:91:14
 mul-w-3 : tie.Need-mul-w-3
 mul-w-3 c = omega (arith, ending-room _ _ _ _ (c .before .before .before .before .pre .0 .1) (c .before .before .before .before .pre .1) _ (c .before .before .before .before .pre .4))
 
--- src/groups.rt:91:5
 mul-w-4 : tie.Need-mul-w-4
 mul-w-4 c = search needs
 
--- src/groups.rt:91:5
 slice-write-w-3 : tie.Need-slice-write-w-3
 slice-write-w-3 c = simp length-set (omega (arith, free _ _ _ _ (c .before .before .before .before .pre .0 .1)))
 
--- src/groups.rt:93:13
 add-t13 : tie.Need-add-t13
 add-t13 c = search needs
 
--- src/groups.rt:94:12
 add-t11 : tie.Need-add-t11
 add-t11 c = search needs
 
--- src/groups.rt:79:1
 same-length : tie.Need-same-length
 same-length c = search needs
 
--- src/groups.rt:79:1
 returns-2 : tie.Need-returns-2
 returns-2 c = λ acc h. else-opens _ _ _ acc h _ _ (c .before .before .before .before .pre .1) (c .before .before .before .before .pre .2) (c .before .before .before .before .pre .4) (sym (c .before .next-byte .ensures) ∙ c .if1 .left)
 

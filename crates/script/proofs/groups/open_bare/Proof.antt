@@ -1,3 +1,4 @@
+-- `script::groups::open_bare` meets its contract. Assumes nothing.
 use native.Mathlib.Omega.{arith}
 use lib.ListN.{length-set}
 use Rattle.script.proofs.Keeping.{free}
@@ -5,63 +6,46 @@ use Rattle.script.proofs.Nested.{opens-bare}
 use borrow.Author.Needs.{needs}
 use Rattle.script.proofs.groups.open_bare.Statement.{statement}
 use Rattle.script.proofs.groups.open_bare.Tie as tie
-use Rattle.script.proofs.groups.open_bare.Reads as reads
-use Rattle.script.proofs.groups.open_bare.Lts as lts
-use Rattle.script.proofs.words.head.Reads as head-reads
 
--- src/groups.rt:30:17
 add-depth : tie.Need-add-depth
 add-depth c = search needs
 
--- src/groups.rt:31:15
 sub-top : tie.Need-sub-top
 sub-top c = search needs
 
--- src/groups.rt:32:12
 head-requires : tie.Need-head-requires
 head-requires c κs = search needs
 
--- src/groups.rt:32:5
 mul-w : tie.Need-mul-w
 mul-w c = search needs
 
--- src/groups.rt:32:5
 slice-write-w : tie.Need-slice-write-w
 slice-write-w c = search needs
 
--- src/groups.rt:33:7
 add-w : tie.Need-add-w
 add-w c = search needs
 
--- src/groups.rt:33:5
 mul-w-2 : tie.Need-mul-w-2
 mul-w-2 c = search needs
 
--- src/groups.rt:33:5
 slice-write-w-2 : tie.Need-slice-write-w-2
 slice-write-w-2 c = simp length-set (omega (arith, free _ _ _ _ (c .before .before .before .pre .0 .2)))
 
--- src/groups.rt:34:5
 mul-w-3 : tie.Need-mul-w-3
 mul-w-3 c = search needs
 
--- src/groups.rt:34:5
 slice-write-w-3 : tie.Need-slice-write-w-3
 slice-write-w-3 c = simp length-set (omega (arith, free _ _ _ _ (c .before .before .before .pre .0 .2)))
 
--- src/groups.rt:36:13
 add-t10 : tie.Need-add-t10
 add-t10 c = search needs
 
--- src/groups.rt:37:12
 add-t7 : tie.Need-add-t7
 add-t7 c = search needs
 
--- src/groups.rt:24:1
 same-length : tie.Need-same-length
 same-length c = search needs
 
--- src/groups.rt:24:1
 returns : tie.Need-returns
 returns c = λ s acc h less. opens-bare s _ _ acc h less (c .before .before .before .pre .1) _ (c .head .ensures .0)
 

@@ -1,3 +1,4 @@
+-- `script::groups::open_body` meets its contract. Assumes nothing.
 use native.Mathlib.Omega.{arith}
 use lib.ListN.{length-set}
 use Rattle.script.proofs.Keeping.{free}
@@ -7,63 +8,46 @@ use Rattle.script.proofs.Nested.{opens-body}
 use borrow.Author.Needs.{needs}
 use Rattle.script.proofs.groups.open_body.Statement.{statement}
 use Rattle.script.proofs.groups.open_body.Tie as tie
-use Rattle.script.proofs.groups.open_body.Reads as reads
-use Rattle.script.proofs.groups.open_body.Lts as lts
-use Rattle.script.proofs.groups.flag.Reads as flag-reads
 
--- src/groups.rt:51:17
 add-depth : tie.Need-add-depth
 add-depth c = search needs
 
--- src/groups.rt:52:15
 sub-top : tie.Need-sub-top
 sub-top c = search needs
 
--- src/groups.rt:53:5
 mul-w : tie.Need-mul-w
 mul-w c = search needs
 
--- src/groups.rt:53:5
 slice-write-w : tie.Need-slice-write-w
 slice-write-w c = search needs
 
--- src/groups.rt:54:19
 cast-w : tie.Need-cast-w
 cast-w c = search needs
 
--- src/groups.rt:54:14
 mul-w-2 : tie.Need-mul-w-2
 mul-w-2 c = search needs
 
--- src/groups.rt:54:36
 flag-requires : tie.Need-flag-requires
 flag-requires c κs = search needs
 
--- src/groups.rt:54:14
 add-w : tie.Need-add-w
 add-w c = search needs
 
--- src/groups.rt:54:5
 mul-w-3 : tie.Need-mul-w-3
 mul-w-3 c = search needs
 
--- src/groups.rt:54:5
 slice-write-w-2 : tie.Need-slice-write-w-2
 slice-write-w-2 c = simp length-set (omega (arith, free _ _ _ _ (c .before .before .before .before .pre .0 .2)))
 
--- src/groups.rt:56:13
 add-t7 : tie.Need-add-t7
 add-t7 c = search needs
 
--- src/groups.rt:57:12
 add-t14 : tie.Need-add-t14
 add-t14 c = search needs
 
--- src/groups.rt:45:1
 same-length : tie.Need-same-length
 same-length c = search needs
 
--- src/groups.rt:45:1
 returns : tie.Need-returns
 returns c = λ s acc h less. opens-body s _ _ acc h less (c .before .before .before .before .pre .1) _ (ap (λ (n : ℕ). 2 * c .before .before .before .before .args .st .due + n) (c .flag .ensures .0))
 

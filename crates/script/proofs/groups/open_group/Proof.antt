@@ -1,38 +1,28 @@
+-- `script::groups::open_group` meets its contract. Assumes nothing.
 use Rattle.script.proofs.OneRound.{refusal-comes}
 use Rattle.script.proofs.Nested.{too-deep, opening-bare, opening-body}
 use borrow.Author.Needs.{needs}
 use Rattle.script.proofs.groups.open_group.Statement.{statement}
 use Rattle.script.proofs.groups.open_group.Tie as tie
-use Rattle.script.proofs.groups.open_group.Reads as reads
-use Rattle.script.proofs.groups.open_group.Lts as lts
-use Rattle.script.proofs.groups.open_bare.Reads as open-bare-reads
-use Rattle.script.proofs.groups.open_body.Reads as open-body-reads
 
--- src/groups.rt:70:9
 returns : tie.Need-returns
 returns c = λ s acc h less. refusal-comes s _ _ _ _ _ (too-deep s _ _ acc h less (c .if1 .taken))
 
--- src/groups.rt:73:9
 open-bare-requires : tie.Need-open-bare-requires
 open-bare-requires c κs = search needs
 
--- src/groups.rt:73:9
 same-length : tie.Need-same-length
 same-length c = search needs
 
--- src/groups.rt:73:9
 returns-2 : tie.Need-returns-2
 returns-2 c = λ s acc h less. rw (opening-bare s _ _ acc h less (c .before .before .before .before .before .before .if1 .left) (c .before .before .before .before .if2 .taken)) (c .before .before .open-bare .ensures s acc h less)
 
--- src/groups.rt:75:5
 open-body-requires : tie.Need-open-body-requires
 open-body-requires c κs = search needs
 
--- src/groups.rt:65:1
 same-length-2 : tie.Need-same-length-2
 same-length-2 c = search needs
 
--- src/groups.rt:65:1
 returns-3 : tie.Need-returns-3
 returns-3 c = λ s acc h less. rw (opening-body s _ _ acc h less (c .before .before .before .before .before .before .if1 .left) (c .before .before .before .before .if2 .left)) (c .before .before .open-body .ensures s acc h less)
 

@@ -1,3 +1,4 @@
+-- `script::inserts::inserts_lines` meets its contract. Assumes nothing.
 use Rattle.script.proofs.Inserting.{spot-refused, spot-read, lines-refused, lines-read, inserts-written}
 use Rattle.reader.proofs.Given.{within-is, inserted-are}
 use native.Mathlib.Omega.{arith}

@@ -1,3 +1,4 @@
+-- `script::inserts::inserts_string` meets its contract. Assumes nothing.
 use Rattle.script.proofs.Inserting.{string-refused, string-written}
 use Rattle.reader.proofs.Given.{quoted-are}
 use native.Mathlib.Omega.{arith}

@@ -1,3 +1,4 @@
+-- `script::inserts::spot_word` meets its contract. Assumes nothing.
 use Rattle.script.proofs.Inserting.{spot-none, spot-some}
 use borrow.Author.Needs.{needs}
 use Rattle.script.proofs.inserts.spot_word.Statement.{statement}

@@ -1,3 +1,4 @@
+-- `script::named::decode` meets its contract. Assumes nothing.
 use Rattle.script.proofs.Choosing.{is-seeks, is-moves, is-deletes, is-string, is-lines, is-replaces, is-alters, is-points, is-branches, is-loops, is-unknown, long-branch, long-loop, plain-written, leaves-written, repeats-written, eof-written}
 use Rattle.script.proofs.Items.{refused-written}
 use borrow.Author.Needs.{needs}

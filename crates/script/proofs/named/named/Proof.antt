@@ -1,3 +1,4 @@
+-- `script::named::named` meets its contract. Assumes nothing.
 use Rattle.script.proofs.Choosing.{room-of, in-groups, named-is}
 use Rattle.script.proofs.NameLengths.{test-name}
 use borrow.Author.Needs.{needs}

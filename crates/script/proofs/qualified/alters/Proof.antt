@@ -1,11 +1,9 @@
-use Rattle.script.proofs.Qualifying.{string-small}
-use lib.ListN.{length}
-use mathlib.Core.Path.{_≡_, ap}
-use Prim.Native.Nat.{ℕ, _+_, _*_}
-use Rattle.script.proofs.Qualifying.{can-write, string-room, alters-written, alters-refused}
+-- `script::qualified::alters` meets its contract. Assumes nothing.
+use Rattle.script.proofs.Qualifying.{refused-pair, can-write, string-room, string-small, alters-written, alters-refused}
 use Rattle.strings.proofs.Callers.{pair-at}
-use lib.ListN.{length-set}
-use mathlib.Core.Path.{_∙_}
+use lib.ListN.{length, length-set}
+use Prim.Native.Nat.{ℕ, _+_, _*_}
+use mathlib.Core.Path.{_≡_, ap, _∙_}
 use native.Mathlib.Omega.{arith}
 use borrow.Author.Needs.{needs}
 use Rattle.script.proofs.qualified.alters.Statement.{statement}
@@ -16,6 +14,15 @@ two-strings-requires c κs = search needs
 
 enum-known-both : tie.Need-enum-known-both
 enum-known-both c = search needs
+
+enum-told : tie.Need-enum-told
+enum-told c = search needs
+
+refusal-pair-requires : tie.Need-refusal-pair-requires
+refusal-pair-requires c κs = search needs
+
+returns : tie.Need-returns
+returns c = rw (refused-pair _ _ _ _ (c .refusal-pair .ensures) (c .before .enum-told .given .1)) (alters-refused _ _ _ _ _ (c .before .before .before .before .before .before .pre) _ _ _ (c .before .before .before .two-strings .ensures) _ _ (c .before .enum-told .given .1))
 
 change-kind-requires : tie.Need-change-kind-requires
 change-kind-requires c κs = search needs
@@ -61,25 +68,19 @@ slice-write-w-2 c =
     let same : length (c .before .before .before .put-string .last .0) ≡ length (a .w .now) = c .before .before .before .put-string .kept .0 ∙ length-set (a .w .now) (a .k) (c .before .before .before .before .before .head .result) in
     omega (arith, room, same, c .before .before .before .put-string .ensures .1)
 
-add-t21 : tie.Need-add-t21
-add-t21 c =
+add-t18 : tie.Need-add-t18
+add-t18 c =
     let at = pair-at _ _ _ _ (c .before .before .before .before .before .before .before .before .before .before .two-strings .ensures) _ _ _ _ _ _ (c .before .before .before .before .before .before .before .before .both .given .1) .first in
     let small = string-small _ _ _ _ _ (c .before .before .before .before .before .before .before .before .before .before .before .before .before .pre) _ _ _ _ at in
     omega (arith, small, c .before .before .before .put-string .ensures .1)
-
-enum-known-both-2 : tie.Need-enum-known-both-2
-enum-known-both-2 c = search needs
 
 same-length : tie.Need-same-length
 same-length c =
     let a = c .before .before .before .before .before .before .before .before .before .before .before .before .before .args in
     simp length-set (c .before .before .before .put-string .kept .0 ∙ length-set (a .w .now) (a .k) (c .before .before .before .before .before .head .result))
 
-returns : tie.Need-returns
-returns c = alters-written _ _ _ _ _ (c .before .before .before .before .before .before .before .before .before .before .before .before .before .pre) _ _ _ (c .before .before .before .before .before .before .before .before .before .before .two-strings .ensures) _ _ _ _ _ _ (c .before .before .before .before .before .before .before .before .both .given .1) _ _ _ _ (c .before .before .before .before .before .head .ensures .0 ∙ ap (λ (n : ℕ). n + 64 * c .before .before .before .before .before .before .before .before .before .before .before .before .before .args .place) (c .before .before .before .before .before .before .change-kind .ensures .0)) (c .before .before .before .put-string .ensures .0) (c .before .before .before .put-string .ensures .1) (c .string-word .ensures)
-
 returns-2 : tie.Need-returns-2
-returns-2 c = alters-refused _ _ _ _ _ (c .before .before .before .before .before .before .pre) _ _ _ (c .before .before .before .two-strings .ensures) _ _ (c .before .both2 .given .1)
+returns-2 c = alters-written _ _ _ _ _ (c .before .before .before .before .before .before .before .before .before .before .before .before .before .pre) _ _ _ (c .before .before .before .before .before .before .before .before .before .before .two-strings .ensures) _ _ _ _ _ _ (c .before .before .before .before .before .before .before .before .both .given .1) _ _ _ _ (c .before .before .before .before .before .head .ensures .0 ∙ ap (λ (n : ℕ). n + 64 * c .before .before .before .before .before .before .before .before .before .before .before .before .before .args .place) (c .before .before .before .before .before .before .change-kind .ensures .0)) (c .before .before .before .put-string .ensures .0) (c .before .before .before .put-string .ensures .1) (c .string-word .ensures)
 
 pub alters-spec : {M : Type 1} → statement M
 alters-spec =
@@ -87,6 +88,9 @@ alters-spec =
     (tie.spec
     two-strings-requires
     enum-known-both
+    enum-told
+    refusal-pair-requires
+    returns
     change-kind-requires
     head-requires
     mul-w
@@ -97,8 +101,6 @@ alters-spec =
     string-word-requires
     mul-w-2
     slice-write-w-2
-    add-t21
-    enum-known-both-2
+    add-t18
     same-length
-    returns
     returns-2)

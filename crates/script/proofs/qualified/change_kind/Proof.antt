@@ -1,3 +1,4 @@
+-- `script::qualified::change_kind` meets its contract. Assumes nothing.
 use Rattle.reader.specs.Shapes.{changeOf}
 use Rattle.script.specs.Words.{changeKind}
 use native.Mathlib.Omega.{arith}

@@ -1,3 +1,4 @@
+-- `script::qualified::point_kind` meets its contract. Assumes nothing.
 use Rattle.script.specs.Words.{pointKind}
 use native.Mathlib.Omega.{arith}
 use borrow.Author.Needs.{needs}

@@ -1,9 +1,9 @@
-use mathlib.Core.Path.{ap}
-use Prim.Native.Nat.{ℕ, _+_, _*_}
-use Rattle.script.proofs.Qualifying.{can-write, string-room, points-written, points-refused}
+-- `script::qualified::points` meets its contract. Assumes nothing.
+use Rattle.script.proofs.Qualifying.{refused-string, can-write, string-room, points-written, points-refused}
 use Rattle.strings.proofs.Callers.{string-at}
 use lib.ListN.{length-set}
-use mathlib.Core.Path.{_∙_}
+use Prim.Native.Nat.{ℕ, _+_, _*_}
+use mathlib.Core.Path.{ap, _∙_}
 use native.Mathlib.Omega.{arith}
 use borrow.Author.Needs.{needs}
 use Rattle.script.proofs.qualified.points.Statement.{statement}
@@ -14,6 +14,15 @@ qualified-string-requires c κs = search needs
 
 enum-known-string : tie.Need-enum-known-string
 enum-known-string c = search needs
+
+enum-told : tie.Need-enum-told
+enum-told c = search needs
+
+refusal-requires : tie.Need-refusal-requires
+refusal-requires c κs = search needs
+
+returns : tie.Need-returns
+returns c = rw (refused-string _ _ _ _ (c .refusal .ensures) (c .before .enum-told .given .1)) (points-refused _ _ _ _ _ (c .before .before .before .before .before .before .pre) _ _ (c .before .before .before .qualified-string .ensures) _ _ (c .before .enum-told .given .1))
 
 point-kind-requires : tie.Need-point-kind-requires
 point-kind-requires c κs = search needs
@@ -40,17 +49,11 @@ put-string-requires c κs =
     let at = string-at _ _ _ _ (c .before .before .before .before .before .before .qualified-string .ensures) _ _ _ _ (c .before .before .before .before .string .given .1) in
     (can-write _ _ _ _ _ (c .before .before .before .before .before .before .before .before .before .pre) _ _ _ _ at, simp length-set (omega (arith, string-room _ _ _ _ _ (c .before .before .before .before .before .before .before .before .before .pre) _ _ _ _ at)))
 
-enum-known-string-2 : tie.Need-enum-known-string-2
-enum-known-string-2 c = search needs
-
 same-length : tie.Need-same-length
 same-length c = c .before .before .put-string .kept .0 ∙ simp length-set
 
-returns : tie.Need-returns
-returns c = points-written _ _ _ _ _ (c .before .before .before .before .before .before .before .before .before .before .before .before .pre) _ _ (c .before .before .before .before .before .before .before .before .before .qualified-string .ensures) _ _ _ _ (c .before .before .before .before .before .before .before .string .given .1) _ _ _ (c .before .before .before .before .head .ensures .0 ∙ ap (λ (n : ℕ). n + 64 * c .before .before .before .before .before .before .before .before .before .before .before .before .args .place) (c .before .before .before .before .before .point-kind .ensures .0)) (c .before .before .put-string .ensures .0) (c .before .before .put-string .ensures .1)
-
 returns-2 : tie.Need-returns-2
-returns-2 c = points-refused _ _ _ _ _ (c .before .before .before .before .before .before .pre) _ _ (c .before .before .before .qualified-string .ensures) _ _ (c .before .string2 .given .1)
+returns-2 c = points-written _ _ _ _ _ (c .before .before .before .before .before .before .before .before .before .before .before .before .pre) _ _ (c .before .before .before .before .before .before .before .before .before .qualified-string .ensures) _ _ _ _ (c .before .before .before .before .before .before .before .string .given .1) _ _ _ (c .before .before .before .before .head .ensures .0 ∙ ap (λ (n : ℕ). n + 64 * c .before .before .before .before .before .before .before .before .before .before .before .before .args .place) (c .before .before .before .before .before .point-kind .ensures .0)) (c .before .before .put-string .ensures .0) (c .before .before .put-string .ensures .1)
 
 pub points-spec : {M : Type 1} → statement M
 points-spec =
@@ -58,6 +61,9 @@ points-spec =
     (tie.spec
     qualified-string-requires
     enum-known-string
+    enum-told
+    refusal-requires
+    returns
     point-kind-requires
     head-requires
     mul-w
@@ -65,7 +71,5 @@ points-spec =
     add-put-string
     sub-put-string
     put-string-requires
-    enum-known-string-2
     same-length
-    returns
     returns-2)

@@ -1,53 +1,41 @@
+-- `script::rounds::finish` meets its contract. Assumes nothing.
 use Rattle.script.proofs.OneRound.{finish-room, finish-whole, finish-prefix, finish-refused}
 use native.Mathlib.Omega.{arith}
 use borrow.Author.Needs.{needs}
 use Rattle.script.proofs.rounds.finish.Statement.{statement}
 use Rattle.script.proofs.rounds.finish.Tie as tie
-use Rattle.script.proofs.rounds.finish.Reads as reads
-use Rattle.script.proofs.rounds.finish.Lts as lts
-use Rattle.script.proofs.words.put_closes.Reads as put-closes-reads
 
--- src/rounds.rt:69:24
 enum-known-c : tie.Need-enum-known-c
 enum-known-c c = search needs
 
--- src/rounds.rt:71:13
 put-closes-requires : tie.Need-put-closes-requires
 put-closes-requires c κs =
     let start = c .before .before .before .before .before in
     finish-room _ _ _ _ _ _ _ (start .pre .4) (start .pre .5) _ _ (c .before .before .c .given .1)
 
--- src/rounds.rt:74:20
 add-t16 : tie.Need-add-t16
 add-t16 c =
     let start = c .before .before .before .before .before .before .before .before in
     omega (arith, finish-room _ _ _ _ _ _ _ (start .pre .4) (start .pre .5) _ _ (c .before .before .before .before .before .c .given .1))
 
--- src/rounds.rt:80:25
 enum-known-c-2 : tie.Need-enum-known-c-2
 enum-known-c-2 c = search needs
 
--- src/rounds.rt:83:18
 add-t18 : tie.Need-add-t18
 add-t18 c = search needs
 
--- src/rounds.rt:87:26
 enum-known-c-3 : tie.Need-enum-known-c-3
 enum-known-c-3 c = search needs
 
--- src/rounds.rt:64:1
 same-length : tie.Need-same-length
 same-length c = search needs
 
--- src/rounds.rt:64:1
 returns : tie.Need-returns
 returns c = λ s before acc x h is. finish-whole s before _ _ acc x _ h is _ _ _ (c .before .before .before .before .before .c .given .1) (c .before .before .put-closes .ensures)
 
--- src/rounds.rt:64:1
 returns-2 : tie.Need-returns-2
 returns-2 c = λ s before acc x h is. finish-prefix s before _ _ acc x _ h is _ _ _ (c .before .before .c2 .given .1)
 
--- src/rounds.rt:64:1
 returns-3 : tie.Need-returns-3
 returns-3 c = λ s before acc x h is. finish-refused s before _ _ acc x _ h is _ _ (c .before .c3 .given .1)
 

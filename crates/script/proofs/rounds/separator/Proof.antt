@@ -1,14 +1,11 @@
+-- `script::rounds::separator` meets its contract. Assumes nothing.
 use Rattle.script.proofs.OneRound.{refusal-comes, separator-missing, passed}
 use Rattle.script.proofs.rounds.separator.Statement.{statement}
 use Rattle.script.proofs.rounds.separator.Tie as tie
-use Rattle.script.proofs.rounds.separator.Reads as reads
-use Rattle.script.proofs.rounds.separator.Lts as lts
 
--- src/rounds.rt:24:9
 returns : tie.Need-returns
 returns c = λ s w acc h far within. refusal-comes s w _ _ _ _ (separator-missing s w _ acc h (c .if1 .taken) acc _)
 
--- src/rounds.rt:20:1
 returns-2 : tie.Need-returns-2
 returns-2 c = λ s w acc h far within. passed s w _ acc h _ (c .if1 .left) far within
 

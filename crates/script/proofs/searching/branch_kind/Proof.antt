@@ -1,3 +1,4 @@
+-- `script::searching::branch_kind` meets its contract. Assumes nothing.
 use Rattle.script.specs.Searches.{branchKind}
 use native.Mathlib.Omega.{arith}
 use borrow.Author.Needs.{needs}

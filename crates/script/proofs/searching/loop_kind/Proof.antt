@@ -1,3 +1,4 @@
+-- `script::searching::loop_kind` meets its contract. Assumes nothing.
 use Rattle.script.specs.Searches.{loopKind}
 use native.Mathlib.Omega.{arith}
 use borrow.Author.Needs.{needs}

@@ -1,3 +1,4 @@
+-- `script::searching::search_words` meets its contract. Assumes nothing.
 use lib.Seq.{length-take-le}
 use lib.ListN.{length}
 use Prim.Native.Nat.{_-_}

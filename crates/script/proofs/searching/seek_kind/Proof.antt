@@ -1,3 +1,4 @@
+-- `script::searching::seek_kind` meets its contract. Assumes nothing.
 use Rattle.reader.specs.Shapes.{seekOf}
 use Rattle.script.specs.Words.{seekKind}
 use native.Mathlib.Omega.{arith}

@@ -1,3 +1,4 @@
+-- `script::words::put_closes` meets its contract. Assumes nothing.
 use Prim.Native.Nat.{ℕ, _+_, _-_, _≤_}
 use native.Mathlib.Omega.{arith}
 use borrow.Author.Needs.{needs}
@@ -5,8 +6,6 @@ use Rattle.script.specs.Reading.{Closed}
 use Rattle.script.proofs.Closing.{closed-none, closed-more, closed-all}
 use Rattle.script.proofs.words.put_closes.Statement.{statement}
 use Rattle.script.proofs.words.put_closes.Tie as tie
-use Rattle.script.proofs.words.put_closes.Reads as reads
-use Rattle.script.proofs.words.put_closes.Lts as lts
 
 abbrev Inv-loop : tie.InvT-loop
 Inv-loop w₀ k n i₀ w i = Closed k i w₀ w × (i ≤ n)
@@ -14,39 +13,30 @@ Inv-loop w₀ k n i₀ w i = Closed k i w₀ w × (i ≤ n)
 abbrev μ-loop : tie.MeasureT-loop
 μ-loop w₀ k n i₀ w i = n - i
 
--- src/words.rt:22:5
 loop-holds : tie.Need-loop-holds Inv-loop μ-loop
 loop-holds c = (closed-none _ _, omega arith)
 
--- src/words.rt:23:11
 add-w : tie.Need-add-w Inv-loop μ-loop
 add-w c = search needs
 
--- src/words.rt:23:9
 mul-w : tie.Need-mul-w Inv-loop μ-loop
 mul-w c = search needs
 
--- src/words.rt:23:9
 slice-write-w : tie.Need-slice-write-w Inv-loop μ-loop
 slice-write-w c = omega (arith, c .before .loop .inv .0 .same-length)
 
--- src/words.rt:24:9
 add-i : tie.Need-add-i Inv-loop μ-loop
 add-i c = search needs
 
--- src/words.rt:22:5
 loop-less : tie.Need-loop-less Inv-loop μ-loop
 loop-less c = search needs
 
--- src/words.rt:22:5
 loop-again : tie.Need-loop-again Inv-loop μ-loop
 loop-again c = (closed-more _ _ _ (c .before .loop .w) (omega (arith, c .before .loop .inv .0 .same-length)) (c .before .loop .inv .0), omega arith)
 
--- src/words.rt:17:1
 same-length : tie.Need-same-length Inv-loop μ-loop
 same-length c = c .before .loop .inv .0 .same-length
 
--- src/words.rt:17:1
 returns : tie.Need-returns Inv-loop μ-loop
 returns c = closed-all _ _ _ _ _ (c .loop-test .left) (c .before .loop .inv .1) (c .before .loop .inv .0)
 

@@ -1,60 +1,46 @@
+-- `script::words::put_four` meets its contract. Assumes nothing.
 use lib.ListN.{length-set}
 use native.Mathlib.Omega.{arith}
 use borrow.Author.Needs.{needs}
 use Rattle.script.proofs.words.put_four.Statement.{statement}
 use Rattle.script.proofs.words.put_four.Tie as tie
-use Rattle.script.proofs.words.put_four.Reads as reads
-use Rattle.script.proofs.words.put_four.Lts as lts
 
--- src/words.rt:48:5
 mul-w : tie.Need-mul-w
 mul-w c = search needs
 
--- src/words.rt:48:5
 slice-write-w : tie.Need-slice-write-w
 slice-write-w c = search needs
 
--- src/words.rt:49:7
 add-w : tie.Need-add-w
 add-w c = search needs
 
--- src/words.rt:49:5
 mul-w-2 : tie.Need-mul-w-2
 mul-w-2 c = search needs
 
--- src/words.rt:49:5
 slice-write-w-2 : tie.Need-slice-write-w-2
 slice-write-w-2 c = simp length-set (omega arith)
 
--- src/words.rt:50:7
 add-w-2 : tie.Need-add-w-2
 add-w-2 c = search needs
 
--- src/words.rt:50:5
 mul-w-3 : tie.Need-mul-w-3
 mul-w-3 c = search needs
 
--- src/words.rt:50:5
 slice-write-w-3 : tie.Need-slice-write-w-3
 slice-write-w-3 c = simp length-set (omega arith)
 
--- src/words.rt:51:7
 add-w-3 : tie.Need-add-w-3
 add-w-3 c = search needs
 
--- src/words.rt:51:5
 mul-w-4 : tie.Need-mul-w-4
 mul-w-4 c = search needs
 
--- src/words.rt:51:5
 slice-write-w-4 : tie.Need-slice-write-w-4
 slice-write-w-4 c = search needs
 
--- src/words.rt:44:1
 same-length : tie.Need-same-length
 same-length c = search needs
 
--- src/words.rt:44:1
 returns : tie.Need-returns
 returns c = search needs
 
