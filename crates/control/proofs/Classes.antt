@@ -1,5 +1,6 @@
 -- The item that was read, and what it is by its class. Assumes nothing.
-use mathlib.Core.Path.{_≡_}
+use mathlib.Core.Path.{_≡_, refl}
+use mathlib.Core.Bool.{Bool, true, false, false≢true}
 use mathlib.Core.List.{List, [], _∷_}
 use Prim.Native.Nat.{ℕ, _≤_, _<_}
 use native.Mathlib.Omega.{arith}
@@ -7,10 +8,12 @@ use lib.ListN.{length}
 use Rattle.definitions.specs.Search.{Search}
 use Rattle.definitions.specs.Edit.{Op}
 use Rattle.definitions.specs.Control.{Seek, Opener, Item, simple, seek, opens, bracket, close, otherwise, leave, lineEnd, Frame}
+use Rattle.theorems.specs.NestingLaws.{mayBracket}
 use Rattle.script.specs.Words.{ItemAt}
-use Rattle.control.specs.Items.{classOf, placeOf, openAfter}
-use Rattle.control.specs.Shown.{Within}
-use Rattle.control.proofs.Standing.{First, first-of, none-stands, stands-in}
+use Rattle.control.specs.Items.{classOf, placeOf, countOf, startsGroup}
+use Rattle.script.specs.Depth.{openAfter}
+use Rattle.control.specs.Shown.{Within, Runs}
+use Rattle.control.proofs.Standing.{First, first-of, none-stands, stands-in, within-as, runs-past}
 
 -- what reading the item at `at` says
 abbrev pub Reading : List ℕ → ℕ → ℕ → ℕ → Type 0
@@ -20,8 +23,24 @@ pub record Here (s w : List ℕ) (end at next depth d class : ℕ) (frames : Lis
   pub is-class : class ≡ classOf i
   pub item : ItemAt s w at next i
   pub small : placeOf i < 32768
+  pub few : countOf i < 65536
+  pub past : startsGroup items ≡ true → mayBracket i ≡ true
   pub less : at < next
   pub rest : Within s w end next depth (openAfter d i) items frames
+
+-- no group starts directly after this item
+pub no-group : (i : Item) (items : List Item) → (startsGroup items ≡ true → mayBracket i ≡ true) → mayBracket i ≡ false → startsGroup items ≡ false
+no-group i items past none = settled (startsGroup items) past
+  where
+    settled : (b : Bool) → (b ≡ true → mayBracket i ≡ true) → b ≡ false
+    settled true h = absurd (false≢true (rw none at (h refl)))
+    settled false h = refl
+
+-- the run goes on at what stands after it
+pub runs-on : (s w : List ℕ) (end at next depth d class : ℕ) (frames : List Frame) (i : Item) (items : List Item) → Here s w end at next depth d class frames i items → mayBracket i ≡ false
+    → depth ≤ openAfter d i → Runs s w end next depth items frames
+runs-on s w end at next depth d class frames i items x none le =
+    runs-past s w end next depth items (no-group i items (x .past) none) frames (within-as s w end frames next depth (openAfter d i) depth items le (x .rest))
 
 -- the first item, where there is one
 unfoldable pub At : (s w : List ℕ) (end at next depth d class : ℕ) (frames : List Frame) → List Item → Type 0
@@ -41,6 +60,8 @@ module _ (s w : List ℕ) (end at next depth d class : ℕ) (frames : List Frame
             is-class = reads s (f .next) i (f .item) .0;
             item = rw e (f .item);
             small = f .small;
+            few = f .few;
+            past = f .past;
             less = rw e (f .less);
             rest = record { stands = rw e (f .rest); framed = h .framed; deep = h .deep };
           }

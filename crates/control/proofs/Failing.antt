@@ -2,16 +2,18 @@
 use mathlib.Core.Path.{_≡_, refl, ap}
 use mathlib.Core.Bool.{false}
 use mathlib.Core.List.{List, [], _∷_}
-use mathlib.Core.Logic.{inr}
+use mathlib.Core.Logic.{inl, inr}
 use Prim.Native.Nat.{ℕ, zero, suc, _+_, _-_, _*_, _≤_, _<_}
 use native.Mathlib.Omega.{arith}
 use lib.ListN.{set}
 use Rattle.definitions.specs.Control.{bare, Item, simple, seek, opens, bracket, close, otherwise, leave, lineEnd, Frame, frame, running, failing, leaving, pullAt, pullElse, pullLine, pull}
-use Rattle.control.specs.Items.{classOf, openAfter}
-use Rattle.control.specs.Shown.{Stands, OpenedAt, FramesAt, Within, Shows, Onward, standAt}
+use Rattle.theorems.specs.NestingLaws.{mayBracket}
+use Rattle.control.specs.Items.{classOf}
+use Rattle.script.specs.Depth.{openAfter}
+use Rattle.control.specs.Shown.{Stands, OpenedAt, FramesAt, Within, entered, Shows, Onward, standAt}
 use Rattle.control.specs.declared.Control.{Control}
-use Rattle.control.proofs.Standing.{within-as, within-push}
-use Rattle.control.proofs.Classes.{Reading, At, at-item, as-line, as-close, as-otherwise, as-opens}
+use Rattle.control.proofs.Standing.{within-as, within-word, runs-body}
+use Rattle.control.proofs.Classes.{Reading, At, at-item, runs-on, as-line, as-close, as-otherwise, as-opens}
 use Rattle.control.proofs.Passing.{onward-as}
 
 -- no opener, no close, no ELSE
@@ -102,12 +104,12 @@ module _ (w : List ℕ) (end at next depth count class : ℕ) (reads : Reading w
       }))
 
   pub else-last : r ≡ standAt 0 next depth 0 → class ≡ 2 → count ≡ 1 → Onward s w end at r (failing count items frames)
-  unfolding Shows openAfter pull
+  unfolding Shows openAfter pull mayBracket
   else-last e q one =
       as-close s w end at next depth (depth + count) class frames Goal q items here-is
       (λ rest x. onward-as s w end at r (standAt 0 next depth 0) (failing count (close ∷ rest) frames) e (record {
         to = running rest frames;
-        shows = (refl, within-as s w end frames next depth (depth + count - 1) depth rest (omega (arith, one)) (x .rest));
+        shows = (refl, runs-on s w end at next depth (depth + count) class frames close rest x refl (omega (arith, one)));
         same = pull-else-last count rest frames one;
         further = x .less;
         no-search = omega arith;
@@ -126,7 +128,7 @@ module _ (w : List ℕ) (end at next depth count class : ℕ) (reads : Reading w
       }))
 
   -- the group after ELSE runs
-  pub else-group : (w′ : List ℕ) → w′ ≡ set (set w (end + 2 * depth) at) (end + 2 * depth + 1) 0 → r ≡ standAt 0 next (depth + 1) 0 → class ≡ 3 → count ≡ 1
+  pub else-group : (w′ : List ℕ) → w′ ≡ set w (end + depth) (at + 65536 * 0) → r ≡ standAt 0 next (depth + 1) 0 → class ≡ 3 → count ≡ 1
       → Onward s w′ end at r (failing count items frames)
   unfolding Shows openAfter pull OpenedAt
   else-group w′ pushed e q one =
@@ -135,8 +137,9 @@ module _ (w : List ℕ) (end at next depth count class : ℕ) (reads : Reading w
         to = running rest (frame false 0 bare rest ∷ frames);
         shows = (
           refl,
-          within-push s w end frames w′ depth at next 0 0 bare rest pushed less (omega arith) (inr (x .item, refl))
-              (within-as s w end frames next depth (depth + count) (depth + 1) rest (omega (arith, one)) (x .rest)),
+          runs-body s w′ end next (depth + 1) rest false 0 bare frames (inl refl)
+              (within-word s w end frames w′ depth at next 0 0 bare rest pushed less (omega arith) (inr (x .item, refl))
+              (within-as s w end frames next depth (depth + count) (depth + 1) rest (omega (arith, one)) (x .rest))),
         );
         same = pull-else-group count rest frames one;
         further = x .less;
@@ -190,7 +193,7 @@ outside s w end k d items h = record { stands = h; framed = tt; deep = refl }
 
 module _ (w : List ℕ) (at next class : ℕ) (reads : Reading w at class next) (r : Control) (s : List ℕ) (end d : ℕ) (items : List Item) (h : Stands s w end at d items) (less : at < end) where
   pub line-end : r ≡ standAt 0 next 0 0 → class ≡ 0 → Onward s w end at r (leaving items)
-  unfolding Shows openAfter pull pullLine
+  unfolding Shows entered openAfter pull pullLine
   line-end e q =
       as-line s w end at next 0 d class [] (λ l. Onward s w end at r (leaving l)) q items
       (at-item s w end at next 0 d class [] reads items less (outside s w end at d items h))

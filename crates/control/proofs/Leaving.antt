@@ -1,16 +1,60 @@
 -- Laws of AGP: out of the innermost group. Assumes nothing.
 use mathlib.Core.Path.{_≡_, refl, sym, ap, _∙_, subst}
-use mathlib.Core.Bool.{Bool, true, false}
+use mathlib.Core.Bool.{Bool, true, false, false≢true}
 use mathlib.Core.List.{List, [], _∷_}
-use Prim.Native.Nat.{ℕ, suc, _+_, _-_, _*_, _≤_, _<_}
+use Prim.Native.Nat.{ℕ, suc, _+_, _-_, _%_, _≤_, _<_}
 use native.Mathlib.Omega.{arith}
 use lib.ListN.{length, getD}
-use Rattle.definitions.specs.Control.{Opener, Item, Frame, frame, skipping, leaving, leaveTo}
-use Rattle.matching.specs.Words.{bitOf}
-use Rattle.control.specs.Shown.{Stands, FramesAt, Within, Shows, standAt}
+use lib.Dec.{eqb}
+use borrow.Author.Tests.{eq-eqb, ne-eqb}
+use Rattle.definitions.specs.Control.{Opener, Item, simple, seek, opens, bracket, close, otherwise, leave, lineEnd, Frame, frame, skipping, leaving, leaveTo}
+use Rattle.script.specs.Words.{ItemAt}
+use Rattle.control.specs.Items.{kindAt, openerEnd, classOf, startsGroup}
+use Rattle.control.specs.Shown.{Stands, FrameAt, FramesAt, Within, Shows, standAt}
 use Rattle.control.specs.declared.Control.{Control}
-use Rattle.control.proofs.Standing.{stands-in, stands-less}
+use Rattle.control.proofs.Standing.{stands-in, stands-less, first-of, none-stands, no-more}
+use Rattle.control.proofs.Reading.{classBy, item-reads}
 use Rattle.control.proofs.Starting.{shows-as}
+use Rattle.control.proofs.Ending.{frame-item, frame-start}
+
+-- ---- is a body a group
+
+-- an item of another class is no bracket
+no-bracket : (s w : List ℕ) (end k d : ℕ) (i : Item) (items : List Item) → (1 ≡ classOf i → ⊥) → Stands s w end k d (i ∷ items) → eqb (kindAt w k) 1 ≡ false
+unfolding classBy
+no-bracket s w end k d i items other h =
+    let f = first-of s w end k d i items h in
+    ne-eqb (kindAt w k) 1 (λ e. other (rw e at (item-reads s w k (f .next) i (f .item) .class)))
+
+starts-as : (s w : List ℕ) (end k d : ℕ) (body : List Item) → Stands s w end k d body → k < end → eqb (kindAt w k) 1 ≡ startsGroup body
+unfolding startsGroup classOf ItemAt
+starts-as s w end k d [] h less = absurd (omega (arith, less, none-stands s w end k d h))
+starts-as s w end k d (bracket ∷ items) h less = eq-eqb (kindAt w k) 1 (omega (arith, first-of s w end k d bracket items h .item .1))
+starts-as s w end k d (lineEnd ∷ items) h less = no-bracket s w end k d lineEnd items (λ q. omega (arith, q)) h
+starts-as s w end k d (close ∷ items) h less = no-bracket s w end k d close items (λ q. omega (arith, q)) h
+starts-as s w end k d (otherwise ∷ items) h less = no-bracket s w end k d otherwise items (λ q. omega (arith, q)) h
+starts-as s w end k d (leave p ∷ items) h less = no-bracket s w end k d (leave p) items (λ q. omega (arith, q)) h
+starts-as s w end k d (simple p op ∷ items) h less = no-bracket s w end k d (simple p op) items (λ q. omega (arith, q)) h
+starts-as s w end k d (seek p f se ∷ items) h less = no-bracket s w end k d (seek p f se) items (λ q. omega (arith, q)) h
+starts-as s w end k d (opens p o ∷ items) h less = no-bracket s w end k d (opens p o) items (λ q. omega (arith, q)) h
+
+module _ (w : List ℕ) (end j kind start : ℕ) (kind-is : kind ≡ kindAt w (getD w j 0 % 65536)) (start-is : start ≡ openerEnd w (getD w j 0 % 65536) kind)
+    (s : List ℕ) (d : ℕ) (g : Bool) (place : ℕ) (o : Opener) (body : List Item) (h : FrameAt s w end j d g place o body) where
+  starts-at : start ≡ h .start
+  starts-at =
+      start-is ∙ ap (openerEnd w (getD w j 0 % 65536)) kind-is ∙ ap (λ (x : ℕ). openerEnd w x (kindAt w x)) (frame-item s w end j d g place o body h)
+      ∙ frame-start s w end j d g place o body h
+
+  pub group-none : end ≤ start → false ≡ g
+  unfolding startsGroup
+  group-none le =
+      sym (h .group ∙ ap startsGroup (no-more s w end (h .start) d body (h .stands) (omega (arith, le, starts-at))))
+
+  pub group-is : start < end → (first : ℕ) → first ≡ kindAt w start → eqb first 1 ≡ g
+  group-is less first e =
+      ap (λ (x : ℕ). eqb x 1) (e ∙ ap (kindAt w) starts-at) ∙ starts-as s w end (h .start) d body (h .stands) (omega (arith, less, starts-at)) ∙ sym (h .group)
+
+-- ---- out of the innermost group
 
 -- d bodies are left to look at
 pub record Left (s w : List ℕ) (end depth d : ℕ) (items : List Item) (frames : List Frame) : Type 0 where
@@ -18,14 +62,6 @@ pub record Left (s w : List ℕ) (end depth d : ℕ) (items : List Item) (frames
   pub framed : FramesAt s w end rest
   pub deep : d ≡ length rest
   pub same : leaveTo (depth - d) items rest ≡ leaveTo 0 items frames
-
-bit-none : bitOf false ≡ 0
-unfolding bitOf
-bit-none = refl
-
-bit-one : bitOf true ≡ 1
-unfolding bitOf
-bit-one = refl
 
 shown-group : (s w : List ℕ) (end next depth d : ℕ) (items : List Item) (fs : List Frame) (r : Control) → r ≡ standAt 1 next (d - 1) (depth - (d - 1)) → 0 < d → d ≤ depth → d ≡ suc (length fs)
     → Stands s w end next depth items → FramesAt s w end fs → Shows s w end r (skipping (suc (depth - d)) items fs)
@@ -42,51 +78,52 @@ module _ (s w : List ℕ) (end next depth : ℕ) (items : List Item) (frames : L
   pub left-start : Left s w end depth depth items frames
   left-start = record { rest = frames; framed = h .framed; deep = h .deep; same = ap (λ (k : ℕ). leaveTo k items frames) (omega arith) }
 
-  -- a group
-  pub left-group : (d : ℕ) → 0 < d → d ≤ depth → 65536 ≤ getD w (end + 2 * (d - 1)) 0 → (r : Control) → r ≡ standAt 1 next (d - 1) (depth - (d - 1)) → Left s w end depth d items frames
-      → Shows s w end r (leaveTo 0 items frames)
-  unfolding FramesAt leaveTo
-  left-group d some le high r e l = go (l .rest) (l .framed) (l .deep) (l .same)
-    where
-      inside : (end ≤ 65536) × (end + 2 * depth ≤ length w)
-      inside = (stands-in s w end next depth items (h .stands) .1, stands-in s w end next depth items (h .stands) .2)
+  module _ (d : ℕ) (some : 0 < d) (le : d ≤ depth) (l : Left s w end depth d items frames) where
+    -- the innermost of the d bodies
+    innermost : (P : Type 0) → ((g : Bool) (fs : List Frame) (place : ℕ) (o : Opener) (body : List Item) → FrameAt s w end (end + (d - 1)) (length fs + 1) g place o body → FramesAt s w end fs
+        → d ≡ suc (length fs) → leaveTo (depth - d) items (frame g place o body ∷ fs) ≡ leaveTo 0 items frames → P) → P
+    unfolding FramesAt
+    innermost P on = go (l .rest) (l .framed) (l .deep) (l .same)
+      where
+        go : (fs : List Frame) → FramesAt s w end fs → d ≡ length fs → leaveTo (depth - d) items fs ≡ leaveTo 0 items frames → P
+        go [] f deep same = absurd (omega (arith, some, deep))
+        go (frame g place o body ∷ fs) f deep same =
+            on g fs place o body (subst (λ (x : ℕ). FrameAt s w end x (length fs + 1) g place o body) (omega (arith, deep)) (f .0)) (f .1) deep same
 
-      is-group : (g : Bool) (fs : List Frame) (place : ℕ) (o : Opener) (body : List Item) → FramesAt s w end (frame g place o body ∷ fs) → d ≡ suc (length fs)
-          → leaveTo (depth - d) items (frame g place o body ∷ fs) ≡ leaveTo 0 items frames → Shows s w end r (leaveTo 0 items frames)
-      is-group false fs place o body f deep same = absurd (no-group f deep)
+    pub left-looked : ((z : List ℕ) × (n : ℕ) × (g : Bool) × (place : ℕ) × (o : Opener) × (body : List Item) × FrameAt z w end (end + (d - 1)) n g place o body) × (end + (d - 1) < length w)
+    left-looked = (
+      innermost ((z : List ℕ) × (n : ℕ) × (g : Bool) × (place : ℕ) × (o : Opener) × (body : List Item) × FrameAt z w end (end + (d - 1)) n g place o body)
+          (λ g fs place o body f rest deep same. (s, length fs + 1, g, place, o, body, f)),
+      omega (arith, some, le, stands-in s w end next depth items (h .stands)),
+    )
+
+    module _ (is-group : Bool) (found : (z : List ℕ) (n : ℕ) (g : Bool) (place : ℕ) (o : Opener) (body : List Item) → FrameAt z w end (end + (d - 1)) n g place o body → is-group ≡ g) where
+      -- a group
+      pub left-group : is-group ≡ true → (r : Control) → r ≡ standAt 1 next (d - 1) (depth - (d - 1)) → Shows s w end r (leaveTo 0 items frames)
+      unfolding leaveTo
+      left-group yes-group r e = innermost (Shows s w end r (leaveTo 0 items frames)) go
         where
-          no-group : FramesAt s w end (frame false place o body ∷ fs) → d ≡ suc (length fs) → ⊥
-          no-group f deep =
-              let at : end + 2 * length fs ≡ end + 2 * (d - 1) = omega (arith, deep) in
-              omega (arith, sym (ap (λ (x : ℕ). getD w x 0) at) ∙ f .0 .first, f .0 .before, high, inside, bit-none)
-      is-group true fs place o body f deep same =
-          subst (λ c. Shows s w end r c) same (shown-group s w end next depth d items fs r e some le deep (h .stands) (f .1))
+          go : (g : Bool) (fs : List Frame) (place : ℕ) (o : Opener) (body : List Item) → FrameAt s w end (end + (d - 1)) (length fs + 1) g place o body → FramesAt s w end fs → d ≡ suc (length fs)
+              → leaveTo (depth - d) items (frame g place o body ∷ fs) ≡ leaveTo 0 items frames → Shows s w end r (leaveTo 0 items frames)
+          go false fs place o body f rest deep same = absurd (false≢true (sym (found s (length fs + 1) false place o body f) ∙ yes-group))
+          go true fs place o body f rest deep same =
+              subst (λ c. Shows s w end r c) same (shown-group s w end next depth d items fs r e some le deep (h .stands) rest)
 
-      go : (fs : List Frame) → FramesAt s w end fs → d ≡ length fs → leaveTo (depth - d) items fs ≡ leaveTo 0 items frames → Shows s w end r (leaveTo 0 items frames)
-      go [] f deep same = absurd (omega (arith, some, deep))
-      go (frame g place o body ∷ fs) f deep same = is-group g fs place o body f deep same
-
-  -- a body that is no group is left too
-  pub left-more : (d : ℕ) → 0 < d → d ≤ depth → getD w (end + 2 * (d - 1)) 0 < 65536 → Left s w end depth d items frames → Left s w end depth (d - 1) items frames
-  unfolding FramesAt leaveTo
-  left-more d some le low l = go (l .rest) (l .framed) (l .deep) (l .same)
-    where
-      no-group : (g : Bool) (fs : List Frame) (place : ℕ) (o : Opener) (body : List Item) → FramesAt s w end (frame g place o body ∷ fs) → d ≡ suc (length fs)
-          → leaveTo (depth - d) items (frame g place o body ∷ fs) ≡ leaveTo 0 items frames → Left s w end depth (d - 1) items frames
-      no-group true fs place o body f deep same =
-          let at : end + 2 * length fs ≡ end + 2 * (d - 1) = omega (arith, deep) in
-          absurd (omega (arith, sym (ap (λ (x : ℕ). getD w x 0) at) ∙ f .0 .first, low, bit-one))
-      no-group false fs place o body f deep same =
-          record {
-            rest = fs;
-            framed = f .1;
-            deep = omega (arith, deep);
-            same = ap (λ (k : ℕ). leaveTo k items fs) (omega (arith, some, le)) ∙ same;
-          }
-
-      go : (fs : List Frame) → FramesAt s w end fs → d ≡ length fs → leaveTo (depth - d) items fs ≡ leaveTo 0 items frames → Left s w end depth (d - 1) items frames
-      go [] f deep same = absurd (omega (arith, some, deep))
-      go (frame g place o body ∷ fs) f deep same = no-group g fs place o body f deep same
+      -- a body that is no group is left too
+      pub left-more : is-group ≡ false → Left s w end depth (d - 1) items frames
+      unfolding leaveTo
+      left-more no-group = innermost (Left s w end depth (d - 1) items frames) go
+        where
+          go : (g : Bool) (fs : List Frame) (place : ℕ) (o : Opener) (body : List Item) → FrameAt s w end (end + (d - 1)) (length fs + 1) g place o body → FramesAt s w end fs → d ≡ suc (length fs)
+              → leaveTo (depth - d) items (frame g place o body ∷ fs) ≡ leaveTo 0 items frames → Left s w end depth (d - 1) items frames
+          go true fs place o body f rest deep same = absurd (false≢true (sym no-group ∙ found s (length fs + 1) true place o body f))
+          go false fs place o body f rest deep same =
+              record {
+                rest = fs;
+                framed = rest;
+                deep = omega (arith, deep);
+                same = ap (λ (k : ℕ). leaveTo k items fs) (omega (arith, some, le)) ∙ same;
+              }
 
   -- there is no group
   pub left-none : (d : ℕ) → d ≡ 0 → (r : Control) → r ≡ standAt 3 next 0 0 → Left s w end depth d items frames → Shows s w end r (leaveTo 0 items frames)

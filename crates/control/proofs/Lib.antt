@@ -14,3 +14,4 @@ pub mod Running
 pub mod Groups
 pub mod Pulling
 pub mod Answers
+pub mod Scripts

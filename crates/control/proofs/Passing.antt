@@ -4,11 +4,13 @@ use mathlib.Core.List.{List, [], _∷_}
 use Prim.Native.Nat.{ℕ, zero, suc, _+_, _-_, _≤_, _<_}
 use native.Mathlib.Omega.{arith}
 use Rattle.definitions.specs.Control.{Item, simple, seek, opens, bracket, close, otherwise, leave, lineEnd, Frame, Ctl, running, skipping, pullAt, pullAfter, pull}
-use Rattle.control.specs.Items.{classOf, openAfter}
+use Rattle.theorems.specs.NestingLaws.{mayBracket}
+use Rattle.control.specs.Items.{classOf}
+use Rattle.script.specs.Depth.{openAfter}
 use Rattle.control.specs.Shown.{Within, Shows, Onward, standAt}
 use Rattle.control.specs.declared.Control.{Control}
 use Rattle.control.proofs.Standing.{within-as}
-use Rattle.control.proofs.Classes.{Reading, At, at-item, as-close, as-opens}
+use Rattle.control.proofs.Classes.{Reading, At, at-item, runs-on, as-close, as-opens}
 
 pub onward-as : (s w : List ℕ) (end at : ℕ) (r c : Control) (from : Ctl) → r ≡ c → Onward s w end at c from → Onward s w end at r from
 onward-as s w end at r c from e h = subst (λ x. Onward s w end at x from) (sym e) h
@@ -84,13 +86,13 @@ module _ (w : List ℕ) (at next depth count class : ℕ) (reads : Reading w at 
       }))
 
   pub skip-last : r ≡ standAt 0 next depth 0 → class ≡ 2 → count ≡ 1 → Within s w end at depth (depth + count) items frames → at < end → Onward s w end at r (skipping count items frames)
-  unfolding Shows openAfter pull
+  unfolding Shows openAfter pull mayBracket
   skip-last e q one h less =
       as-close s w end at next depth (depth + count) class frames (λ l. Onward s w end at r (skipping count l frames)) q items
       (at-item s w end at next depth (depth + count) class frames reads items less h)
       (λ rest x. onward-as s w end at r (standAt 0 next depth 0) (skipping count (close ∷ rest) frames) e (record {
         to = running rest frames;
-        shows = (refl, within-as s w end frames next depth (depth + count - 1) depth rest (omega (arith, one)) (x .rest));
+        shows = (refl, runs-on s w end at next depth (depth + count) class frames close rest x refl (omega (arith, one)));
         same = pull-after-last count rest frames one;
         further = x .less;
         no-search = omega arith;

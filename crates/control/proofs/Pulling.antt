@@ -1,31 +1,32 @@
 -- Laws of the run's start, of one item in each way of standing, and of the turn from item to item. Assumes nothing.
 use mathlib.Core.Path.{_≡_, refl, sym, _∙_, subst}
-use mathlib.Core.List.{List, [], _∷_}
-use Prim.Native.Nat.{ℕ, _+_, _*_, _≤_, _<_}
+use mathlib.Core.List.{List, []}
+use Prim.Native.Nat.{ℕ, _+_, _≤_, _<_}
 use native.Mathlib.Omega.{arith}
 use lib.ListN.{length}
 use Rattle.definitions.specs.Control.{Item, Frame, Ctl, running, skipping, failing, leaving, seeking, Pull, finished, want, pullAt, pullAfter, pullElse, pullLine, pull}
 use Rattle.script.specs.Words.{ItemsAt}
-use Rattle.control.specs.Items.{Placed, deepest}
-use Rattle.control.specs.Shown.{Stands, FramesAt, Within, Shows, ShowsNext, Onward, ShowsStep, standAt}
+use Rattle.control.specs.Items.{Proper}
+use Rattle.script.specs.Depth.{deepest}
+use Rattle.control.specs.Shown.{Stands, FramesAt, Within, entered, Runs, Shows, ShowsNext, Onward, ShowsStep, standAt}
 use Rattle.control.specs.declared.Control.{Control}
 use Rattle.control.specs.declared.Next.{Next}
 use Rattle.control.specs.declared.Next.the-variants.{Finished, Want}
 use Rattle.control.specs.declared.Step.{Step}
 use Rattle.control.specs.declared.Step.the-variants.{On, Gives}
-use Rattle.control.proofs.Standing.{first-of, stands-in}
+use Rattle.control.proofs.Standing.{no-more}
 use Rattle.control.proofs.Starting.{shows-as}
 
-pub at-start : (s w : List ℕ) (end : ℕ) (items : List Item) → ItemsAt s w 0 end items → Placed items → end ≤ 65536 → end + 2 * deepest 0 items ≤ length w
+pub at-start : (s w : List ℕ) (end : ℕ) (items : List Item) → ItemsAt s w 0 end items → Proper items → end ≤ 65536 → end + deepest 0 items ≤ length w
     → (r : Control) → r ≡ standAt 0 0 0 0 → Shows s w end r (running items [])
-unfolding Shows FramesAt
-at-start s w end items lie placed short room r e =
-    shows-as s w end r (standAt 0 0 0 0) (running items []) e (refl, record { stands = record { lie = lie; placed = placed; short = short; room = room }; framed = tt; deep = refl })
+unfolding Shows FramesAt entered
+at-start s w end items lie proper short room r e =
+    shows-as s w end r (standAt 0 0 0 0) (running items []) e (refl, record { stands = record { lie = lie; proper = proper; short = short; room = room }; framed = tt; deep = refl })
 
 -- ---- in which way the run stands
 
 module _ (s w : List ℕ) (end : ℕ) (c : Control) (P : Ctl → Type 0) where
-  pub as-running : c .mode ≡ 0 → (from : Ctl) → Shows s w end c from → ((items : List Item) (frames : List Frame) → Within s w end (c .at) (c .depth) (c .depth) items frames → P (running items frames)) → P from
+  pub as-running : c .mode ≡ 0 → (from : Ctl) → Shows s w end c from → ((items : List Item) (frames : List Frame) → Runs s w end (c .at) (c .depth) items frames → P (running items frames)) → P from
   unfolding Shows
   as-running q (running items frames) h on = on items frames (h .1)
   as-running q (skipping k items frames) h on = absurd (omega (arith, q, h .0))
@@ -67,9 +68,9 @@ module _ (s w : List ℕ) (end : ℕ) (c : Control) (P : Ctl → Type 0) where
 -- ---- what each way of standing is handed
 
 module _ (s w : List ℕ) (end : ℕ) (c : Control) (from : Ctl) (less : c .at < end) (h : Shows s w end c from) where
-  pub running-in : c .mode ≡ 0 → ((z : List ℕ) × (items : List Item) × (frames : List Frame) × Within z w end (c .at) (c .depth) (c .depth) items frames) × (c .at < end)
+  pub running-in : c .mode ≡ 0 → ((z : List ℕ) × (items : List Item) × (frames : List Frame) × Runs z w end (c .at) (c .depth) items frames) × (c .at < end)
   running-in q = (
-    as-running s w end c (λ f. ((z : List ℕ) × (items : List Item) × (frames : List Frame) × Within z w end (c .at) (c .depth) (c .depth) items frames)) q from h
+    as-running s w end c (λ f. ((z : List ℕ) × (items : List Item) × (frames : List Frame) × Runs z w end (c .at) (c .depth) items frames)) q from h
         (λ items frames x. (s, items, frames, x)),
     less,
   )
@@ -96,7 +97,7 @@ module _ (s w : List ℕ) (end : ℕ) (c : Control) (from : Ctl) (less : c .at <
 
 module _ (w w′ : List ℕ) (end : ℕ) (c : Control) (less : c .at < end) (s : List ℕ) (from : Ctl) (h : Shows s w end c from) where
   pub running-step : (r : Step) → c .mode ≡ 0
-      → ((z : List ℕ) (items : List Item) (frames : List Frame) → Within z w end (c .at) (c .depth) (c .depth) items frames → ShowsStep z w′ end (c .at) r (running items frames))
+      → ((z : List ℕ) (items : List Item) (frames : List Frame) → Runs z w end (c .at) (c .depth) items frames → ShowsStep z w′ end (c .at) r (running items frames))
       → ShowsStep s w′ end (c .at) r from
   running-step r q ran = as-running s w end c (λ f. ShowsStep s w′ end (c .at) r f) q from h (λ items frames x. ran s items frames x)
 
@@ -119,12 +120,6 @@ module _ (w : List ℕ) (end : ℕ) (c : Control) (less : c .at < end) (s : List
   leaving-step q a b d ran = as-leaving s w end c (λ f. Onward s w end (c .at) k f) q a b d from h (λ items n x. ran s end n items x less)
 
 -- ---- the end of the items
-
-no-more : (s w : List ℕ) (end k d : ℕ) (items : List Item) → Stands s w end k d items → end ≤ k → items ≡ []
-no-more s w end k d [] h le = refl
-no-more s w end k d (i ∷ items) h le =
-    let f = first-of s w end k d i items h in
-    absurd (omega (arith, le, f .less, stands-in s w end (f .next) _ items (f .rest)))
 
 pub all-done : (s w : List ℕ) (end : ℕ) (c : Control) (from : Ctl) → c .mode < 4 → end ≤ c .at → Shows s w end c from → pull from ≡ finished
 unfolding Shows pull pullAt pullAfter pullElse pullLine

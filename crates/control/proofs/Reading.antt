@@ -8,7 +8,7 @@ use native.Mathlib.Omega.{arith}
 use lib.ListN.{length, getD}
 use lib.Dec.{ltb}
 use borrow.Author.Tests.{lt-ltb, le-ltb, eq-eqb, ne-eqb}
-use Rattle.definitions.specs.Matching.{qualifiers, Qualified, qualified}
+use Rattle.definitions.specs.Matching.{Qualified}
 use Rattle.definitions.specs.Search.{Search, one}
 use Rattle.definitions.specs.Editor.{alone, upTo, toEof}
 use Rattle.definitions.specs.Edit.{Change, afterIt, beforeIt, exchange, is, isNot, isEof, Op, round, quit, test, begin, beginBack, find, findBack, findDelete, move, next, previous, delete, replace, insert, copy, alter, point, pointStart, right, left, cutByte, recase}

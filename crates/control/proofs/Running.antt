@@ -2,34 +2,43 @@
 use mathlib.Core.Path.{_≡_, refl, sym, ap, _∙_, subst}
 use mathlib.Core.Bool.{Bool}
 use mathlib.Core.List.{List, _∷_}
-use Prim.Native.Nat.{ℕ, _+_, _*_, _≤_, _<_}
+use Prim.Native.Nat.{ℕ, _<_}
 use native.Mathlib.Omega.{arith}
 use lib.ListN.{length}
 use Rattle.definitions.specs.Edit.{round}
-use Rattle.definitions.specs.Control.{Opener, Item, simple, seek, opens, bracket, close, otherwise, leave, lineEnd, Frame, frame, running, seeking, wantOne, leaveTo, beginOp, pullAt, pull}
+use Rattle.definitions.specs.Control.{Opener, Item, simple, seek, opens, bracket, close, otherwise, leave, lineEnd, Frame, frame, running, seeking, Pull, wantOne, leaveTo, beginOp, pullAt, pull}
+use Rattle.theorems.specs.NestingLaws.{mayBracket}
 use Rattle.script.specs.Words.{OpAt, ItemAt}
-use Rattle.control.specs.Items.{kindAt, placeAt, classOf, placeOf, openAfter}
-use Rattle.control.specs.Shown.{FramesAt, Within, Opening, Closing, Shows, a-round, simply, ShowsStep, standAt, seekAt, wantedAt, beginBy}
+use Rattle.control.specs.Items.{kindAt, placeAt, classOf, placeOf}
+use Rattle.script.specs.Depth.{openAfter}
+use Rattle.control.specs.Shown.{FramesAt, Within, entered, Runs, Opening, Closing, Shows, a-round, simply, ShowsNext, ShowsStep, standAt, seekAt, wantedAt, beginBy}
 use Rattle.control.specs.declared.Control.{Control}
 use Rattle.control.specs.declared.Next.the-variants.{Want}
 use Rattle.control.specs.declared.Step.{Step}
 use Rattle.control.specs.declared.Step.the-variants.{On, Gives}
 use Rattle.control.proofs.Reading.{item-reads}
-use Rattle.control.proofs.Standing.{stands-in}
-use Rattle.control.proofs.Classes.{Reading, Here, At, at-item, as-line, as-leave, as-simple, as-seek, as-opens}
+use Rattle.control.proofs.Standing.{stands-in, pull-entered}
+use Rattle.control.proofs.Classes.{Reading, Here, At, at-item, no-group, runs-on, as-line, as-leave, as-simple, as-seek, as-opens}
 use Rattle.control.proofs.Starting.{gives, goes, shows-as}
 use Rattle.control.proofs.Looking.{asks-begin}
 
 pub opening : (s w : List ℕ) (end at next depth class p : ℕ) (o : Opener) (rest : List Item) (frames : List Frame) → Here s w end at next depth depth class frames (opens p o) rest
     → Opening s w end at next depth p o rest frames
 unfolding ItemAt placeOf openAfter
-opening s w end at next depth class p o rest frames x = record { opener = x .item; small = x .small; rest = x .rest }
+opening s w end at next depth class p o rest frames x = record { opener = x .item; small = x .small; few = x .few; rest = x .rest }
 
 pub closing : (s w : List ℕ) (end at next depth class : ℕ) (rest : List Item) (g : Bool) (place : ℕ) (o : Opener) (body : List Item) (frames : List Frame)
     → Here s w end at next depth depth class (frame g place o body ∷ frames) close rest → Closing s w end at next depth rest g place o body frames
-unfolding openAfter FramesAt
+unfolding openAfter FramesAt mayBracket
 closing s w end at next depth class rest g place o body frames x =
-    record { less = x .less; rest = x .rest .stands; top = x .rest .framed .0; framed = x .rest .framed .1; deep = omega (arith, x .rest .deep) }
+    record {
+      less = x .less;
+      rest = x .rest .stands;
+      past = no-group close rest (x .past) refl;
+      top = x .rest .framed .0;
+      framed = x .rest .framed .1;
+      deep = omega (arith, x .rest .deep);
+    }
 
 -- a close is what is left
 pub two-left : (class : ℕ) (i : Item) → class ≡ classOf i → (class ≡ 7 → ⊥) → (class ≡ 6 → ⊥) → (class ≡ 5 → ⊥) → (class ≡ 4 → ⊥) → (class ≡ 0 → ⊥) → (class ≡ 1 → ⊥) → (class ≡ 3 → ⊥)
@@ -44,14 +53,22 @@ two-left class bracket e a b c d f g h = absurd (g e)
 two-left class otherwise e a b c d f g h = absurd (h e)
 two-left class close e a b c d f g h = e
 
+-- at the start of a group the same comes next
+pub as-entered : (s w : List ℕ) (end at : ℕ) (r : Step) (items : List Item) (frames : List Frame) → ShowsStep s w end at r (running items (entered items frames))
+    → ShowsStep s w end at r (running items frames)
+unfolding ShowsStep
+as-entered s w end at (On c) items frames h =
+    record { to = h .to; shows = h .shows; same = h .same ∙ pull-entered items frames; further = h .further; no-search = h .no-search }
+as-entered s w end at (Gives r) items frames h = subst (λ (p : Pull). ShowsNext s w end 0 r p) (pull-entered items frames) h
+
 module _ (w : List ℕ) (end at next depth class : ℕ) (reads : Reading w at class next) (less : at < end) (s : List ℕ) (items : List Item) (frames : List Frame)
     (h : Within s w end at depth depth items frames) where
   here-is : At s w end at next depth depth class frames items
   here-is = at-item s w end at next depth depth class frames reads items less h
 
   -- the item's words can be read
-  pub run-in : (at < length w) × (end + 2 * depth ≤ length w)
-  run-in = let i = stands-in s w end at depth items (h .stands) in (omega (arith, i, less), i .2)
+  pub run-in : at < length w
+  run-in = omega (arith, stands-in s w end at depth items (h .stands), less)
 
   pub run-opening : class ≡ 7 → ((z : List ℕ) × (place : ℕ) × (o : Opener) × (rest : List Item) × (fs : List Frame) × Opening z w end at next depth place o rest fs)
   run-opening q =
@@ -75,16 +92,17 @@ module _ (w : List ℕ) (end at next depth class : ℕ) (reads : Reading w at cl
 
     -- a search
     pub run-seek : class ≡ 6 → r ≡ Gives (Want (wantedAt (beginBy (kindAt w at)) (placeAt w at) at (seekAt at next depth 0) (seekAt at next depth 0))) → ShowsStep s w end at r (running items frames)
-    unfolding ItemAt placeOf openAfter Shows pull pullAt wantOne
+    unfolding ItemAt placeOf openAfter Shows pull pullAt wantOne mayBracket
     run-seek q e =
         as-seek s w end at next depth depth class frames (λ l. ShowsStep s w end at r (running l frames)) q items here-is
         (λ p f se rest x.
         let x₁ = wantedAt (beginBy (kindAt w at)) (placeAt w at) at (seekAt at next depth 0) (seekAt at next depth 0) in
+        let on : Runs s w end next depth rest frames = runs-on s w end at next depth depth class frames (seek p f se) rest x refl (omega arith) in
         gives s w end at (running (seek p f se ∷ rest) frames) r x₁ p (beginOp f) (seeking p f se 0 rest frames) (seeking p f se 0 rest frames) refl e (record {
           at-place = item-reads s w at next (seek p f se) (x .item) .place (x .small);
           asks = asks-begin s w at next p se f x₁ refl (x .item);
-          yes-shows = (refl, refl, x .small, x .item, x .rest);
-          no-shows = (refl, refl, x .small, x .item, x .rest);
+          yes-shows = (refl, refl, x .small, x .item, on);
+          no-shows = (refl, refl, x .small, x .item, on);
           yes-few = omega arith;
           no-few = omega arith;
         }))
@@ -92,12 +110,13 @@ module _ (w : List ℕ) (end at next depth class : ℕ) (reads : Reading w at cl
     module _ (p : ℕ) (p-is : p ≡ placeAt w at) (y : Control) where
       -- a simple command
       pub run-simple : class ≡ 5 → y ≡ standAt 0 next depth 0 → r ≡ Gives (Want (wantedAt 9 p at y y)) → ShowsStep s w end at r (running items frames)
-      unfolding ItemAt placeOf openAfter Shows pull pullAt wantOne
+      unfolding ItemAt placeOf openAfter Shows pull pullAt wantOne mayBracket
       run-simple q y-is e =
           as-simple s w end at next depth depth class frames (λ l. ShowsStep s w end at r (running l frames)) q items here-is
           (λ place op rest x.
           let is-place : p ≡ place = p-is ∙ item-reads s w at next (simple place op) (x .item) .place (x .small) in
-          let sh : Shows s w end y (running rest frames) = shows-as s w end y (standAt 0 next depth 0) (running rest frames) y-is (refl, x .rest) in
+          let sh : Shows s w end y (running rest frames) = shows-as s w end y (standAt 0 next depth 0) (running rest frames) y-is
+          (refl, runs-on s w end at next depth depth class frames (simple place op) rest x refl (omega arith)) in
           gives s w end at (running (simple place op ∷ rest) frames) r (wantedAt 9 p at y y) place op (running rest frames) (running rest frames) refl e (record {
             at-place = is-place;
             asks = simply op next refl (subst (λ (z : ℕ). OpAt s w at next z op) (sym is-place) (x .item)) (omega (arith, stands-in s w end next depth rest (x .rest .stands)));
@@ -124,7 +143,8 @@ module _ (w : List ℕ) (end at next depth class : ℕ) (reads : Reading w at cl
 
     -- a line end
     pub run-line : class ≡ 0 → (y : Control) → y ≡ standAt 0 next depth 0 → r ≡ On y → ShowsStep s w end at r (running items frames)
-    unfolding openAfter Shows pull pullAt
+    unfolding openAfter Shows pull pullAt mayBracket
     run-line q y y-is e =
         as-line s w end at next depth depth class frames (λ l. ShowsStep s w end at r (running l frames)) q items here-is
-        (λ rest x. goes s w end at (running (lineEnd ∷ rest) frames) r (running rest frames) (running rest frames) (standAt 0 next depth 0) (e ∙ ap On y-is) refl (refl, x .rest) (x .less) (omega arith))
+        (λ rest x. goes s w end at (running (lineEnd ∷ rest) frames) r (running rest frames) (running rest frames) (standAt 0 next depth 0) (e ∙ ap On y-is) refl
+        (refl, runs-on s w end at next depth depth class frames lineEnd rest x refl (omega arith)) (x .less) (omega arith))

@@ -1,27 +1,24 @@
 -- Laws of standing at items with room for the bodies that they can open, and of the bodies' words. Assumes nothing.
 use mathlib.Core.Path.{_≡_, refl, sym, ap, _∙_, subst}
-use mathlib.Core.Logic.{inl, inr}
-use mathlib.Core.Bool.{Bool, false}
+use mathlib.Core.Logic.{_⊎_, inl, inr}
+use mathlib.Core.Bool.{Bool, true, false, _||_}
 use mathlib.Core.List.{List, [], _∷_}
 use Prim.Native.Nat.{ℕ, _+_, _*_, _≤_, _<_}
 use native.Mathlib.Nat.{le-max-left, le-max-right, max-le, le-trans, le-refl}
 use native.Mathlib.Omega.{arith}
 use lib.ListN.{length, getD, set, length-set}
 use lib.Seq.{getD-set-same, getD-set-other}
-use Rattle.definitions.specs.Control.{Opener, times, forever, bare, branch, loop, Item, simple, seek, opens, bracket, close, otherwise, leave, lineEnd, Frame, frame}
-use Rattle.matching.specs.Words.{bitOf}
+use Rattle.definitions.specs.Control.{Opener, times, forever, bare, branch, loop, Item, simple, seek, opens, bracket, close, otherwise, leave, lineEnd, Frame, frame, running, pullAt, pull}
+use Rattle.theorems.specs.NestingLaws.{mayBracket}
 use Rattle.script.specs.Words.{ItemAt, ItemsAt}
-use Rattle.control.specs.Items.{placeOf, Placed, openAfter, deepest}
-use Rattle.control.specs.Shown.{Kept, Stands, OpenedAt, FrameAt, FramesAt, Within}
+use Rattle.control.specs.Items.{placeOf, countOf, startsGroup, Proper}
+use Rattle.script.specs.Depth.{openAfter, deepest}
+use Rattle.control.specs.Shown.{Kept, Stands, OpenedAt, FrameAt, FramesAt, Within, entered, Runs}
+use Rattle.script.proofs.Affording.{deepest-low}
 use Rattle.control.proofs.Reading.{item-reads, items-end}
 use Rattle.control.proofs.Keeping.{items-kept, item-kept, opener-kept, times-kept}
 
 -- ---- how many bodies can be open
-
-pub deepest-low : (d : ℕ) (items : List Item) → d ≤ deepest d items
-unfolding deepest
-deepest-low d [] = le-refl d
-deepest-low d (i ∷ items) = le-max-left d (deepest (openAfter d i) items)
 
 pub deepest-next : (d : ℕ) (i : Item) (items : List Item) → deepest (openAfter d i) items ≤ deepest d (i ∷ items)
 unfolding deepest
@@ -62,30 +59,21 @@ kept-set w n j v le = record { as-long = length-set w j v; same = λ i lt. getD-
 pub kept-written : (w w′ : List ℕ) (n j v : ℕ) → w′ ≡ set w j v → n ≤ j → Kept w w′ n
 kept-written w w′ n j v e le = subst (λ l. Kept w l n) (sym e) (kept-set w n j v le)
 
--- a body's words are written above the items, and above the other bodies' words
-pub kept-below : (w w′ : List ℕ) (end depth item left : ℕ) → w′ ≡ set (set w (end + 2 * depth) item) (end + 2 * depth + 1) left → Kept w w′ (end + 2 * depth)
-kept-below w w′ end depth item left e =
-    subst (λ l. Kept w l (end + 2 * depth)) (sym e) (kept-twice w (set w (end + 2 * depth) item) (set (set w (end + 2 * depth) item) (end + 2 * depth + 1) left) (end + 2 * depth)
-    (kept-set w (end + 2 * depth) (end + 2 * depth) item (omega arith)) (kept-set (set w (end + 2 * depth) item) (end + 2 * depth) (end + 2 * depth + 1) left (omega arith)))
-
-pub kept-pushed : (w w′ : List ℕ) (end depth item left : ℕ) → w′ ≡ set (set w (end + 2 * depth) item) (end + 2 * depth + 1) left → Kept w w′ end
-kept-pushed w w′ end depth item left e = kept-less w w′ (end + 2 * depth) end (omega arith) (kept-below w w′ end depth item left e)
-
 -- ---- standing at items
 
 module _ (s w : List ℕ) (end : ℕ) where
-  pub stands-in : (k d : ℕ) (items : List Item) → Stands s w end k d items → (k ≤ end) × (end ≤ 65536) × (end + 2 * d ≤ length w)
+  pub stands-in : (k d : ℕ) (items : List Item) → Stands s w end k d items → (k ≤ end) × (end ≤ 65536) × (end + d ≤ length w)
   stands-in k d items h = (items-end s w k end items (h .lie), h .short, omega (arith, h .room, deepest-low d items))
 
   pub stands-less : (k d d′ : ℕ) (items : List Item) → d′ ≤ d → Stands s w end k d items → Stands s w end k d′ items
   stands-less k d d′ items le h =
-      record { lie = h .lie; placed = h .placed; short = h .short; room = omega (arith, h .room, deepest-more d′ d items le) }
+      record { lie = h .lie; proper = h .proper; short = h .short; room = omega (arith, h .room, deepest-more d′ d items le) }
 
   pub stands-kept : (w′ : List ℕ) → Kept w w′ end → (k d : ℕ) (items : List Item) → Stands s w end k d items → Stands s w′ end k d items
   stands-kept w′ ke k d items h =
       record {
         lie = items-kept s w w′ end (ke .same) (omega (arith, h .room, ke .as-long)) k items (h .lie);
-        placed = h .placed;
+        proper = h .proper;
         short = h .short;
         room = omega (arith, h .room, ke .as-long);
       }
@@ -95,60 +83,71 @@ module _ (s w : List ℕ) (end : ℕ) where
     pub next : ℕ
     pub item : ItemAt s w k next i
     pub small : placeOf i < 32768
+    pub few : countOf i < 65536
+    pub past : startsGroup items ≡ true → mayBracket i ≡ true
     pub less : k < next
     pub rest : Stands s w end next (openAfter d i) items
 
   pub first-of : (k d : ℕ) (i : Item) (items : List Item) → Stands s w end k d (i ∷ items) → First k d i items
-  unfolding ItemsAt Placed
+  unfolding ItemsAt Proper
   first-of k d i items h =
       record {
         next = h .lie .0;
         item = h .lie .1;
-        small = h .placed .0;
+        small = h .proper .0;
+        few = h .proper .1;
+        past = h .proper .2;
         less = item-reads s w k (h .lie .0) i (h .lie .1) .further;
-        rest = record { lie = h .lie .2; placed = h .placed .1; short = h .short; room = omega (arith, h .room, deepest-next d i items) };
+        rest = record { lie = h .lie .2; proper = h .proper .3; short = h .short; room = omega (arith, h .room, deepest-next d i items) };
       }
 
   pub none-stands : (k d : ℕ) → Stands s w end k d [] → k ≡ end
   unfolding ItemsAt
   none-stands k d h = h .lie
 
+  pub no-more : (k d : ℕ) (items : List Item) → Stands s w end k d items → end ≤ k → items ≡ []
+  no-more k d [] h le = refl
+  no-more k d (i ∷ items) h le =
+      let f = first-of k d i items h in
+      absurd (omega (arith, le, f .less, stands-in (f .next) _ items (f .rest)))
+
 -- ---- the bodies' words
 
 module _ (s w w′ : List ℕ) (end n : ℕ) (ke : Kept w w′ n) (le : end ≤ n) (long : end ≤ length w) where
-  pub opened-kept : (k m place : ℕ) (o : Opener) (left left′ : ℕ) → left′ ≡ left → m ≤ end → OpenedAt s w k m place o left → OpenedAt s w′ k m place o left′
+  pub opened-kept : (k m place : ℕ) (o : Opener) (left : ℕ) → m ≤ end → OpenedAt s w k m place o left → OpenedAt s w′ k m place o left
   unfolding OpenedAt
-  opened-kept k m place (times c) left left′ e lt h =
-      ((h .0 .0, times-kept s w w′ end (λ i less. ke .same i (omega arith)) (omega (arith, ke .as-long)) k m place (h .0 .0) lt (h .0 .1)), e ∙ h .1)
-  opened-kept k m place forever left left′ e lt h =
+  opened-kept k m place (times c) left lt h =
+      ((h .0 .0, times-kept s w w′ end (λ i less. ke .same i (omega arith)) (omega (arith, ke .as-long)) k m place (h .0 .0) lt (h .0 .1)), h .1)
+  opened-kept k m place forever left lt h =
       opener-kept s w w′ end (λ i less. ke .same i (omega arith)) (omega (arith, ke .as-long)) k m place forever lt h
-  opened-kept k m place bare left left′ e lt (inl h) =
+  opened-kept k m place bare left lt (inl h) =
       inl (opener-kept s w w′ end (λ i less. ke .same i (omega arith)) (omega (arith, ke .as-long)) k m place bare lt h)
-  opened-kept k m place bare left left′ e lt (inr h) =
+  opened-kept k m place bare left lt (inr h) =
       inr (item-kept s w w′ end (λ i less. ke .same i (omega arith)) (omega (arith, ke .as-long)) k m otherwise lt (h .0), h .1)
-  opened-kept k m place (branch c) left left′ e lt h =
+  opened-kept k m place (branch c) left lt h =
       opener-kept s w w′ end (λ i less. ke .same i (omega arith)) (omega (arith, ke .as-long)) k m place (branch c) lt h
-  opened-kept k m place (loop c) left left′ e lt h =
+  opened-kept k m place (loop c) left lt h =
       opener-kept s w w′ end (λ i less. ke .same i (omega arith)) (omega (arith, ke .as-long)) k m place (loop c) lt h
 
-  pub frame-kept : (j d : ℕ) (g : Bool) (place : ℕ) (o : Opener) (body : List Item) → j + 2 ≤ n → FrameAt s w end j d g place o body → FrameAt s w′ end j d g place o body
+  pub frame-kept : (j d : ℕ) (g : Bool) (place : ℕ) (o : Opener) (body : List Item) → j < n → FrameAt s w end j d g place o body → FrameAt s w′ end j d g place o body
   frame-kept j d g place o body room h =
       record {
         item = h .item;
         start = h .start;
-        opened = opened-kept (h .item) (h .start) place o (getD w (j + 1) 0) (getD w′ (j + 1) 0) (ke .same (j + 1) (omega arith))
-            (stands-in s w end (h .start) d body (h .stands) .0) (h .opened);
-        first = ke .same j (omega arith) ∙ h .first;
+        left = h .left;
+        opened = opened-kept (h .item) (h .start) place o (h .left) (stands-in s w end (h .start) d body (h .stands) .0) (h .opened);
+        word = ke .same j room ∙ h .word;
         before = h .before;
         small = h .small;
         stands = stands-kept s w end w′ (kept-less w w′ n end le ke) (h .start) d body (h .stands);
+        group = h .group;
       }
 
-pub frames-kept : (s w w′ : List ℕ) (end n : ℕ) → Kept w w′ n → end ≤ length w → (frames : List Frame) → end + 2 * length frames ≤ n → FramesAt s w end frames → FramesAt s w′ end frames
+pub frames-kept : (s w w′ : List ℕ) (end n : ℕ) → Kept w w′ n → end ≤ length w → (frames : List Frame) → end + length frames ≤ n → FramesAt s w end frames → FramesAt s w′ end frames
 unfolding FramesAt
 frames-kept s w w′ end n ke long [] le h = h
 frames-kept s w w′ end n ke long (frame g place o body ∷ frames) le h = (
-  frame-kept s w w′ end n ke (omega (arith, le)) long (end + 2 * length frames) (length frames + 1) g place o body (omega (arith, le)) (h .0),
+  frame-kept s w w′ end n ke (omega (arith, le)) long (end + length frames) (length frames + 1) g place o body (omega (arith, le)) (h .0),
   frames-kept s w w′ end n ke long frames (omega (arith, le)) (h .1),
 )
 
@@ -158,61 +157,76 @@ module _ (s w : List ℕ) (end : ℕ) (frames : List Frame) where
   pub within-as : (k depth d d′ : ℕ) (items : List Item) → d′ ≤ d → Within s w end k depth d items frames → Within s w end k depth d′ items frames
   within-as k depth d d′ items le h = record { stands = stands-less s w end k d d′ items le (h .stands); framed = h .framed; deep = h .deep }
 
-  -- a body is opened above the others
-  pub within-push : (w′ : List ℕ) (depth item start left place : ℕ) (o : Opener) (body : List Item)
-      → w′ ≡ set (set w (end + 2 * depth) item) (end + 2 * depth + 1) left → item < end → place < 32768 → OpenedAt s w item start place o left
-      → Within s w end start depth (depth + 1) body frames → Within s w′ end start (depth + 1) (depth + 1) body (frame false place o body ∷ frames)
-  unfolding FramesAt bitOf
-  within-push w′ depth item start left place o body e before small opened h =
-      subst (λ l. Within s l end start (depth + 1) (depth + 1) body (frame false place o body ∷ frames)) (sym e) pushed
-    where
-      j : ℕ
-      j = end + 2 * length frames
-
-      w₁ : List ℕ
-      w₁ = set (set w (end + 2 * depth) item) (end + 2 * depth + 1) left
-
-      room : end + 2 * depth + 2 ≤ length w
-      room = omega (arith, stands-in s w end start (depth + 1) body (h .stands) .2)
-
-      ke : Kept w w₁ (end + 2 * length frames)
-      ke =
-          kept-twice w (set w (end + 2 * depth) item) w₁ (end + 2 * length frames) (kept-set w (end + 2 * length frames) (end + 2 * depth) item (omega (arith, h .deep)))
-          (kept-set (set w (end + 2 * depth) item) (end + 2 * length frames) (end + 2 * depth + 1) left (omega (arith, h .deep)))
-
-      long : end ≤ length w
-      long = omega (arith, room)
-
-      same-j : end + 2 * length frames ≡ end + 2 * depth
-      same-j = omega (arith, h .deep)
-
-      second : getD w₁ (end + 2 * length frames + 1) 0 ≡ left
-      second =
-          ap (λ x. getD w₁ (x + 1) 0) same-j ∙ getD-set-same (set w (end + 2 * depth) item) (end + 2 * depth + 1) left 0 (rw (length-set w (end + 2 * depth) item) (omega (arith, room)))
-
-      first : getD w₁ (end + 2 * length frames) 0 ≡ item + 65536 * 0
-      first =
-          ap (λ x. getD w₁ x 0) same-j ∙ getD-set-other (set w (end + 2 * depth) item) (end + 2 * depth + 1) (end + 2 * depth) left 0 (λ q. omega (arith, q))
-          ∙ getD-set-same w (end + 2 * depth) item 0 (omega (arith, room)) ∙ omega arith
-
-      stood : Stands s w₁ end start (depth + 1) body
-      stood = stands-kept s w end w₁ (kept-less w w₁ (end + 2 * length frames) end (omega arith) ke) start (depth + 1) body (h .stands)
-
-      pushed : Within s w₁ end start (depth + 1) (depth + 1) body (frame false place o body ∷ frames)
-      pushed = record {
+  -- the word of the innermost body is written: it is opened, or goes round
+  pub within-word : (w′ : List ℕ) (depth item start left place : ℕ) (o : Opener) (body : List Item) → w′ ≡ set w (end + depth) (item + 65536 * left) → item < end → place < 32768
+      → OpenedAt s w item start place o left → Within s w end start depth (depth + 1) body frames
+      → Within s w′ end start (depth + 1) (depth + 1) body (frame (startsGroup body) place o body ∷ frames)
+  unfolding FramesAt
+  within-word w′ depth item start left place o body written before small opened h =
+      record {
         stands = stood;
         framed = (
           record {
             item = item;
             start = start;
-            opened = opened-kept s w w₁ end (end + 2 * length frames) ke (omega arith) long item start place o left (getD w₁ (end + 2 * length frames + 1) 0) second
-                (stands-in s w end start (depth + 1) body (h .stands) .0) opened;
-            first = first;
+            left = left;
+            opened = opened-kept s w w′ end (end + length frames) ke (omega arith) long item start place o left inside opened;
+            word = rw written (ap (λ (x : ℕ). getD (set w (end + depth) (item + 65536 * left)) (end + x) 0) (sym (h .deep)) ∙ getD-set-same w (end + depth) (item + 65536 * left) 0 (omega (arith, room)));
             before = before;
             small = small;
-            stands = stands-less s w₁ end start (depth + 1) (length frames + 1) body (omega (arith, h .deep)) stood;
+            stands = stands-less s w′ end start (depth + 1) (length frames + 1) body (omega (arith, h .deep)) stood;
+            group = refl;
           },
-          frames-kept s w w₁ end (end + 2 * length frames) ke long frames (omega arith) (h .framed),
+          frames-kept s w w′ end (end + length frames) ke long frames (omega arith) (h .framed),
         );
         deep = omega (arith, h .deep);
       }
+    where
+      inside : start ≤ end
+      inside = stands-in s w end start (depth + 1) body (h .stands) .0
+
+      room : end + (depth + 1) ≤ length w
+      room = stands-in s w end start (depth + 1) body (h .stands) .2
+
+      long : end ≤ length w
+      long = omega (arith, room)
+
+      ke : Kept w w′ (end + length frames)
+      ke = kept-written w w′ (end + length frames) (end + depth) (item + 65536 * left) written (omega (arith, h .deep))
+
+      stood : Stands s w′ end start (depth + 1) body
+      stood = stands-kept s w end w′ (kept-less w w′ (end + length frames) end (omega arith) ke) start (depth + 1) body (h .stands)
+
+-- ---- at the start of a group
+
+module _ (s w : List ℕ) (end k depth : ℕ) (items : List Item) where
+  -- no group starts
+  pub runs-past : startsGroup items ≡ false → (frames : List Frame) → Within s w end k depth depth items frames → Runs s w end k depth items frames
+  unfolding entered
+  runs-past e [] h = h
+  runs-past e (frame g place o body ∷ frames) h = rw e h
+
+  -- at the start of a body
+  pub runs-body : (g : Bool) (place : ℕ) (o : Opener) (frames : List Frame) → (g ≡ false) ⊎ (g ≡ startsGroup items) → Within s w end k depth depth items (frame (startsGroup items) place o items ∷ frames)
+      → Runs s w end k depth items (frame g place o items ∷ frames)
+  unfolding entered
+  runs-body g place o frames e h = subst (λ (b : Bool). Within s w end k depth depth items (frame b place o items ∷ frames)) (sym (joined g (startsGroup items) e)) h
+    where
+      joined : (g b : Bool) → (g ≡ false) ⊎ (g ≡ b) → (b || g) ≡ b
+      joined g false (inl e) = e
+      joined g false (inr e) = e
+      joined g true e = refl
+
+-- it makes no difference to what comes next
+pub pull-entered : (items : List Item) (frames : List Frame) → pull (running items (entered items frames)) ≡ pull (running items frames)
+unfolding pull pullAt entered startsGroup
+pull-entered items [] = refl
+pull-entered [] (frame g place o body ∷ frames) = refl
+pull-entered (lineEnd ∷ items) (frame g place o body ∷ frames) = refl
+pull-entered (bracket ∷ items) (frame g place o body ∷ frames) = refl
+pull-entered (close ∷ items) (frame g place o body ∷ frames) = refl
+pull-entered (otherwise ∷ items) (frame g place o body ∷ frames) = refl
+pull-entered (leave at ∷ items) (frame g place o body ∷ frames) = refl
+pull-entered (simple at op ∷ items) (frame g place o body ∷ frames) = refl
+pull-entered (seek at f se ∷ items) (frame g place o body ∷ frames) = refl
+pull-entered (opens at p ∷ items) (frame g place o body ∷ frames) = refl

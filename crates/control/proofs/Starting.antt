@@ -9,7 +9,7 @@ use lib.ListN.{length, set}
 use Rattle.definitions.specs.Edit.{Op, round, test}
 use Rattle.definitions.specs.Control.{Opener, times, forever, bare, branch, loop, Item, opens, Frame, frame, Ctl, running, skipping, failing, want, wantOne, bodyStart, pullAt, pull}
 use Rattle.script.specs.Words.{OpenerAt}
-use Rattle.control.specs.Items.{kindAt, placeAt, timesAt, placeOf}
+use Rattle.control.specs.Items.{kindAt, placeAt, timesAt, placeOf, countOf}
 use Rattle.control.specs.Shown.{Kept, OpenedAt, Within, Opening, Shows, a-round, ShowsWant, ShowsNext, ShowsStep, standAt, wantedAt}
 use Rattle.control.specs.declared.Control.{Control}
 use Rattle.control.specs.declared.Wanted.{Wanted}
@@ -18,7 +18,7 @@ use Rattle.control.specs.declared.Step.{Step}
 use Rattle.control.specs.declared.Step.the-variants.{On, Gives}
 use Rattle.control.proofs.Reading.{opener-reads-as}
 use Rattle.control.proofs.Keeping.{opener-kept}
-use Rattle.control.proofs.Standing.{stands-in, within-push, kept-pushed, kept-below, frames-kept, stands-kept}
+use Rattle.control.proofs.Standing.{stands-in, within-word, runs-body, kept-less, kept-written, frames-kept, stands-kept}
 use Rattle.control.proofs.Openers.{KindIs, opener-kind, times-back, times-two, asks-branch, asks-loop}
 
 -- ---- answers of a step
@@ -38,7 +38,7 @@ shows-as s w end y k c e h = subst (λ x. Shows s w end x c) (sym e) h
 -- ---- the start of a body
 
 module _ (s w : List ℕ) (end at next depth place : ℕ) (o : Opener) (items : List Item) (frames : List Frame) (h : Opening s w end at next depth place o items frames) where
-  pub opening-in : (at < next) × (next ≤ end) × (end ≤ 65536) × (end + 2 * (depth + 1) ≤ length w)
+  pub opening-in : (at < next) × (next ≤ end) × (end ≤ 65536) × (end + (depth + 1) ≤ length w)
   opening-in =
       let i = stands-in s w end next (depth + 1) items (h .rest .stands) in
       (opener-reads-as s w at next place o (h .opener) .further, i .0, i .1, i .2)
@@ -57,6 +57,17 @@ opening-two s w end at next depth place bare items frames h few other = absurd (
 opening-two s w end at next depth place (branch c) items frames h few other = absurd (omega (arith, few, opener-kind s w at next place (branch c) (h .opener)))
 opening-two s w end at next depth place (loop c) items frames h few other = absurd (omega (arith, few, opener-kind s w at next place (loop c) (h .opener)))
 
+-- a count is below 65,536
+pub opening-few : (s w : List ℕ) (end at next depth place : ℕ) (o : Opener) (items : List Item) (frames : List Frame) → Opening s w end at next depth place o items frames
+    → (kind n : ℕ) → kind ≡ kindAt w at → kind < 42 → n ≡ timesAt w at kind → n < 65536
+unfolding OpenerAt KindIs countOf
+opening-few s w end at next depth place (times all) items frames h kind n kind-is few times-are =
+    omega (arith, h .few, times-are ∙ ap (timesAt w at) kind-is, times-back s w at next place all (h .small) (h .opener))
+opening-few s w end at next depth place forever items frames h kind n kind-is few times-are = absurd (omega (arith, few, kind-is, opener-kind s w at next place forever (h .opener)))
+opening-few s w end at next depth place bare items frames h kind n kind-is few times-are = absurd (omega (arith, few, kind-is, opener-kind s w at next place bare (h .opener)))
+opening-few s w end at next depth place (branch c) items frames h kind n kind-is few times-are = absurd (omega (arith, few, kind-is, opener-kind s w at next place (branch c) (h .opener)))
+opening-few s w end at next depth place (loop c) items frames h kind n kind-is few times-are = absurd (omega (arith, few, kind-is, opener-kind s w at next place (loop c) (h .opener)))
+
 module _ (w : List ℕ) (end at next depth kind : ℕ) (kind-is : kind ≡ kindAt w at) (r : Step) (s : List ℕ) (place : ℕ) where
   -- a count of no rounds
   pub start-none : (n : ℕ) → n ≡ timesAt w at kind → n ≡ 0 → kind < 42 → (k : Control) → k ≡ standAt 1 next depth 1 → r ≡ On k
@@ -72,15 +83,18 @@ module _ (w : List ℕ) (end at next depth kind : ℕ) (kind-is : kind ≡ kindA
   start-none n times-are none few k k-is e (branch c) items frames h = absurd (omega (arith, few, kind-is, opener-kind s w at next place (branch c) (h .opener)))
   start-none n times-are none few k k-is e (loop c) items frames h = absurd (omega (arith, few, kind-is, opener-kind s w at next place (loop c) (h .opener)))
 
-  module _ (w′ : List ℕ) (left : ℕ) (pushed : w′ ≡ set (set w (end + 2 * depth) at) (end + 2 * depth + 1) left) (p : ℕ) (p-is : p ≡ placeAt w at) (y : Control)
+  module _ (w′ : List ℕ) (left : ℕ) (pushed : w′ ≡ set w (end + depth) (at + 65536 * left)) (p : ℕ) (p-is : p ≡ placeAt w at) (y : Control)
       (y-is : y ≡ standAt 0 next (depth + 1) 0) where
     -- the body runs
     starts : (o o′ : Opener) (items : List Item) (frames : List Frame) → Opening s w end at next depth place o items frames → OpenedAt s w at next place o′ left
         → Shows s w′ end y (running items (frame false place o′ items ∷ frames))
     unfolding Shows
     starts o o′ items frames h opened =
-        shows-as s w′ end y (standAt 0 next (depth + 1) 0) (running items (frame false place o′ items ∷ frames)) y-is
-        (refl, within-push s w end frames w′ depth at next left place o′ items pushed (omega (arith, opening-in s w end at next depth place o items frames h)) (h .small) opened (h .rest))
+        shows-as s w′ end y (standAt 0 next (depth + 1) 0) (running items (frame false place o′ items ∷ frames)) y-is (
+          refl,
+          runs-body s w′ end next (depth + 1) items false place o′ frames (inl refl)
+              (within-word s w end frames w′ depth at next left place o′ items pushed (omega (arith, opening-in s w end at next depth place o items frames h)) (h .small) opened (h .rest)),
+        )
 
     a-round-starts : (o o′ : Opener) (items : List Item) (frames : List Frame) → Opening s w end at next depth place o items frames → OpenedAt s w at next place o′ left
         → pull (running (opens place o ∷ items) frames) ≡ want place round (running items (frame false place o′ items ∷ frames)) (running items (frame false place o′ items ∷ frames))
@@ -126,23 +140,23 @@ module _ (w : List ℕ) (end at next depth kind : ℕ) (kind-is : kind ≡ kindA
       opener-stays : (o : Opener) (items : List Item) (frames : List Frame) → Opening s w end at next depth place o items frames → OpenerAt s w′ at next place o
       opener-stays o items frames h =
           let i = opening-in s w end at next depth place o items frames h in
-          let ke = kept-pushed w w′ end depth at left pushed in
+          let ke : Kept w w′ end = kept-written w w′ end (end + depth) (at + 65536 * left) pushed (omega arith) in
           opener-kept s w w′ end (ke .same) (omega (arith, i, ke .as-long)) at next place o (i .1) (h .opener)
 
       rest-stays : (o : Opener) (items : List Item) (frames : List Frame) → Opening s w end at next depth place o items frames → Within s w′ end next depth (depth + 1) items frames
       rest-stays o items frames h =
           let i = opening-in s w end at next depth place o items frames h in
-          let ke : Kept w w′ (end + 2 * depth) = kept-below w w′ end depth at left pushed in
+          let ke : Kept w w′ (end + depth) = kept-written w w′ (end + depth) (end + depth) (at + 65536 * left) pushed (omega arith) in
           record {
-            stands = stands-kept s w end w′ (kept-pushed w w′ end depth at left pushed) next (depth + 1) items (h .rest .stands);
-            framed = frames-kept s w w′ end (end + 2 * depth) ke (omega (arith, i)) frames (omega (arith, h .rest .deep)) (h .rest .framed);
+            stands = stands-kept s w end w′ (kept-less w w′ (end + depth) end (omega arith) ke) next (depth + 1) items (h .rest .stands);
+            framed = frames-kept s w w′ end (end + depth) ke (omega (arith, i)) frames (omega (arith, h .rest .deep)) (h .rest .framed);
             deep = h .rest .deep;
           }
 
       kind-stays : (o : Opener) (items : List Item) (frames : List Frame) → Opening s w end at next depth place o items frames → kindAt w′ at ≡ kind
       kind-stays o items frames h =
           let i = opening-in s w end at next depth place o items frames h in
-          ap (λ (x : ℕ). x % 64) (kept-pushed w w′ end depth at left pushed .same at (omega (arith, i))) ∙ sym kind-is
+          ap (λ (x : ℕ). x % 64) (kept-written w w′ end (end + depth) (at + 65536 * left) pushed (omega arith) .same at (omega (arith, i))) ∙ sym kind-is
 
       -- IF, UL, IFEOF
       pub start-branch : 44 ≤ kind → kind < 47 → what ≡ kind - 43 → n ≡ standAt 2 next depth 1

@@ -1,10 +1,12 @@
--- What the words of an item say by themselves: its kind, what it is, where it ends, its place; and how many bodies items open at once.
-use mathlib.Core.Bool.{cond}
+-- What the words of an item say by themselves: its kind, what it is, where it ends, its place; and what the run asks of items.
+use mathlib.Core.Path.{_≡_}
+use mathlib.Core.Bool.{Bool, true, false, cond}
 use mathlib.Core.List.{List, [], _∷_}
-use Prim.Native.Nat.{ℕ, _+_, _-_, _/_, _%_, _<_, max}
+use Prim.Native.Nat.{ℕ, _+_, _/_, _%_, _<_}
 use lib.ListN.{getD}
 use lib.Dec.{eqb, ltb}
-use Rattle.definitions.specs.Control.{Item, simple, seek, opens, bracket, close, otherwise, leave, lineEnd}
+use Rattle.definitions.specs.Control.{times, forever, bare, branch, loop, Item, simple, seek, opens, bracket, close, otherwise, leave, lineEnd}
+use Rattle.theorems.specs.NestingLaws.{mayBracket}
 use Rattle.matching.specs.Words.{endAt}
 
 -- ---- words
@@ -58,23 +60,35 @@ placeOf (simple at op) = at
 placeOf (seek at f se) = at
 placeOf (opens at o) = at
 
--- places below 32,768, so that a count of one word can stand above its place
-unfoldable pub Placed : List Item → Type 0
-Placed [] = Unit {0}
-Placed (i ∷ items) = (placeOf i < 32768) × Placed items
+-- a count; 0 where an item is none
+unfoldable pub countOf : Item → ℕ
+countOf lineEnd = 0
+countOf bracket = 0
+countOf close = 0
+countOf otherwise = 0
+countOf (leave at) = 0
+countOf (simple at op) = 0
+countOf (seek at f se) = 0
+countOf (opens at (times n)) = n
+countOf (opens at forever) = 0
+countOf (opens at bare) = 0
+countOf (opens at (branch c)) = 0
+countOf (opens at (loop c)) = 0
 
--- how many bodies are open after an item, d before it
-unfoldable pub openAfter : ℕ → Item → ℕ
-openAfter d lineEnd = d
-openAfter d bracket = d
-openAfter d close = d - 1
-openAfter d otherwise = d
-openAfter d (leave at) = d
-openAfter d (simple at op) = d
-openAfter d (seek at f se) = d
-openAfter d (opens at o) = d + 1
+-- a body that is these items is a group
+unfoldable pub startsGroup : List Item → Bool
+startsGroup [] = false
+startsGroup (lineEnd ∷ items) = false
+startsGroup (bracket ∷ items) = true
+startsGroup (close ∷ items) = false
+startsGroup (otherwise ∷ items) = false
+startsGroup (leave at ∷ items) = false
+startsGroup (simple at op ∷ items) = false
+startsGroup (seek at f se ∷ items) = false
+startsGroup (opens at o ∷ items) = false
 
--- the most bodies open at once, d of them open before the items
-unfoldable pub deepest : ℕ → List Item → ℕ
-deepest d [] = d
-deepest d (i ∷ items) = max d (deepest (openAfter d i) items)
+-- places below 32,768, so that a count of one word can stand above its place; counts below 65,536, so that the rounds left can stand above an
+-- index; `bracket` only directly after an opener or ELSE
+unfoldable pub Proper : List Item → Type 0
+Proper [] = Unit {0}
+Proper (i ∷ items) = (placeOf i < 32768) × (countOf i < 65536) × (startsGroup items ≡ true → mayBracket i ≡ true) × Proper items

@@ -1,17 +1,18 @@
 -- How numbers and the words of the work area show where the run stands, and what comes next.
 use mathlib.Core.Path.{_≡_}
 use mathlib.Core.Logic.{_⊎_}
-use mathlib.Core.Bool.{Bool, cond}
+use mathlib.Core.Bool.{Bool, false, cond, _||_}
 use mathlib.Core.List.{List, [], _∷_}
 use Prim.Native.Nat.{ℕ, _+_, _-_, _*_, _≤_, _<_}
 use lib.ListN.{length, getD}
 use lib.Dec.{eqb}
 use Rattle.definitions.specs.Search.{Search}
 use Rattle.definitions.specs.Edit.{is, isNot, isEof, Op, round, test, begin, beginBack, find, findBack, findDelete}
-use Rattle.definitions.specs.Control.{Opener, times, forever, bare, branch, loop, Item, otherwise, Frame, frame, Ctl, running, skipping, failing, leaving, seeking, Pull, finished, want, pull}
-use Rattle.matching.specs.Words.{bitOf, Encodes}
+use Rattle.definitions.specs.Control.{Opener, times, forever, bare, branch, loop, Item, opens, otherwise, Frame, frame, Ctl, running, skipping, failing, leaving, seeking, Pull, finished, want, pull}
+use Rattle.matching.specs.Words.{Encodes}
 use Rattle.script.specs.Words.{head, seekKind, OpAt, SearchAt, TimesAt, OpenerAt, ItemAt, ItemsAt}
-use Rattle.control.specs.Items.{Placed, deepest}
+use Rattle.control.specs.Items.{countOf, startsGroup, Proper}
+use Rattle.script.specs.Depth.{deepest}
 use Rattle.control.specs.declared.Control.{Control}
 use Rattle.control.specs.declared.Wanted.{Wanted}
 use Rattle.control.specs.declared.Next.{Next}
@@ -24,12 +25,12 @@ pub record Kept (w w′ : List ℕ) (n : ℕ) : Type 0 where
   pub as-long : length w′ ≡ length w
   pub same : (i : ℕ) → i < n → getD w′ i 0 ≡ getD w i 0
 
--- the items from k on, with room above `end` for two words for each body that they can open at once, d of them open
+-- the items from k on, with room above `end` for a word for each body that they can open at once, d of them open
 pub record Stands (s w : List ℕ) (end k d : ℕ) (items : List Item) : Type 0 where
   pub lie : ItemsAt s w k end items
-  pub placed : Placed items
+  pub proper : Proper items
   pub short : end ≤ 65536
-  pub room : end + 2 * deepest d items ≤ length w
+  pub room : end + deepest d items ≤ length w
 
 -- ---- the bodies that run
 
@@ -41,20 +42,22 @@ OpenedAt s w k m place bare left = OpenerAt s w k m place bare ⊎ (ItemAt s w k
 OpenedAt s w k m place (branch c) left = OpenerAt s w k m place (branch c)
 OpenedAt s w k m place (loop c) left = OpenerAt s w k m place (loop c)
 
--- the body in the words at j: the index of its opener and whether it is a group, then the rounds left; d bodies are open in it
+-- the body of which the word at j says the opener's index and the rounds left; it is a group where its items start one; d bodies are open in it
 pub record FrameAt (s w : List ℕ) (end j d : ℕ) (g : Bool) (place : ℕ) (o : Opener) (body : List Item) : Type 0 where
   pub item : ℕ
   pub start : ℕ
-  pub opened : OpenedAt s w item start place o (getD w (j + 1) 0)
-  pub first : getD w j 0 ≡ item + 65536 * bitOf g
+  pub left : ℕ
+  pub opened : OpenedAt s w item start place o left
+  pub word : getD w j 0 ≡ item + 65536 * left
   pub before : item < end
   pub small : place < 32768
   pub stands : Stands s w end start d body
+  pub group : g ≡ startsGroup body
 
 -- the bodies that run, the innermost last in the words
 unfoldable pub FramesAt : List ℕ → List ℕ → ℕ → List Frame → Type 0
 FramesAt s w end [] = Unit {0}
-FramesAt s w end (frame g place o body ∷ frames) = FrameAt s w end (end + 2 * length frames) (length frames + 1) g place o body × FramesAt s w end frames
+FramesAt s w end (frame g place o body ∷ frames) = FrameAt s w end (end + length frames) (length frames + 1) g place o body × FramesAt s w end frames
 
 -- items from k on, in the frames; d bodies are open when those that are passed count too
 pub record Within (s w : List ℕ) (end k depth d : ℕ) (items : List Item) (frames : List Frame) : Type 0 where
@@ -62,16 +65,25 @@ pub record Within (s w : List ℕ) (end k depth d : ℕ) (items : List Item) (fr
   pub framed : FramesAt s w end frames
   pub deep : depth ≡ length frames
 
+-- at the start of a group the innermost body is one, though the run has yet to pass its bracket
+unfoldable pub entered : List Item → List Frame → List Frame
+entered items [] = []
+entered items (frame g place o body ∷ frames) = frame (startsGroup items || g) place o body ∷ frames
+
+-- the run is at items from k on, in the frames
+abbrev pub Runs : List ℕ → List ℕ → ℕ → ℕ → ℕ → List Item → List Frame → Type 0
+Runs s w end k depth items frames = Within s w end k depth depth items (entered items frames)
+
 -- ---- where the run stands: `mode` is 0 at items, 1 to go on after the kth close, 2 at an ELSE or after a close, 3 after a line end, 4 in a search
 
 unfoldable pub Shows : List ℕ → List ℕ → ℕ → Control → Ctl → Type 0
-Shows s w end c (running items frames) = (c .mode ≡ 0) × Within s w end (c .at) (c .depth) (c .depth) items frames
+Shows s w end c (running items frames) = (c .mode ≡ 0) × Runs s w end (c .at) (c .depth) items frames
 Shows s w end c (skipping k items frames) = (c .mode ≡ 1) × (c .count ≡ k) × (1 ≤ k) × Within s w end (c .at) (c .depth) (c .depth + k) items frames
 Shows s w end c (failing k items frames) = (c .mode ≡ 2) × (c .count ≡ k) × (1 ≤ k) × Within s w end (c .at) (c .depth) (c .depth + k) items frames
 Shows s w end c (leaving items) = (c .mode ≡ 3) × ((d : ℕ) × Stands s w end (c .at) d items)
 Shows s w end c (seeking place f se k items frames) =
     (c .mode ≡ 4) × (c .lines ≡ k) × (place < 32768) × SearchAt s w (c .item) (c .at) (head (seekKind f) place) se
-    × Within s w end (c .at) (c .depth) (c .depth) items frames
+    × Runs s w end (c .at) (c .depth) items frames
 
 abbrev pub standAt : ℕ → ℕ → ℕ → ℕ → Control
 standAt mode at depth count = record { mode = mode; at = at; depth = depth; count = count; item = 0; lines = 0 }
@@ -83,13 +95,15 @@ seekAt item at depth lines = record { mode = 4; at = at; depth = depth; count = 
 pub record Opening (s w : List ℕ) (end at next depth place : ℕ) (o : Opener) (items : List Item) (frames : List Frame) : Type 0 where
   pub opener : OpenerAt s w at next place o
   pub small : place < 32768
+  pub few : countOf (opens place o) < 65536
   pub rest : Within s w end next depth (depth + 1) items frames
 
 -- the run stands at the close of a body, `items` after it, from `next` on
 pub record Closing (s w : List ℕ) (end at next depth : ℕ) (items : List Item) (g : Bool) (place : ℕ) (o : Opener) (body : List Item) (frames : List Frame) : Type 0 where
   pub less : at < next
   pub rest : Stands s w end next (depth - 1) items
-  pub top : FrameAt s w end (end + 2 * length frames) (length frames + 1) g place o body
+  pub past : startsGroup items ≡ false
+  pub top : FrameAt s w end (end + length frames) (length frames + 1) g place o body
   pub framed : FramesAt s w end frames
   pub deep : depth ≡ length frames + 1
 

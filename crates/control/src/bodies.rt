@@ -1,13 +1,14 @@
-// The bodies that run. Each has two words above the items: the index of its opener, 65,536 more where it is a group, and the rounds left.
+// The bodies that run. Each has a word above the items: the index of its opener, and the rounds left times 65,536. A bracket starts those that are
+// groups.
 // The kinds of openers: 40 and 41 counts, 42 RPT, 43 a bare group, 44 to 46 IF, UL and IFEOF, 47 and 48 WH and UT; the group after ELSE has ELSE, 3.
 ghost use mathlib.Core.Path.{_≡_};
 ghost use mathlib.Core.Bool.{Bool};
 ghost use mathlib.Core.List.{List, _∷_};
-ghost use Prim.Native.Nat.{ℕ, _+_, _-_, _*_, _%_, _≤_, _<_};
-ghost use lib.ListN.{length, getD, set};
-ghost use Rattle.definitions.specs.Control.{Opener, Item, opens, close, Frame, frame, Ctl, running, leaveTo};
-ghost use Rattle.control.specs.Items.{kindAt, timesAt};
-ghost use Rattle.control.specs.Shown.{Kept, Within, Opening, Closing, Shows, ShowsStep};
+ghost use Prim.Native.Nat.{ℕ, _+_, _-_, _*_, _≤_, _<_};
+ghost use lib.ListN.{length, set};
+ghost use Rattle.definitions.specs.Control.{Opener, Item, opens, close, Frame, frame, running, leaveTo};
+ghost use Rattle.control.specs.Items.{timesAt};
+ghost use Rattle.control.specs.Shown.{Kept, FrameAt, Within, Opening, Closing, Shows, ShowsStep};
 use super::Control;
 use super::FAILING;
 use super::LEAVING;
@@ -15,6 +16,7 @@ use super::ROUND;
 use super::RUNNING;
 use super::SKIPPING;
 use super::Step;
+use super::items::BRACKET;
 use super::items::kind_of;
 use super::items::opener_end;
 use super::items::place_of;
@@ -23,21 +25,10 @@ use super::wants;
 
 // Opens a body above `depth` others.
 pub fn push(w: &mut [u32], end: usize, depth: usize, item: usize, left: u32)
-    requires { ⌜ (end + 2 * depth + 2 ≤ length (now w)) × (item < 65536) ⌝ }
-    ensures { λ r. ⌜ now (w .exit) ≡ set (set (now (w .entry)) (end + 2 * depth) item) (end + 2 * depth + 1) left ⌝ }
+    requires { ⌜ (end + depth < length (now w)) × (item < 65536) × (left < 65536) ⌝ }
+    ensures { λ r. ⌜ now (w .exit) ≡ set (now (w .entry)) (end + depth) (item + 65536 * left) ⌝ }
 {
-    let j = end + 2 * depth;
-    w[j] = item as u32;
-    w[j + 1] = left;
-}
-
-// The innermost of `depth` bodies is a group.
-pub fn mark_group(w: &mut [u32], end: usize, depth: usize)
-    requires { ⌜ (0 < depth) × (end + 2 * depth ≤ length (now w)) ⌝ }
-    ensures { λ r. ⌜ now (w .exit) ≡ set (now (w .entry)) (end + 2 * (depth - 1)) (getD (now (w .entry)) (end + 2 * (depth - 1)) 0 % 65536 + 65536) ⌝ }
-{
-    let j = end + 2 * (depth - 1);
-    w[j] = w[j] % 65536 + 65536;
+    w[end + depth] = item as u32 + 65536 * left;
 }
 
 // How often the body of the count at k is to run.
@@ -62,6 +53,20 @@ fn test_of(kind: u32) -> u32
     kind - 46
 }
 
+// Is the body of the word at j a group?
+fn is_group(w: &[u32], end: usize, j: usize) -> bool
+    requires { ⌜ ((s : List ℕ) × (d : ℕ) × (g : Bool) × (place : ℕ) × (o : Opener) × (body : List Item) × FrameAt s (now w) end j d g place o body) × (j < length (now w)) ⌝ }
+    ensures { λ r. ⌜ ((s : List ℕ) (d : ℕ) (g : Bool) (place : ℕ) (o : Opener) (body : List Item) → FrameAt s (now (w .entry)) end j d g place o body → r ≡ g) ⌝ }
+{
+    let item = (w[j] % 65536) as usize;
+    let start = opener_end(w, item, kind_of(w, item));
+    // of a body of no items there is no word to look at
+    if end <= start {
+        return false;
+    }
+    kind_of(w, start) == BRACKET
+}
+
 // Where AGP leads: out of the innermost group and what it is the body of; where there is none, to the next line end.
 pub fn leave_to(w: &[u32], end: usize, next: usize, depth: usize) -> Control
     requires { ⌜ ((s : List ℕ) × (items : List Item) × (frames : List Frame) × Within s (now w) end next depth depth items frames) ⌝ }
@@ -70,8 +75,7 @@ pub fn leave_to(w: &[u32], end: usize, next: usize, depth: usize) -> Control
     let mut d = depth;
     while 0 < d {
         d -= 1;
-        let j = end + 2 * d;
-        if 65536 <= w[j] {
+        if is_group(w, end, end + d) {
             return stand(SKIPPING, next, d, depth - d);
         }
     }
@@ -110,8 +114,9 @@ pub fn end_body(w: &mut [u32], end: usize, next: usize, depth: usize) -> Step
     requires { ⌜ ((s : List ℕ) × (at : ℕ) × (items : List Item) × (g : Bool) × (place : ℕ) × (o : Opener) × (body : List Item) × (frames : List Frame) × Closing s (now w) end at next depth items g place o body frames) ⌝ }
     ensures { λ r. ⌜ Kept (now (w .entry)) (now (w .exit)) end × ((s : List ℕ) (at : ℕ) (items : List Item) (g : Bool) (place : ℕ) (o : Opener) (body : List Item) (frames : List Frame) → Closing s (now (w .entry)) end at next depth items g place o body frames → ShowsStep s (now (w .exit)) end at r (running (close ∷ items) (frame g place o body ∷ frames))) ⌝ }
 {
-    let j = end + 2 * (depth - 1);
-    let item = (w[j] % 65536) as usize;
+    let j = end + (depth - 1);
+    let word = w[j];
+    let item = (word % 65536) as usize;
     let kind = kind_of(w, item);
     let out = stand(RUNNING, next, depth - 1, 0);
     if kind < 40 {
@@ -121,11 +126,11 @@ pub fn end_body(w: &mut [u32], end: usize, next: usize, depth: usize) -> Step
     let again = stand(RUNNING, start, depth, 0);
     let place = place_of(w, item);
     if kind < 42 {
-        let left = w[j + 1];
+        let left = word / 65536;
         if left == 0 {
             return Step::On(out);
         }
-        w[j + 1] = left - 1;
+        w[j] = word - 65536;
         return wants(ROUND, place, item, again, again);
     }
     if kind == 42 {

@@ -2,11 +2,11 @@
 ghost use mathlib.Core.Path.{_≡_};
 ghost use mathlib.Core.List.{List};
 ghost use Prim.Native.Nat.{ℕ, _+_, _≤_, _<_};
-ghost use lib.ListN.{length, getD};
+ghost use lib.ListN.{length};
 ghost use Rattle.definitions.specs.Control.{Item};
-ghost use Rattle.matching.specs.Words.{endAt};
 ghost use Rattle.script.specs.Words.{ItemAt};
 ghost use Rattle.control.specs.Items.{simpleEnd, openerEnd, classOf, placeAt, kindAt};
+use matching::search::end_at;
 
 // What an item is. The first five are their items' kinds.
 pub const LINE_END: u32 = 0;
@@ -31,17 +31,6 @@ pub struct Seen {
     pub next: usize,
 }
 
-// Where the words of the string at k end.
-fn string_end(w: &[u32], k: usize) -> usize
-    requires { ⌜ k < length (now w) ⌝ }
-    ensures { λ r. ⌜ r ≡ endAt (now (w .entry)) k ⌝ }
-{
-    if w[k] / 4 % 256 < 128 {
-        return k + 2;
-    }
-    k + 3
-}
-
 // Where the simple command at k ends.
 fn simple_end(w: &[u32], k: usize, kind: u32) -> usize
     requires { ⌜ (k < length (now w)) × (24 ≤ kind → k + 1 < length (now w)) ⌝ }
@@ -62,7 +51,7 @@ fn simple_end(w: &[u32], k: usize, kind: u32) -> usize
     if kind < 24 {
         return k + 4;
     }
-    let string = string_end(w, k + 1);
+    let string = end_at(w, k + 1);
     if kind < 30 {
         return string + 1;
     }

@@ -5,15 +5,15 @@ mod items;
 ghost use mathlib.Core.Path.{_≡_};
 ghost use mathlib.Core.Bool.{cond};
 ghost use mathlib.Core.List.{List, []};
-ghost use Prim.Native.Nat.{ℕ, _+_, _*_, _<_, _≤_};
+ghost use Prim.Native.Nat.{ℕ, _+_, _<_, _≤_};
 ghost use lib.ListN.{length};
 ghost use Rattle.definitions.specs.Control.{Item, Frame, Ctl, running, skipping, failing, leaving, pull as «pull-of»};
 ghost use Rattle.script.specs.Words.{ItemsAt};
-ghost use Rattle.control.specs.Items.{kindAt, placeAt, Placed, deepest};
-ghost use Rattle.control.specs.Shown.{Kept, Stands, Within, Shows, ShowsNext, ShowsStep, Onward, standAt, seekAt, wantedAt, beginBy};
+ghost use Rattle.control.specs.Items.{kindAt, placeAt, Proper};
+ghost use Rattle.script.specs.Depth.{deepest};
+ghost use Rattle.control.specs.Shown.{Kept, Stands, Within, Runs, Shows, ShowsNext, ShowsStep, Onward, standAt, seekAt, wantedAt, beginBy};
 use bodies::end_body;
 use bodies::leave_to;
-use bodies::mark_group;
 use bodies::push;
 use bodies::start_body;
 use items::AGP;
@@ -205,8 +205,8 @@ fn begin_search(w: &[u32], at: usize, next: usize, depth: usize) -> Step
 
 // Runs the item at `at`.
 fn run_item(w: &mut [u32], end: usize, at: usize, depth: usize) -> Step
-    requires { ⌜ ((s : List ℕ) × (items : List Item) × (frames : List Frame) × Within s (now w) end at depth depth items frames) × (at < end) ⌝ }
-    ensures { λ r. ⌜ Kept (now (w .entry)) (now (w .exit)) end × ((s : List ℕ) (items : List Item) (frames : List Frame) → Within s (now (w .entry)) end at depth depth items frames → ShowsStep s (now (w .exit)) end at r (running items frames)) ⌝ }
+    requires { ⌜ ((s : List ℕ) × (items : List Item) × (frames : List Frame) × Runs s (now w) end at depth items frames) × (at < end) ⌝ }
+    ensures { λ r. ⌜ Kept (now (w .entry)) (now (w .exit)) end × ((s : List ℕ) (items : List Item) (frames : List Frame) → Runs s (now (w .entry)) end at depth items frames → ShowsStep s (now (w .exit)) end at r (running items frames)) ⌝ }
 {
     let seen = here(w, at);
     let class = seen.class;
@@ -232,7 +232,6 @@ fn run_item(w: &mut [u32], end: usize, at: usize, depth: usize) -> Step
         return Step::Gives(Next::Finished);
     }
     if class == BRACKET {
-        mark_group(w, end, depth);
         return Step::On(stand(RUNNING, next, depth, 0));
     }
     if class == ELSE {
@@ -281,7 +280,7 @@ fn look(w: &[u32], c: Control) -> Next
 
 // The start of a run.
 pub fn start() -> Control
-    ensures { λ r. ⌜ ((s w : List ℕ) (end : ℕ) (items : List Item) → ItemsAt s w 0 end items → Placed items → end ≤ 65536 → end + 2 * deepest 0 items ≤ length w → Shows s w end r (running items [])) ⌝ }
+    ensures { λ r. ⌜ (r .lines ≡ 0) × ((s w : List ℕ) (end : ℕ) (items : List Item) → ItemsAt s w 0 end items → Proper items → end ≤ 65536 → end + deepest 0 items ≤ length w → Shows s w end r (running items [])) ⌝ }
 {
     stand(RUNNING, 0, 0, 0)
 }

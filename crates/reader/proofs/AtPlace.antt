@@ -1,5 +1,5 @@
 -- The cursor at a place of the script: the next byte, and what is after it. Assumes nothing.
-use mathlib.Core.Path.{_≡_, sym, ap, _∙_}
+use mathlib.Core.Path.{_≡_, refl, sym, ap, _∙_}
 use mathlib.Core.Bool.{true, false}
 use mathlib.Core.List.{List, [], _∷_}
 use Prim.Native.Nat.{ℕ, zero, suc, _+_, _-_, _≤_, _<_}
@@ -38,6 +38,13 @@ module _ (s : List ℕ) (i : ℕ) where
   pub after-end : length s ≤ i → afterByte (cursorAt s i) ≡ cursorAt s i
   unfolding afterByte
   after-end h = rw (drop-of-length-le s {i = i} h)
+
+pub next-at : (s : List ℕ) (i : ℕ) → nextByte (cursorAt s i) ≡ getD s i 0
+unfolding nextByte
+next-at [] zero = refl
+next-at [] (suc i) = refl
+next-at (b ∷ s) zero = refl
+next-at (b ∷ s) (suc i) = next-at s i
 
 -- a byte that is not 0 is within the script
 pub next-inside : (s : List ℕ) (i : ℕ) → 0 < nextByte (cursorAt s i) → i < length s

@@ -46,18 +46,6 @@ module _ (b : ℕ) where
   unfolding isLetter isCapital isSmall
   letter-from h = rw (le-leb 65 b (omega arith), lt-leb b 90 (omega arith), le-leb 97 b h)
 
-  pub upper-low : b < 97 → upper b ≡ b
-  unfolding upper isSmall
-  upper-low h = rw (lt-leb 97 b h)
-
-  pub upper-high : 122 < b → upper b ≡ b
-  unfolding upper isSmall
-  upper-high h = rw (le-leb 97 b (omega arith), lt-leb b 122 h)
-
-  pub upper-small : 97 ≤ b → b ≤ 122 → upper b ≡ b - 32
-  unfolding upper isSmall
-  upper-small h k = rw (le-leb 97 b h, le-leb b 122 k)
-
   pub upper-below : b < 256 → upper b < 256
   unfolding upper
   upper-below h = go (isSmall b)

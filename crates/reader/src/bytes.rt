@@ -2,7 +2,7 @@
 ghost use mathlib.Core.Path.{_≡_};
 ghost use Prim.Native.Nat.{_≤_, _<_};
 ghost use lib.ListN.{length};
-ghost use Rattle.definitions.specs.Bytes.{isDigit, isLetter, upper as «upper-of»};
+ghost use Rattle.definitions.specs.Bytes.{isDigit, isLetter};
 ghost use Rattle.definitions.specs.Reader.{nextByte, isDelimiter, expect as «expect-of»};
 ghost use Rattle.reader.specs.Places.{cursorAt};
 ghost use Rattle.reader.specs.Answers.{answers, nothing, Passed};
@@ -30,19 +30,6 @@ pub fn is_letter(b: u8) -> bool
         return false;
     }
     b <= 122
-}
-
-// a to z become A to Z.
-pub fn upper(b: u8) -> u8
-    ensures { λ r. ⌜ r ≡ «upper-of» b ⌝ }
-{
-    if b < 97 {
-        return b;
-    }
-    if b > 122 {
-        return b;
-    }
-    b - 32
 }
 
 // ! ' * + , - . / : ?

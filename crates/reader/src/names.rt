@@ -7,7 +7,7 @@ ghost use Rattle.reader.specs.Places.{cursorAt};
 ghost use Rattle.reader.specs.Steps.{limit, withLetter};
 use crate::Name;
 use crate::bytes::is_letter;
-use crate::bytes::upper;
+use text::upper;
 
 fn wide(b: u8) -> u32
     ensures { λ r. ⌜ r ≡ b ⌝ }

@@ -20,15 +20,16 @@ use Rattle.reader.specs.declared.shapes.Change.{Change as ChangeHere}
 use Rattle.reader.specs.declared.shapes.Shape.{Shape as ShapeHere}
 use Rattle.reader.specs.declared.shapes.Shape.the-variants.{Plain, Leaves, Seeks, Moves, Deletes, InsertsString, InsertsLines, Replaces, Alters, Points, Repeats, Branches, BranchesEof, Loops, Unknown}
 use Rattle.script.specs.Words.{head, OpenerAt, ItemAt}
+use Rattle.script.specs.Depth.{openAfter}
 use Rattle.script.specs.Reading.{groupsIn, Stands, Room, Written, counted}
 use Rattle.script.specs.Commands.{plainKind}
 use Rattle.script.specs.Searches.{NameOf}
 use Rattle.script.specs.declared.State.{State}
 use Rattle.script.specs.declared.Command.{Command}
-use Rattle.script.proofs.Items.{one-is, refused-written, whole-one, prefix-one, plain-item}
+use Rattle.script.proofs.Items.{one-is, refused-written, named-apart, whole-one, prefix-one, plain-item}
 
 pub room-of : (s w : List ℕ) (st : State) (acc : List Item) (next : ℕ) → Stands s w st acc → st .at < next → next ≤ length s → Room s w (st .at) next (st .k)
-room-of s w st acc next h less to = record { named = less; inside = to; room = omega (arith, h .room, h .deep); fits = h .fits }
+room-of s w st acc next h less to = record { named = less; inside = to; room = omega (arith, h .affords .room, h .deep, h .inside); fits = h .fits }
 
 -- ---- by shape
 
@@ -77,6 +78,14 @@ module _ (g : Bool) (place : ℕ) (c : Cursor) (shape : ShapeHere) where
   unfolding decode shapeIn
   is-unknown e = rw e
 
+pub long-repeat : (shape : ShapeHere) (place at : ℕ) → shape ≡ Repeats → NameOf shape place at → place + 2 ≤ at
+unfolding NameOf
+long-repeat shape place at e h = rw e at h
+
+pub long-eof : (shape : ShapeHere) (place at : ℕ) → shape ≡ BranchesEof → NameOf shape place at → place + 2 ≤ at
+unfolding NameOf
+long-eof shape place at e h = rw e at h
+
 pub long-branch : (shape : ShapeHere) (place at : ℕ) (b : Bool) → shape ≡ Branches b → NameOf shape place at → place + 2 ≤ at
 unfolding NameOf
 long-branch shape place at b e h = rw e at h
@@ -91,28 +100,32 @@ module _ (s w w' : List ℕ) (place at k : ℕ) (r : Room s w place at k) (g : B
 
   pub plain-written : (p : PlainHere) (kind : ℕ) → shape ≡ Plain p → kind ≡ plainKind p → (w' ≡ set w k (head kind place)) × (x ≡ Command.Whole at (k + 1))
       → Written s w w' place k (decode g place (shapeIn shape) (cursorAt s at)) x
-  unfolding decode shapeIn
+  unfolding decode shapeIn openAfter
   plain-written p kind e is (we, xe) = rw (e, we, xe, is)
-      (whole-one s w place at k r (decode g place (shapeIn (Plain p)) (cursorAt s at)) (simple place (plainOf p)) at (omega arith) (r .inside) (head (plainKind p) place) refl
+      (whole-one s w place at k r (decode g place (shapeIn (Plain p)) (cursorAt s at)) (simple place (plainOf p)) at (omega arith) (r .inside) (λ n. omega arith) (head (plainKind p) place) refl
       (plain-item s (set w k (head (plainKind p) place)) k place p (one-is w k (head (plainKind p) place) room)))
 
   pub leaves-written : shape ≡ Leaves → (w' ≡ set w k (head 4 place)) × (x ≡ Command.Whole at (k + 1)) → Written s w w' place k (decode g place (shapeIn shape) (cursorAt s at)) x
-  unfolding decode shapeIn ItemAt
+  unfolding decode shapeIn ItemAt openAfter
   leaves-written e (we, xe) = rw (e, we, xe)
-      (whole-one s w place at k r (decode g place (shapeIn Leaves) (cursorAt s at)) (leave place) at (omega arith) (r .inside) (head 4 place) refl
+      (whole-one s w place at k r (decode g place (shapeIn Leaves) (cursorAt s at)) (leave place) at (omega arith) (r .inside) (λ n. omega arith) (head 4 place) refl
       (refl, one-is w k (head 4 place) room))
 
-  pub repeats-written : shape ≡ Repeats → (w' ≡ set w k (head 42 place)) × (x ≡ Command.Prefix false at (k + 1)) → Written s w w' place k (decode g place (shapeIn shape) (cursorAt s at)) x
-  unfolding decode shapeIn ItemAt OpenerAt
-  repeats-written e (we, xe) = rw (e, we, xe)
-      (prefix-one s w place at k r (decode g place (shapeIn Repeats) (cursorAt s at)) (opens place forever) at (omega arith) (r .inside) (head 42 place) false refl
+  pub repeats-written : shape ≡ Repeats → NameOf shape place at → (w' ≡ set w k (head 42 place)) × (x ≡ Command.Prefix false at (k + 1)) → Written s w w' place k (decode g place (shapeIn shape) (cursorAt s at)) x
+  unfolding decode shapeIn ItemAt OpenerAt openAfter
+  repeats-written e long (we, xe) =
+      let far = long-repeat shape place at e long in
+      rw (e, we, xe)
+      (prefix-one s w place at k r (decode g place (shapeIn Repeats) (cursorAt s at)) (opens place forever) at (omega arith) (r .inside) (λ n. refl) (named-apart s place k at (k + 1) (omega arith)) (head 42 place) false refl
       (refl, one-is w k (head 42 place) room))
 
-  pub eof-written : (next : ℕ) → shape ≡ BranchesEof → skipThen (cursorAt s at) ≡ cursorAt s next → at ≤ next → next ≤ length s
+  pub eof-written : (next : ℕ) → shape ≡ BranchesEof → NameOf shape place at → skipThen (cursorAt s at) ≡ cursorAt s next → at ≤ next → next ≤ length s
       → (w' ≡ set w k (head 46 place)) × (x ≡ Command.Prefix true next (k + 1)) → Written s w w' place k (decode g place (shapeIn shape) (cursorAt s at)) x
-  unfolding decode shapeIn ItemAt OpenerAt
-  eof-written next e then from to (we, xe) = rw (e, we, xe)
-      (prefix-one s w place at k r (decode g place (shapeIn BranchesEof) (cursorAt s at)) (opens place (branch isEof)) next from to (head 46 place) true
+  unfolding decode shapeIn ItemAt OpenerAt openAfter
+  eof-written next e long then from to (we, xe) =
+      let far = long-eof shape place at e long in
+      rw (e, we, xe)
+      (prefix-one s w place at k r (decode g place (shapeIn BranchesEof) (cursorAt s at)) (opens place (branch isEof)) next from to (λ n. refl) (named-apart s place k next (k + 1) (omega arith)) (head 46 place) true
       (ap (got (prefix true (opens place (branch isEof)))) then) (refl, one-is w k (head 46 place) room))
 
 -- ---- by name

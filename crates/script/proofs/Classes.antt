@@ -18,6 +18,7 @@ use Rattle.reader.proofs.Blanks.{comment-more}
 use Rattle.script.specs.Reading.{dueOf, groupsIn, readingOf, Stands, Comes}
 use Rattle.script.specs.declared.State.{State}
 use Rattle.script.specs.declared.Step.{Step}
+use Rattle.script.proofs.Affording.{affords-on}
 
 module _ (due : Due) (groups : List Group) (acc : List Item) (s : List ℕ) (at : ℕ) where
   pub at-end : length s ≤ at → readAt due groups acc (cursorAt s at) ≡ done (scriptEnd due groups acc at)
@@ -77,7 +78,7 @@ module _ (s w : List ℕ) (st : State) (acc : List Item) (i : ℕ) where
   past-spaces e = rw e
 
   pub stands-on : Stands s w st acc → st .at ≤ i → i ≤ length s → Stands s w (record { at = i; k = st .k; due = st .due; elses = st .elses; depth = st .depth }) acc
-  stands-on h from to = record { inside = to; deep = h .deep; gathered = h .gathered; room = omega (arith, h .room); fits = h .fits }
+  stands-on h from to = record { inside = to; deep = h .deep; gathered = h .gathered; affords = affords-on (h .affords) i from; fits = h .fits }
 
 pub comes-from : (s w : List ℕ) (at i : ℕ) (x : Next) (r : Step) → at ≤ i → Comes s w i x r → Comes s w at x r
 unfolding Comes

@@ -9,10 +9,11 @@ use lib.Seq.{drop-cons}
 use lib.Dec.{eqb, leb}
 use borrow.Author.Tests.{leb-true, lt-leb}
 use Rattle.definitions.specs.Bytes.{isDigit, isLetter, upper}
-use Rattle.definitions.specs.Reader.{Cursor, cursor, placeAt, Word, word, afterWord, digitsAt, digits, lettersAt, name}
+use Rattle.definitions.specs.Reader.{Cursor, cursor, placeAt, nextByte, Word, word, afterWord, digitsAt, digits, lettersAt, name}
 use Rattle.reader.specs.Places.{cursorAt}
 use Rattle.reader.specs.Answers.{capped}
 use Rattle.reader.proofs.OneByte.{upper-below}
+use Rattle.reader.proofs.AtPlace.{next-at}
 
 unfoldable valueOf : Word → ℕ
 valueOf (word n c) = n
@@ -72,6 +73,26 @@ digits-far s i v r less e read = go (digits (cursorAt s i)) read (ap digits (ap 
           omega (arith, digits-reach first (suc i) (drop (suc i) s), place),
           λ h. omega (arith, place, digits-grow first (suc i) (drop (suc i) s) (omega (arith, value, digit-small (getD s i 0) e))),
         )
+
+-- digits are read to their end
+digits-stop : (n i : ℕ) (bs : List ℕ) → isDigit (nextByte (afterWord (digitsAt n i bs))) ≡ false
+unfolding afterWord nextByte digitsAt isDigit
+digits-stop n i [] = refl
+digits-stop n i (b ∷ bs) = go (isDigit b) refl (digits-stop (n * 10 + (b - 48)) (suc i) bs)
+  where
+    go : (t : Bool) → isDigit b ≡ t → isDigit (nextByte (afterWord (digitsAt (n * 10 + (b - 48)) (suc i) bs))) ≡ false
+        → isDigit (nextByte (afterWord (elim t [ true ↦ digitsAt (n * 10 + (b - 48)) (suc i) bs | false ↦ word n (cursor i (b ∷ bs)) ]))) ≡ false
+    go true e h = h
+    go false e h = e
+
+pub digits-end : (s : List ℕ) (i v r : ℕ) → capped (digits (cursorAt s i)) ≡ word v (cursorAt s r) → isDigit (getD s r 0) ≡ false
+unfolding capped afterWord digits
+digits-end s i v r read = go (digits (cursorAt s i)) read (digits-stop 0 i (drop i s))
+  where
+    go : (x : Word) → capped x ≡ word v (cursorAt s r) → isDigit (nextByte (afterWord x)) ≡ false → isDigit (getD s r 0) ≡ false
+    go (word n c) p stop =
+        let pc : c ≡ cursorAt s r = cc in
+        ap isDigit (sym (ap nextByte pc ∙ next-at s r)) ∙ stop
 
 -- ---- letters
 

@@ -26,6 +26,7 @@ use Rattle.reader.specs.declared.Answer.{Answer}
 use Rattle.reader.specs.declared.Two.{Two}
 use Rattle.strings.proofs.Callers.{part-is}
 use Rattle.script.specs.Words.{head, spotCode, targetCode, partOf, StringIn, LinesIn, OpAt, ItemAt}
+use Rattle.script.specs.Depth.{openAfter}
 use Rattle.script.specs.Reading.{Room, Laid, Kept, KeptBy, CommandIs, Written}
 use Rattle.script.specs.Commands.{refusedBy, refusedByTwo, spanHead, spanWord, spotWord}
 use Rattle.script.specs.declared.Command.{Command}
@@ -83,16 +84,16 @@ module _ (w : List ℕ) (k a b c d : ℕ) (room : k + 19 < length w) where
   four-3 = getD-set-same (set (set (set w k a) (k + 1) b) (k + 2) c) (k + 3) d 0 (simp length-set (omega arith))
 
 module _ (s w : List ℕ) (place at k : ℕ) (r : Room s w place at k) where
-  far : k + 47 < length w
+  far : k + 31 < length w
   far = omega (arith, r .room, r .fits .work)
 
-  pub whole-four : (x : Got Decoded) (i : Item) (next : ℕ) → place + 2 ≤ next → next ≤ length s → (a b c d : ℕ) → x ≡ got (whole i) (cursorAt s next)
+  pub whole-four : (x : Got Decoded) (i : Item) (next : ℕ) → ((n : ℕ) → openAfter n i ≡ n + 0) → place + 2 ≤ next → next ≤ length s → (a b c d : ℕ) → x ≡ got (whole i) (cursorAt s next)
       → ItemAt s (set (set (set (set w k a) (k + 1) b) (k + 2) c) (k + 3) d) k (k + 4) i
       → Written s w (set (set (set (set w k a) (k + 1) b) (k + 2) c) (k + 3) d) place k x (Command.Whole next (k + 4))
   unfolding CommandIs KeptBy
-  whole-four x i next from to a b c d e it = record {
+  whole-four x i next quiet from to a b c d e it = record {
     kept = four-stay w k a b c d (omega (arith, far));
-    is = (i, e, record { passed = omega arith; inside = to; forth = omega arith; two = omega arith; item = it });
+    is = (i, e, record { passed = omega arith; inside = to; forth = omega arith; two = omega arith; opening = quiet; item = it });
   }
 
   -- ---- IS
@@ -106,9 +107,9 @@ module _ (s w : List ℕ) (place at k : ℕ) (r : Room s w place at k) where
     pub string-written : (start end next v u : ℕ) → v ≡ head 21 place → u ≡ start + 32768 * (end - start) → x ≡ Two.Are start end next
         → (start ≡ suc i) × (start ≤ end) × (end ≤ next) × (next ≤ length s)
         → Written s w (set (set w k v) (k + 1) u) place k (decode false place insertsString (cursorAt s at)) (Command.Whole next (k + 2))
-    unfolding decode andThen ItemAt OpAt
+    unfolding decode andThen ItemAt OpAt openAfter
     string-written start end next v u hd wd is (one, le, from, to) =
-        whole-two s w place at k r (decode false place insertsString (cursorAt s at)) (simple place (insert none (slice start end s ∷ []))) next (omega arith) to v u
+        whole-two s w place at k r (decode false place insertsString (cursorAt s at)) (simple place (insert none (slice start end s ∷ []))) next (omega arith) to (λ n. omega arith) v u
         (ap (λ (y : Got Line). andThen y (λ l c₁. got (whole (simple place (insert none (l ∷ [])))) c₁))
         (ap quoted spaces ∙ given-are (slicePart s) s x (quoted (cursorAt s i)) read start end next is))
         (inl (
@@ -159,9 +160,9 @@ module _ (s w : List ℕ) (place at k : ℕ) (r : Room s w place at k) where
   pub inserts-written : (x : Got Decoded) (a start end next v u : ℕ) → a ≤ 65537 → v ≡ head 22 place → u ≡ spotWord a
       → x ≡ got (whole (simple place (insert (optionOf a) (linesTo s start end)))) (cursorAt s next) → at ≤ start → start ≤ end → next ≡ suc end → next ≤ length s
       → Written s w (set (set (set (set w k v) (k + 1) u) (k + 2) start) (k + 3) end) place k x (Command.Whole next (k + 4))
-  unfolding ItemAt OpAt
+  unfolding ItemAt OpAt openAfter
   inserts-written x a start end next v u small hd wd e from le nx to =
-      whole-four x (simple place (insert (optionOf a) (linesTo s start end))) next (omega (arith, r .named)) to v u start end e
+      whole-four x (simple place (insert (optionOf a) (linesTo s start end))) next (λ n. omega arith) (omega (arith, r .named)) to v u start end e
       (inr (
         refl,
         four-0 w k v u start end room ∙ hd,
@@ -190,9 +191,9 @@ module _ (s w : List ℕ) (place at k : ℕ) (r : Room s w place at k) where
   pub replaces-written : (x : Got Decoded) (a b start end next v u : ℕ) → a < 65536 → v ≡ spanHead 19 place b → u ≡ spanWord a b
       → x ≡ got (whole (simple place (replace (targetOf a) (throughOf b) (linesTo s start end)))) (cursorAt s next) → at ≤ start → start ≤ end → next ≡ suc end → next ≤ length s
       → Written s w (set (set (set (set w k v) (k + 1) u) (k + 2) start) (k + 3) end) place k x (Command.Whole next (k + 4))
-  unfolding ItemAt OpAt
+  unfolding ItemAt OpAt openAfter
   replaces-written x a b start end next v u small hd wd e from le nx to =
-      whole-four x (simple place (replace (targetOf a) (throughOf b) (linesTo s start end))) next (omega (arith, r .named)) to v u start end e (
+      whole-four x (simple place (replace (targetOf a) (throughOf b) (linesTo s start end))) next (λ n. omega arith) (omega (arith, r .named)) to v u start end e (
         refl,
         span-item s (set (set (set (set w k v) (k + 1) u) (k + 2) start) (k + 3) end) k 19 place a b (four-0 w k v u start end room ∙ hd) (four-1 w k v u start end room ∙ wd) small,
         lines-in s (getD (set (set (set (set w k v) (k + 1) u) (k + 2) start) (k + 3) end) (k + 2) 0) (getD (set (set (set (set w k v) (k + 1) u) (k + 2) start) (k + 3) end) (k + 3) 0) start end

@@ -1,7 +1,7 @@
 -- Items as they are written: counts, commands of one or two words, line numbers. Assumes nothing.
 use mathlib.Core.Path.{_≡_, refl, sym, ap, _∙_, subst}
 use mathlib.Core.Logic.{_⊎_, inl, inr}
-use mathlib.Core.Bool.{Bool, true, false, cond, _&&_, _||_}
+use mathlib.Core.Bool.{Bool, true, false, cond, _&&_, _||_, false≢true}
 use mathlib.Core.List.{List, [], _∷_}
 use Prim.Native.Nat.{ℕ, zero, suc, _+_, _-_, _*_, _/_, _%_, _≤_, _<_}
 use native.Mathlib.Omega.{arith}
@@ -9,6 +9,7 @@ use lib.ListN.{length, getD, set, length-set}
 use lib.Seq.{getD-set-same, getD-set-other}
 use lib.Dec.{eqb, leb}
 use borrow.Author.Tests.{eq-eqb, ne-eqb, le-leb, lt-leb, eqb-true, eqb-false}
+use Rattle.definitions.specs.Bytes.{isDigit}
 use Rattle.definitions.specs.Editor.{Target, here, line, eof}
 use Rattle.definitions.specs.Edit.{Op, move}
 use Rattle.definitions.specs.Control.{times, forever, branch, Item, simple, opens, leave}
@@ -24,7 +25,8 @@ use Rattle.reader.specs.declared.Two.{Two}
 use Rattle.reader.specs.declared.shapes.Plain.{Plain}
 use Rattle.reader.specs.declared.shapes.Plain.the-variants.{Next, Previous, Copy, PointStart, Right, Left, CutByte, Lower, Upper, Quit}
 use Rattle.script.specs.Words.{head, targetCode, caseKind, Words1, SpanAt, OpAt, TimesAt, OpenerAt, ItemAt}
-use Rattle.script.specs.Reading.{Fits, Room, Laid, Kept, KeptBy, CommandIs, Written, counted}
+use Rattle.script.specs.Depth.{openAfter}
+use Rattle.script.specs.Reading.{Fits, Room, Laid, Apart, Kept, KeptBy, CommandIs, Written, counted}
 use Rattle.script.specs.Commands.{refusedBy, refusedByTwo, plainKind, spanHead, spanWord}
 use Rattle.script.specs.declared.Command.{Command}
 use Rattle.script.proofs.Keeping.{kept-all, kept-set}
@@ -67,30 +69,38 @@ module _ {A : Type 0} (s w : List ℕ) (place k n p : ℕ) (f : ℕ → ℕ → 
 
 -- ---- an item of one or two words
 
+-- a prefix with words to spare, whatever stands before and behind it
+pub named-apart : (s : List ℕ) (place k next m : ℕ) → m + 3 ≤ k + 2 * (next - place) → Apart s place k next m
+named-apart s place k next m few = record { named = λ no-digit. omega arith; followed = λ digit. few }
+
+-- a count: it begins with a digit, and no digit is behind it
+pub count-apart : (s : List ℕ) (place k next m : ℕ) → isDigit (getD s place 0) ≡ true → isDigit (getD s next 0) ≡ false → Apart s place k next m
+count-apart s place k next m first behind = record { named = λ no-digit. absurd (false≢true (sym no-digit ∙ first)); followed = λ digit. absurd (false≢true (sym behind ∙ digit)) }
+
 module _ (s w : List ℕ) (place at k : ℕ) (r : Room s w place at k) (x : Got Decoded) (i : Item) (next : ℕ) (from : at ≤ next) (to : next ≤ length s) where
-  pub room-two : k + 64 ≤ length w + 14
+  pub room-two : k + 34 ≤ length w
   room-two = omega (arith, r .room, r .named, r .inside, r .fits .work)
 
-  pub whole-one : (a : ℕ) → x ≡ got (whole i) (cursorAt s next) → ItemAt s (set w k a) k (k + 1) i → Written s w (set w k a) place k x (Command.Whole next (k + 1))
+  pub whole-one : ((n : ℕ) → openAfter n i ≡ n + 0) → (a : ℕ) → x ≡ got (whole i) (cursorAt s next) → ItemAt s (set w k a) k (k + 1) i → Written s w (set w k a) place k x (Command.Whole next (k + 1))
   unfolding CommandIs KeptBy
-  whole-one a e it = record {
+  whole-one quiet a e it = record {
     kept = one-stays w k a (omega (arith, room-two));
-    is = (i, e, record { passed = omega (arith, r .named); inside = to; forth = omega arith; two = omega (arith, r .named); item = it });
+    is = (i, e, record { passed = omega (arith, r .named); inside = to; forth = omega arith; two = omega (arith, r .named); opening = quiet; item = it });
   }
 
-  pub prefix-one : (a : ℕ) (b : Bool) → x ≡ got (prefix b i) (cursorAt s next) → ItemAt s (set w k a) k (k + 1) i → Written s w (set w k a) place k x (Command.Prefix b next (k + 1))
+  pub prefix-one : ((n : ℕ) → openAfter n i ≡ n + 1) → Apart s place k next (k + 1) → (a : ℕ) (b : Bool) → x ≡ got (prefix b i) (cursorAt s next) → ItemAt s (set w k a) k (k + 1) i → Written s w (set w k a) place k x (Command.Prefix b next (k + 1))
   unfolding CommandIs KeptBy
-  prefix-one a b e it = record {
+  prefix-one one-more apart a b e it = record {
     kept = one-stays w k a (omega (arith, room-two));
-    is = (i, e, record { passed = omega (arith, r .named); inside = to; forth = omega arith; two = omega (arith, r .named); item = it });
+    is = (i, e, record { passed = omega (arith, r .named); inside = to; forth = omega arith; two = omega (arith, r .named); opening = one-more; item = it }, apart);
   }
 
-  pub whole-two : (a b : ℕ) → x ≡ got (whole i) (cursorAt s next) → ItemAt s (set (set w k a) (k + 1) b) k (k + 2) i
+  pub whole-two : ((n : ℕ) → openAfter n i ≡ n + 0) → (a b : ℕ) → x ≡ got (whole i) (cursorAt s next) → ItemAt s (set (set w k a) (k + 1) b) k (k + 2) i
       → Written s w (set (set w k a) (k + 1) b) place k x (Command.Whole next (k + 2))
   unfolding CommandIs KeptBy
-  whole-two a b e it = record {
+  whole-two quiet a b e it = record {
     kept = two-stay w k a b (omega (arith, room-two));
-    is = (i, e, record { passed = omega (arith, r .named); inside = to; forth = omega arith; two = omega (arith, r .named); item = it });
+    is = (i, e, record { passed = omega (arith, r .named); inside = to; forth = omega arith; two = omega (arith, r .named); opening = quiet; item = it });
   }
 
 -- ---- counts
@@ -109,18 +119,18 @@ module _ (s w : List ℕ) (place k v next : ℕ) (r : Room s w place (place + 1)
       over : (n : ℕ) → digits (cursorAt s place) ≡ word n (cursorAt s next) → 65535 < n → counted place (digits (cursorAt s place)) ≡ refused 3 place
       over n e m = rw (e, counted, lt-leb n 65535 m)
 
-  pub small-count : (a : ℕ) → a ≡ head 40 place → v < 2048 → place < next → next ≤ length s
+  pub small-count : Apart s place k next (k + 1) → (a : ℕ) → a ≡ head 40 place → v < 2048 → place < next → next ≤ length s
       → Written s w (set w k (a + 2097152 * v)) place k (counted place (digits (cursorAt s place))) (Command.Prefix false next (k + 1))
-  unfolding ItemAt OpenerAt TimesAt
-  small-count a is h far to =
-      prefix-one s w place (place + 1) k r (counted place (digits (cursorAt s place))) (opens place (times v)) next (omega arith) to (a + 2097152 * v) false
+  unfolding ItemAt OpenerAt TimesAt openAfter
+  small-count apart a is h far to =
+      prefix-one s w place (place + 1) k r (counted place (digits (cursorAt s place))) (opens place (times v)) next (omega arith) to (λ n. refl) apart (a + 2097152 * v) false
       (is-counted (omega arith))
       (inl (h, (refl, one-is w k (a + 2097152 * v) (omega (arith, r .room, r .named, r .inside, r .fits .work)) ∙ ap (λ (n : ℕ). n + 2097152 * v) is)))
 
-  pub large-count : (a : ℕ) → a ≡ head 41 place → v ≤ 65535 → suc place < next → next ≤ length s
+  pub large-count : Apart s place k next (k + 2) → (a : ℕ) → a ≡ head 41 place → v ≤ 65535 → suc place < next → next ≤ length s
       → Written s w (set (set w k a) (k + 1) v) place k (counted place (digits (cursorAt s place))) (Command.Prefix false next (k + 2))
-  unfolding ItemAt OpenerAt TimesAt CommandIs KeptBy
-  large-count a is h far to =
+  unfolding ItemAt OpenerAt TimesAt CommandIs KeptBy openAfter
+  large-count apart a is h far to =
       let room : k + 17 < length w = omega (arith, r .room, r .named, r .inside, r .fits .work) in
       record {
         kept = two-stay w k a v room;
@@ -132,8 +142,10 @@ module _ (s w : List ℕ) (place k v next : ℕ) (r : Room s w place (place + 1)
             inside = to;
             forth = omega arith;
             two = omega arith;
+            opening = λ n. refl;
             item = inr (refl, first-is w k a v room ∙ is, second-is w k a v room);
           },
+          apart,
         );
       }
 
@@ -175,9 +187,9 @@ module _ (s w : List ℕ) (place at k : ℕ) (r : Room s w place at k) (i : ℕ)
 
   pub moves-written : (a next v : ℕ) → v ≡ head 16 place → x ≡ Answer.Is a next → (a ≤ 65536) × (suc i ≤ next) × (next ≤ length s)
       → Written s w (set (set w k v) (k + 1) a) place k (decode false place moves (cursorAt s at)) (Command.Whole next (k + 2))
-  unfolding decode andThen answers ItemAt OpAt
+  unfolding decode andThen answers ItemAt OpAt openAfter
   moves-written a next v hd is (small, from, to) =
-      whole-two s w place at k r (decode false place moves (cursorAt s at)) (simple place (move (targetOf a))) next (omega arith) to v a
+      whole-two s w place at k r (decode false place moves (cursorAt s at)) (simple place (move (targetOf a))) next (omega arith) to (λ n. omega arith) v a
       (ap (λ (y : Got Target). andThen y (λ t c₁. got (whole (simple place (move t))) c₁)) (ap target spaces ∙ read ∙ ap (answers targetOf s) is))
       (refl, first-is w k v a room ∙ hd, second-is w k v a room ∙ sym (target-code a small))
     where

@@ -147,15 +147,15 @@ module _ (k n : ℕ) (w w' : List ℕ) (h : Kept k n w w') where
   acc-kept s acc le g = gathered-kept s w w' k (h .below) (omega (arith, h .same-length)) k acc (omega arith) g
 
 -- the next free word is far from the groups' words
-pub free : (s w : List ℕ) (st : State) (acc : List Item) → Stands s w st acc → st .k + st .due + 48 ≤ length w
-free s w st acc h = omega (arith, h .room, h .deep, h .fits .work, h .inside)
+pub free : (s w : List ℕ) (st : State) (acc : List Item) → Stands s w st acc → st .k + st .due + 32 ≤ length w
+free s w st acc h = omega (arith, h .affords .room, h .deep, h .fits .work, h .inside)
 
 pub stands-kept : (s w w' : List ℕ) (st : State) (acc : List Item) → Kept (st .k) 16 w w' → Stands s w st acc → Stands s w' st acc
 stands-kept s w w' st acc k h = record {
   inside = h .inside;
   deep = h .deep;
   gathered = acc-kept (st .k) 16 w w' k s acc (omega (arith, free s w st acc h)) (h .gathered);
-  room = omega (arith, h .room, bodies-kept (st .k) 16 w w' k (st .depth) (h .deep));
+  affords = rw (bodies-kept (st .k) 16 w w' k (st .depth) (h .deep)) (h .affords);
   fits = fits-kept (st .k) 16 w w' k s (h .fits);
 }
 

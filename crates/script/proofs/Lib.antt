@@ -1,3 +1,4 @@
+pub mod Affording
 pub mod Keeping
 pub mod Closing
 pub mod OneRound

@@ -19,6 +19,7 @@ use Rattle.reader.specs.Targets.{targetOf, throughOf, spanOf}
 use Rattle.reader.proofs.Given.{given-are}
 use Rattle.reader.specs.declared.Two.{Two}
 use Rattle.script.specs.Words.{head, targetCode, SpanAt, OpAt, ItemAt}
+use Rattle.script.specs.Depth.{openAfter}
 use Rattle.script.specs.Reading.{Room, Written}
 use Rattle.script.specs.Commands.{refusedByTwo, spanHead, spanWord}
 use Rattle.script.specs.declared.Command.{Command}
@@ -69,9 +70,9 @@ module _ (s w : List ℕ) (place at k : ℕ) (r : Room s w place at k) (x : Two)
 
   pub deletes-written : (a b next v u : ℕ) → v ≡ spanHead 17 place b → u ≡ spanWord a b → x ≡ Two.Are a b next → (a ≤ 65535) × (b ≤ 65536) × (at ≤ next) × (next ≤ length s)
       → Written s w (set (set w k v) (k + 1) u) place k (decode false place deletes (cursorAt s at)) (Command.Whole next (k + 2))
-  unfolding decode andThen spanOf deleteOp ItemAt OpAt
+  unfolding decode andThen spanOf deleteOp ItemAt OpAt openAfter
   deletes-written a b next v u hd wd is (le, small, from, to) =
-      whole-two s w place at k r (decode false place deletes (cursorAt s at)) (simple place (delete (targetOf a) (throughOf b))) next from to v u
+      whole-two s w place at k r (decode false place deletes (cursorAt s at)) (simple place (delete (targetOf a) (throughOf b))) next from to (λ n. omega arith) v u
       (ap (λ (y : Got Span). andThen y (λ z c₁. got (whole (simple place (deleteOp z))) c₁)) (given-are spanOf s x (lineSpan (cursorAt s at)) read a b next is))
       (refl, span-item s (set (set w k v) (k + 1) u) k 17 place a b (first-is w k v u room ∙ hd) (second-is w k v u room ∙ wd) (omega arith))
     where

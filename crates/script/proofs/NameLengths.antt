@@ -1,4 +1,4 @@
--- The names of tests have two letters at least. Assumes nothing.
+-- The names of prefixes have two letters at least. Assumes nothing.
 use mathlib.Core.Path.{_≡_, refl, sym, ap, _∙_, subst}
 use mathlib.Core.Bool.{Bool, true, false, _&&_, false≢true}
 use mathlib.Core.List.{List, [], _∷_}
@@ -13,32 +13,32 @@ use Rattle.reader.specs.declared.shapes.Shape.{Shape as ShapeHere}
 use Rattle.reader.specs.declared.shapes.Shape.the-variants.{Plain, Leaves, Seeks, Moves, Deletes, InsertsString, InsertsLines, Replaces, Alters, Points, Repeats, Branches, BranchesEof, Loops, Unknown}
 use Rattle.script.specs.Searches.{NameOf}
 
--- a test with a search expression
-unfoldable isTest : Shape → Bool
-isTest (plain op) = false
-isTest leaves = false
-isTest (seeks s) = false
-isTest moves = false
-isTest deletes = false
-isTest insertsString = false
-isTest insertsLines = false
-isTest replaces = false
-isTest (alters c p) = false
-isTest (points a) = false
-isTest repeats = false
-isTest (branches b) = true
-isTest branchesEof = false
-isTest (loops b) = true
-isTest unknown = false
+-- what opens a body
+unfoldable isPrefix : Shape → Bool
+isPrefix (plain op) = false
+isPrefix leaves = false
+isPrefix (seeks s) = false
+isPrefix moves = false
+isPrefix deletes = false
+isPrefix insertsString = false
+isPrefix insertsLines = false
+isPrefix replaces = false
+isPrefix (alters c p) = false
+isPrefix (points a) = false
+isPrefix repeats = true
+isPrefix (branches b) = true
+isPrefix branchesEof = true
+isPrefix (loops b) = true
+isPrefix unknown = false
 
--- a row of a test has a name of more than one letter
+-- a row of a prefix has a name of more than one letter
 unfoldable long : Bool → ℕ → Bool
 long true n = leb 256 n
 long false n = true
 
 unfoldable allLong : List Row → Bool
 allLong [] = true
-allLong (row s shape ∷ rows) = long (isTest shape) (packed s) && allLong rows
+allLong (row s shape ∷ rows) = long (isPrefix shape) (packed s) && allLong rows
 
 and-left : (a b : Bool) → (a && b) ≡ true → a ≡ true
 and-left true b e = refl
@@ -48,40 +48,40 @@ and-right : (a b : Bool) → (a && b) ≡ true → b ≡ true
 and-right true b e = e
 and-right false b e = absurd (false≢true e)
 
-looked : (rows : List Row) (w : ℕ) → allLong rows ≡ true → isTest (lookUp rows w) ≡ true → 256 ≤ w
-unfolding allLong lookUp isTest long
+looked : (rows : List Row) (w : ℕ) → allLong rows ≡ true → isPrefix (lookUp rows w) ≡ true → 256 ≤ w
+unfolding allLong lookUp isPrefix long
 looked [] w a t = absurd (false≢true t)
 looked (row s shape ∷ rows) w a t =
-    go (eqb w (packed s)) refl (isTest shape) refl (and-left (long (isTest shape) (packed s)) (allLong rows) a) (λ u. looked rows w (and-right (long (isTest shape) (packed s)) (allLong rows) a) u) t
+    go (eqb w (packed s)) refl (isPrefix shape) refl (and-left (long (isPrefix shape) (packed s)) (allLong rows) a) (λ u. looked rows w (and-right (long (isPrefix shape) (packed s)) (allLong rows) a) u) t
   where
-    go : (e : Bool) → eqb w (packed s) ≡ e → (i : Bool) → isTest shape ≡ i → long (isTest shape) (packed s) ≡ true → (isTest (lookUp rows w) ≡ true → 256 ≤ w)
-        → isTest (elim e [ true ↦ shape | false ↦ lookUp rows w ]) ≡ true → 256 ≤ w
+    go : (e : Bool) → eqb w (packed s) ≡ e → (i : Bool) → isPrefix shape ≡ i → long (isPrefix shape) (packed s) ≡ true → (isPrefix (lookUp rows w) ≡ true → 256 ≤ w)
+        → isPrefix (elim e [ true ↦ shape | false ↦ lookUp rows w ]) ≡ true → 256 ≤ w
     go true p true q l rest u = omega (arith, leb-true 256 (packed s) (rw q at l), eqb-true w (packed s) p)
     go true p false q l rest u = absurd (false≢true (sym q ∙ u))
     go false p i q l rest u = rest u
 
 table-long : allLong commandTable ≡ true
-unfolding allLong commandTable long isTest packed packedFrom
+unfolding allLong commandTable long isPrefix packed packedFrom
 table-long = refl
 
-test-long : (w : ℕ) (shape : Shape) → shapeOf w ≡ shape → isTest shape ≡ true → 256 ≤ w
+prefix-long : (w : ℕ) (shape : Shape) → shapeOf w ≡ shape → isPrefix shape ≡ true → 256 ≤ w
 unfolding shapeOf
-test-long w shape e t = looked commandTable w table-long (ap isTest e ∙ t)
+prefix-long w shape e t = looked commandTable w table-long (ap isPrefix e ∙ t)
 
-pub test-name : (w : ℕ) (shape : ShapeHere) (place at : ℕ) → shapeOf w ≡ shapeIn shape → (256 ≤ w → place + 2 ≤ at) → NameOf shape place at
-unfolding NameOf shapeIn isTest
-test-name w (Plain p) place at e h = tt
-test-name w Leaves place at e h = tt
-test-name w (Seeks s) place at e h = tt
-test-name w Moves place at e h = tt
-test-name w Deletes place at e h = tt
-test-name w InsertsString place at e h = tt
-test-name w InsertsLines place at e h = tt
-test-name w Replaces place at e h = tt
-test-name w (Alters c p) place at e h = tt
-test-name w (Points a) place at e h = tt
-test-name w Repeats place at e h = tt
-test-name w (Branches b) place at e h = h (test-long w (branches b) e refl)
-test-name w BranchesEof place at e h = tt
-test-name w (Loops b) place at e h = h (test-long w (loops b) e refl)
-test-name w Unknown place at e h = tt
+pub prefix-name : (w : ℕ) (shape : ShapeHere) (place at : ℕ) → shapeOf w ≡ shapeIn shape → (256 ≤ w → place + 2 ≤ at) → NameOf shape place at
+unfolding NameOf shapeIn isPrefix
+prefix-name w (Plain p) place at e h = tt
+prefix-name w Leaves place at e h = tt
+prefix-name w (Seeks s) place at e h = tt
+prefix-name w Moves place at e h = tt
+prefix-name w Deletes place at e h = tt
+prefix-name w InsertsString place at e h = tt
+prefix-name w InsertsLines place at e h = tt
+prefix-name w Replaces place at e h = tt
+prefix-name w (Alters c p) place at e h = tt
+prefix-name w (Points a) place at e h = tt
+prefix-name w Repeats place at e h = h (prefix-long w repeats e refl)
+prefix-name w (Branches b) place at e h = h (prefix-long w (branches b) e refl)
+prefix-name w BranchesEof place at e h = h (prefix-long w branchesEof e refl)
+prefix-name w (Loops b) place at e h = h (prefix-long w (loops b) e refl)
+prefix-name w Unknown place at e h = tt

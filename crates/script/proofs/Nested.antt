@@ -16,10 +16,11 @@ use Rattle.matching.specs.Words.{bitOf}
 use Rattle.reader.specs.Places.{cursorAt}
 use Rattle.reader.proofs.AtPlace.{is-next, not-next, after-in, after-next, next-inside}
 use Rattle.script.specs.Words.{head, ItemAt, OpenerAt, Gathered}
-use Rattle.script.specs.Reading.{dueOf, groupIn, groupsIn, bodiesIn, readingOf, Fits, Stands, Kept, Closed, Comes}
+use Rattle.script.specs.Reading.{dueOf, groupIn, groupsIn, bodiesIn, readingOf, Fits, Affords, Stands, Kept, Closed, Comes}
 use Rattle.script.specs.declared.State.{State}
 use Rattle.script.specs.declared.Step.{Step}
 use Rattle.script.proofs.Keeping.{gather, acc-kept, groups-kept, bodies-kept, fits-kept, free, kept-all, kept-set}
+use Rattle.script.proofs.Affording.{affords-bare, affords-body, affords-end, affords-else}
 use Rattle.script.proofs.Closing.{closed-kept, gathered-closes}
 use Rattle.script.proofs.OneRound.{none-due, some-due, no-groups, some-groups, some-bodies, many-groups}
 
@@ -94,36 +95,36 @@ module _ (s w w' : List ℕ) (k d d' x : ℕ) (one-more : d' ≡ d + 1) (kept : 
   bodies-more = rw (one-more, add-one d, bodiesIn, word-there, bodies-kept k d w w' kept d (omega arith))
 
   pub opened : (from next k' : ℕ) (acc : List Item) (g : Group) → groupIn x ≡ g → Gathered s w' k' acc → from < next → next ≤ length s → d < 16 → Fits s w
-      → k' + x / 2 + bodiesIn w d + 2 * (length s - next) ≤ 2 * length s + d'
+      → Affords s next k' 0 (x / 2 + bodiesIn w d) d' acc
       → Comes s w' from (more (reading (cursorAt s next) nothing (g ∷ groupsIn w d) acc)) (Step.More (record { at = next; k = k'; due = 0; elses = false; depth = d' }))
   unfolding Comes readingOf dueOf
-  opened from next k' acc g is gathered far within deep fits room = (
+  opened from next k' acc g is gathered far within deep fits affords = (
     acc,
     rw (groups-more, is),
     record {
       inside = within;
       deep = omega arith;
       gathered = gathered;
-      room = omega (arith, room, bodies-more);
+      affords = rw bodies-more affords;
       fits = fits-kept k d w w' kept s fits;
     },
     far,
   )
 
 module _ (s w : List ℕ) (st : State) (acc : List Item) (h : Stands s w st acc) where
-  pub ending-room : 0 < st .depth → (n : ℕ) → n ≡ getD w (length w - st .depth) 0 / 2 → (st .k + n + 16 ≤ length w) × (n ≤ 32784)
+  pub ending-room : 0 < st .depth → (n : ℕ) → n ≡ getD w (length w - st .depth) 0 / 2 → (st .k + n + 16 ≤ length w) × (n ≤ 32800)
   ending-room pos n is =
       let half = some-bodies w (st .depth) (λ z. omega (arith, z)) in
-      (omega (arith, h .room, h .deep, h .fits .work, h .inside, half), omega (arith, h .room, h .deep, h .fits .small, h .inside, half))
+      (omega (arith, h .affords .room, h .deep, h .fits .work, h .inside, half), omega (arith, h .affords .room, h .deep, h .fits .small, h .inside, half))
 
   module _ (less : st .at < length s) where
     module _ (deep : st .depth < 16) where
-      pub opens-bare : (a : ℕ) → a ≡ head 43 (st .at) →
+      pub opens-bare : st .due ≡ 0 → (a : ℕ) → a ≡ head 43 (st .at) →
           Comes s (set (set (set w (st .k) a) (st .k + 1) 1) (length w - (st .depth + 1)) 2) (st .at)
           (more (reading (cursorAt s (st .at + 1)) nothing (group 1 false ∷ groupsIn w (st .depth)) (bracket ∷ opens (st .at) bare ∷ acc)))
           (Step.More (record { at = st .at + 1; k = st .k + 2; due = 0; elses = false; depth = st .depth + 1 }))
       unfolding ItemAt OpenerAt groupIn
-      opens-bare a is =
+      opens-bare z a is =
           let room = free s w st acc h in
           let top : ℕ = length w - (st .depth + 1) in
           let far : top + st .depth < length w = omega (arith, room) in
@@ -136,7 +137,7 @@ module _ (s w : List ℕ) (st : State) (acc : List Item) (h : Stands s w st acc)
           (gather s w' (st .k + 1) (st .k + 2) bracket (opens (st .at) bare ∷ acc) (omega arith) (e, two-second w (st .k) top (st .depth) far a 1 2 near)
           (gather s w' (st .k) (st .k + 1) (opens (st .at) bare) acc (omega arith) (refl, two-first w (st .k) top (st .depth) far a 1 2 near ∙ is)
           (acc-kept (st .k) (st .depth) w w' kept s acc (omega (arith, room)) (h .gathered))))
-          (omega arith) (omega arith) deep (h .fits) (omega (arith, h .room))
+          (omega arith) (omega arith) deep (h .fits) (affords-bare (h .affords) z (st .at))
 
       pub opens-body : (x : ℕ) → x ≡ 2 * st .due + bitOf (st .elses) →
           Comes s (set (set w (st .k) 1) (length w - (st .depth + 1)) x) (st .at)
@@ -155,7 +156,7 @@ module _ (s w : List ℕ) (st : State) (acc : List Item) (h : Stands s w st acc)
           (st .at) (st .at + 1) (st .k + 1) (bracket ∷ acc) (group (st .due) (st .elses)) (ap groupIn is ∙ group-back (st .due) (st .elses))
           (gather s w' (st .k) (st .k + 1) bracket acc (omega arith) (refl, one-first w (st .k) top (st .depth) far 1 x near)
           (acc-kept (st .k) (st .depth) w w' kept s acc (omega (arith, room)) (h .gathered)))
-          (omega arith) (omega arith) deep (h .fits) (omega (arith, h .room, half))
+          (omega arith) (omega arith) deep (h .fits) (rw half (affords-body (h .affords)))
 
       shallow : ltb (length (groupsIn w (st .depth))) 16 ≡ true
       shallow = lt-ltb (length (groupsIn w (st .depth))) 16 (rw (many-groups w (st .depth)) deep)
@@ -176,13 +177,13 @@ module _ (s w : List ℕ) (st : State) (acc : List Item) (h : Stands s w st acc)
 
     -- ---- a group ends
 
-    pub ends : 0 < st .depth → (n : ℕ) → n ≡ getD w (length w - st .depth) 0 / 2 → (w' : List ℕ) → Closed (st .k) n w w'
+    pub ends : 0 < st .depth → st .due ≡ 0 → (n : ℕ) → n ≡ getD w (length w - st .depth) 0 / 2 → (w' : List ℕ) → Closed (st .k) n w w'
         → Comes s w' (st .at) (more (reading (cursorAt s (st .at + 1)) nothing (groupsIn w (st .depth - 1)) (closes n acc)))
         (Step.More (record { at = st .at + 1; k = st .k + n; due = 0; elses = false; depth = st .depth - 1 }))
     unfolding Comes readingOf dueOf
-    ends pos n is w' c =
+    ends pos z n is w' c =
         let half : bodiesIn w (st .depth) ≡ n + bodiesIn w (st .depth - 1) = some-bodies w (st .depth) (λ z. omega (arith, z)) ∙ ap (λ (m : ℕ). m + bodiesIn w (st .depth - 1)) (sym is) in
-        let far : st .k + n + 16 ≤ length w = omega (arith, h .room, h .deep, h .fits .work, h .inside, half) in
+        let far : st .k + n + 16 ≤ length w = omega (arith, h .affords .room, h .deep, h .fits .work, h .inside, half) in
         let kept : Kept (st .k) 16 w w' = closed-kept (st .k) 16 (st .k) n w w' (omega arith) far c in (
           closes n acc,
           rw (groups-kept (st .k) 16 w w' kept (st .depth - 1) (omega (arith, h .deep))),
@@ -190,7 +191,7 @@ module _ (s w : List ℕ) (st : State) (acc : List Item) (h : Stands s w st acc)
             inside = omega arith;
             deep = omega (arith, h .deep);
             gathered = gathered-closes s w' (st .k) n acc (c .inside) (acc-kept (st .k) 16 w w' kept s acc (omega (arith, far)) (h .gathered));
-            room = omega (arith, h .room, half, bodies-kept (st .k) 16 w w' kept (st .depth - 1) (omega (arith, h .deep)));
+            affords = rw (bodies-kept (st .k) 16 w w' kept (st .depth - 1) (omega (arith, h .deep))) (affords-end (h .affords) z n (bodiesIn w (st .depth - 1)) half pos);
             fits = fits-kept (st .k) 16 w w' kept s (h .fits);
           },
           omega arith,
@@ -238,11 +239,11 @@ module _ (s w : List ℕ) (st : State) (acc : List Item) (h : Stands s w st acc)
     unfolding elseGroup
     else-there e = rw (is-next 40 (cursorAt s p) e, after-next s p (rw e (omega arith)))
 
-    pub else-opens : 0 < st .depth → st .at < p → n ≡ getD w (length w - st .depth) 0 / 2 → nextByte (cursorAt s p) ≡ 40
+    pub else-opens : 0 < st .depth → st .due ≡ 0 → st .at < p → n ≡ getD w (length w - st .depth) 0 / 2 → nextByte (cursorAt s p) ≡ 40
         → Comes s (set (set (set w (st .k) 3) (st .k + 1) 1) (length w - st .depth) (2 * n)) (st .at) (elseGroup n (groupsIn w (st .depth - 1)) acc (cursorAt s p))
         (Step.More (record { at = p + 1; k = st .k + 2; due = 0; elses = false; depth = st .depth }))
     unfolding ItemAt bitOf
-    else-opens pos after is e =
+    else-opens pos z after is e =
         let within : p < length s = next-inside s p (rw e (omega arith)) in
         let half : bodiesIn w (st .depth) ≡ n + bodiesIn w (st .depth - 1) = some-bodies w (st .depth) (λ z. omega (arith, z)) ∙ ap (λ (m : ℕ). m + bodiesIn w (st .depth - 1)) (sym is) in
         let room = free s w st acc h in
@@ -253,10 +254,11 @@ module _ (s w : List ℕ) (st : State) (acc : List Item) (h : Stands s w st acc)
         let kept : Kept (st .k) (st .depth - 1) w w' = two-stay w (st .k) top (st .depth - 1) far 3 1 (2 * n) near in
         let e2 : st .k + 2 ≡ st .k + 1 + 1 = omega arith in
         let zero-flag : 2 * n ≡ 2 * n + bitOf false = omega arith in
+        let twice : 2 * n / 2 ≡ n = omega arith in
         rw (else-there e)
         (opened s w w' (st .k) (st .depth - 1) (st .depth) (2 * n) (omega arith) kept (two-top w (st .k) top (st .depth - 1) far 3 1 (2 * n) near)
         (st .at) (p + 1) (st .k + 2) (bracket ∷ otherwise ∷ acc) (group n false) (ap groupIn zero-flag ∙ group-back n false)
         (gather s w' (st .k + 1) (st .k + 2) bracket (otherwise ∷ acc) (omega arith) (e2, two-second w (st .k) top (st .depth - 1) far 3 1 (2 * n) near)
         (gather s w' (st .k) (st .k + 1) otherwise acc (omega arith) (refl, two-first w (st .k) top (st .depth - 1) far 3 1 (2 * n) near)
         (acc-kept (st .k) (st .depth - 1) w w' kept s acc (omega (arith, room)) (h .gathered))))
-        (omega arith) (omega arith) (omega (arith, h .deep)) (h .fits) (omega (arith, h .room, half)))
+        (omega arith) (omega arith) (omega (arith, h .deep)) (h .fits) (rw (twice, ← half) (affords-else (h .affords) z p after)))

@@ -22,6 +22,7 @@ use Rattle.script.specs.declared.State.{State}
 use Rattle.script.specs.declared.Step.{Step}
 use Rattle.script.specs.declared.Command.{Command}
 use Rattle.script.proofs.Keeping.{gather, in-order, acc-kept, groups-kept, bodies-kept, fits-kept, free, stands-kept, kept-all, kept-set, item-kept}
+use Rattle.script.proofs.Affording.{affords-on, affords-line, affords-whole, affords-prefix, affords-all}
 use Rattle.script.proofs.Closing.{closed-kept, gathered-closes}
 
 -- ---- what is due, and the groups
@@ -87,7 +88,7 @@ module _ (s w : List ℕ) (st : State) (acc : List Item) (h : Stands s w st acc)
   passed next z far within = (
     acc,
     separator-more z acc (cursorAt s next),
-    record { inside = within; deep = h .deep; gathered = h .gathered; room = omega (arith, h .room); fits = h .fits },
+    record { inside = within; deep = h .deep; gathered = h .gathered; affords = affords-on (h .affords) next (omega arith); fits = h .fits },
     far,
   )
 
@@ -120,7 +121,7 @@ module _ (s w : List ℕ) (st : State) (acc : List Item) (h : Stands s w st acc)
           deep = h .deep;
           gathered = gather s (set w (st .k) 0) (st .k) (st .k + 1) lineEnd acc (omega arith) (refl, getD-set-same w (st .k) 0 0 (omega (arith, far)))
               (acc-kept (st .k) 16 w (set w (st .k) 0) kept s acc (omega (arith, far)) (h .gathered));
-          room = omega (arith, h .room, bodies-kept (st .k) 16 w (set w (st .k) 0) kept (st .depth) (h .deep));
+          affords = rw (bodies-kept (st .k) 16 w (set w (st .k) 0) kept (st .depth) (h .deep)) (affords-line (h .affords) z);
           fits = fits-kept (st .k) 16 w (set w (st .k) 0) kept s (h .fits);
         },
         omega arith,
@@ -136,7 +137,7 @@ module _ (s w : List ℕ) (st : State) (acc : List Item) (h : Stands s w st acc)
 
   pub end-done : st .due ≡ 0 → st .depth ≡ 0 → Comes s w (st .at) (done (scriptEnd (dueOf (st .due) (st .elses)) (groupsIn w (st .depth)) acc (st .at))) (Step.Done (st .k))
   unfolding Comes scriptEnd
-  end-done z d = (reverse acc, rw (none-due (st .due) (st .elses) z, no-groups w (st .depth) d), in-order s w (st .k) acc (h .gathered), omega (arith, free s w st acc h))
+  end-done z d = let all = affords-all (h .affords) d in (reverse acc, rw (none-due (st .due) (st .elses) z, no-groups w (st .depth) d), in-order s w (st .k) acc (h .gathered), omega (arith, all .0, h .inside, h .fits .work), omega (arith, all .1, h .inside, h .fits .small))
 
   -- ---- a command that was read
 
@@ -146,7 +147,7 @@ module _ (s w : List ℕ) (st : State) (acc : List Item) (h : Stands s w st acc)
         (Step.More (record { at = next; k = m + st .due; due = 0; elses = false; depth = st .depth }))
     unfolding CommandIs Comes readingOf dueOf decoded
     whole-comes next m w' (i, e, l) c =
-        let far : m + st .due + 16 ≤ length w = omega (arith, h .room, h .deep, h .fits .work, h .inside, l .two, l .inside, l .passed) in
+        let far : m + st .due + 16 ≤ length w = omega (arith, h .affords .room, h .deep, h .fits .work, h .inside, l .two, l .inside, l .passed) in
         let kept : Kept m 16 w w' = closed-kept m 16 m (st .due) w w' (omega arith) far c in (
           closes (st .due) (i ∷ acc),
           rw (e, bodies-due (st .due) (st .elses), groups-kept m 16 w w' kept (st .depth) (h .deep)),
@@ -155,7 +156,7 @@ module _ (s w : List ℕ) (st : State) (acc : List Item) (h : Stands s w st acc)
             deep = h .deep;
             gathered = gathered-closes s w' m (st .due) (i ∷ acc) (c .inside)
                 (acc-kept m 16 w w' kept s (i ∷ acc) (omega (arith, far)) (gather s w (st .k) m i acc (l .forth) (l .item) (h .gathered)));
-            room = omega (arith, h .room, l .two, l .passed, l .inside, bodies-kept m 16 w w' kept (st .depth) (h .deep));
+            affords = rw (bodies-kept m 16 w w' kept (st .depth) (h .deep)) (affords-whole (h .affords) next m i (l .passed) (omega (arith, l .two)) (l .opening));
             fits = fits-kept m 16 w w' kept s (h .fits);
           },
           l .passed,
@@ -165,14 +166,14 @@ module _ (s w : List ℕ) (st : State) (acc : List Item) (h : Stands s w st acc)
         → Comes s w (st .at) (decoded (dueOf (st .due) (st .elses)) (groupsIn w (st .depth)) acc x)
         (Step.More (record { at = next; k = m; due = st .due + 1; elses = b; depth = st .depth }))
     unfolding CommandIs Comes readingOf dueOf decoded
-    prefix-comes b next m (i, e, l) = (
+    prefix-comes b next m (i, e, l, apart) = (
       i ∷ acc,
       rw (e, bodies-due (st .due) (st .elses), add-one (st .due)),
       record {
         inside = l .inside;
         deep = h .deep;
         gathered = gather s w (st .k) m i acc (l .forth) (l .item) (h .gathered);
-        room = omega (arith, h .room, l .two, l .passed, l .inside);
+        affords = affords-prefix (h .affords) next m i (l .passed) (l .two) (l .opening) apart;
         fits = h .fits;
       },
       l .passed,
@@ -180,7 +181,7 @@ module _ (s w : List ℕ) (st : State) (acc : List Item) (h : Stands s w st acc)
 
   closes-room : (next m : ℕ) (x : Got Decoded) → CommandIs s w (st .at) (st .k) x (Command.Whole next m) → m + st .due ≤ length w
   unfolding CommandIs
-  closes-room next m x (i, e, l) = omega (arith, h .room, h .deep, h .fits .work, h .inside, l .two, l .inside, l .passed)
+  closes-room next m x (i, e, l) = omega (arith, h .affords .room, h .deep, h .fits .work, h .inside, l .two, l .inside, l .passed)
 
 module _ (s w w' : List ℕ) (st : State) (acc : List Item) (x : Got Decoded) (c : Command) (h : Stands s w st acc) (wr : Written s w w' (st .at) (st .k) x c) where
   is-now : {r : Command} → c ≡ r → CommandIs s w' (st .at) (st .k) x r

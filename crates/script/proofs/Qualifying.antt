@@ -23,6 +23,7 @@ use Rattle.strings.specs.declared.OneString.{OneString}
 use Rattle.strings.specs.declared.TwoStrings.{TwoStrings}
 use Rattle.strings.proofs.Callers.{string-not, string-at, string-is, pair-not, pair-at, pair-is, string-few, string-writable}
 use Rattle.script.specs.Words.{head, changeKind, pointKind, OpAt, ItemAt}
+use Rattle.script.specs.Depth.{openAfter}
 use Rattle.script.specs.Reading.{Room, Laid, Kept, KeptBy, CommandIs, Written}
 use Rattle.script.specs.Commands.{refusedByString, refusedByPair}
 use Rattle.script.specs.declared.Command.{Command}
@@ -57,7 +58,7 @@ module _ (s w : List ℕ) (place at k : ℕ) (r : Room s w place at k) where
     abbrev written : List ℕ
     written = stringWords (qualifiersOf q) start (end - start)
 
-    pub string-room : k + 1 + length (stringWords (qualifiersOf q) start (end - start)) + 47 ≤ length w
+    pub string-room : k + 1 + length (stringWords (qualifiersOf q) start (end - start)) + 31 ≤ length w
     string-room =
         omega (arith, r .room, r .fits .work, r .named, r .inside, string-few s at q start end next stands, stands .after, stands .ordered, stands .ends, stands .within)
 
@@ -96,7 +97,7 @@ module _ (s w : List ℕ) (place at k : ℕ) (r : Room s w place at k) where
     pub points-written : (q : Quals) (start end next : ℕ) → x ≡ OneString.Next q start end next → (v m : ℕ) (w' : List ℕ) → v ≡ head (pointKind after) place
         → w' ≡ sets (set w k v) (k + 1) (stringWords (qualifiersOf q) start (end - start)) → m ≡ k + 1 + length (stringWords (qualifiersOf q) start (end - start))
         → Written s w w' place k (decode false place (points after) (cursorAt s at)) (Command.Whole next m)
-    unfolding decode andThen ItemAt OpAt CommandIs KeptBy
+    unfolding decode andThen ItemAt OpAt CommandIs KeptBy openAfter
     points-written q start end next is v m w' hd we me =
         let stands = string-at s at (qualifiedString false (cursorAt s at)) x read q start end next is in
         let few = string-few s at q start end next stands in
@@ -111,6 +112,7 @@ module _ (s w : List ℕ) (place at k : ℕ) (r : Room s w place at k) where
               inside = stands .within;
               forth = omega arith;
               two = omega (arith, r .named, few, stands .after, stands .ordered, stands .ends, stands .within);
+              opening = λ n. omega arith;
               item = (string-head q start end next stands v ∙ hd, string-there q start end next stands v);
             },
           );
@@ -130,7 +132,7 @@ module _ (s w : List ℕ) (place at k : ℕ) (r : Room s w place at k) where
         → w' ≡ sets (set w k v) (k + 1) (stringWords (qualifiersOf q) start (end - start)) → m ≡ k + 1 + length (stringWords (qualifiersOf q) start (end - start))
         → u ≡ second + 32768 * (second-end - second)
         → Written s w (set w' m u) place k (decode false place (alters change pointing) (cursorAt s at)) (Command.Whole next (m + 1))
-    unfolding decode andThen ItemAt OpAt CommandIs alterOp KeptBy
+    unfolding decode andThen ItemAt OpAt CommandIs alterOp KeptBy openAfter
     alters-written q start end second second-end next is v m u w' hd we me wd =
         let stands = pair-at s at (twoStrings (cursorAt s at)) x read q start end second second-end next is in
         let few = string-few s at q start end second (stands .first) in
@@ -151,6 +153,7 @@ module _ (s w : List ℕ) (place at k : ℕ) (r : Room s w place at k) where
               inside = stands .within;
               forth = omega arith;
               two = omega (arith, r .named, few, stands .first .after, stands .first .ordered, stands .first .ends, stands .ordered, stands .ends, stands .within);
+              opening = λ n. omega arith;
               item = (
                 n,
                 refl,

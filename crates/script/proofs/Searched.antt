@@ -1,11 +1,14 @@
 -- Commands with a search expression in words. Assumes nothing.
 use mathlib.Core.Path.{_≡_, refl, sym, ap, _∙_, subst}
+use mathlib.Core.Logic.{_⊎_, inl, inr}
 use mathlib.Core.Bool.{Bool, true, false}
 use mathlib.Core.List.{List, [], _∷_, _++_}
 use Prim.Native.Nat.{ℕ, zero, suc, _+_, _-_, _*_, _≤_, _<_}
+use native.Mathlib.Nat.{eq-or-lt-of-le}
 use native.Mathlib.Omega.{arith}
 use lib.ListN.{length, take, drop, getD, set, length-set, length-append, length-drop, List·getD-append}
 use lib.Seq.{length-take-le, getD-take, getD-drop, getD-append-add}
+use Rattle.definitions.specs.Bytes.{isDigit}
 use Rattle.definitions.specs.Search.{Search}
 use Rattle.definitions.specs.Edit.{Test, is, isNot}
 use Rattle.definitions.specs.Control.{Seek, Item, seek, opens, branch, loop}
@@ -20,7 +23,8 @@ use Rattle.reader.specs.Shapes.{seekOf}
 use Rattle.searches.specs.Parsing.{Room as SearchRoom, Written as SearchWritten, Parsed}
 use Rattle.searches.specs.declared.Parse.{Parse}
 use Rattle.script.specs.Words.{head, seekKind, SearchAt, OpenerAt, ItemAt}
-use Rattle.script.specs.Reading.{Room, Laid, Kept, KeptBy, CommandIs, Written}
+use Rattle.script.specs.Depth.{openAfter}
+use Rattle.script.specs.Reading.{Room, Laid, Apart, Kept, KeptBy, CommandIs, Written}
 use Rattle.script.specs.Searches.{refusedSearch, branchKind, loopKind, Found, Searched}
 use Rattle.script.specs.declared.Command.{Command}
 use Rattle.script.proofs.Keeping.{kept-set}
@@ -53,7 +57,7 @@ module _ (s w : List ℕ) (place at k : ℕ) (r : Room s w place at k) where
         ∙ getD-drop (length w - 16) w (j - (length w - 16)) 0 ∙ ap (λ (i : ℕ). getD w i 0) f
 
     module _ (kept : take (k + 2) ys ≡ take (k + 2) (take (length w - 16) w)) where
-      near : k + 2 + 46 ≤ length w
+      near : k + 2 + 32 ≤ length w
       near = omega (arith, r .room, r .named, r .inside, r .fits .work)
 
       low : (j : ℕ) → j < k + 2 → getD (ys ++ drop (length w - 16) w) j 0 ≡ getD w j 0
@@ -85,6 +89,7 @@ module _ (s w : List ℕ) (place at k : ℕ) (r : Room s w place at k) where
             passed = omega (arith, wr .after);
             inside = wr .within;
             two = omega (arith, wr .room);
+            spare = λ digit. omega (arith, wr .spare digit);
           }
 
       pub search-small : (next m : ℕ) (x : ℕ → Got Search) → SearchWritten s (take (length w - 16) w) ys at (k + 2) 0 x next m → m ≤ 40000
@@ -121,28 +126,40 @@ module _ (s w w' : List ℕ) (place at k : ℕ) (r : Room s w place at k) (first
     pub found : Found s w w' at k first next m (searchExpression (cursorAt s at))
     found = found-next s w w' at k first (searchExpression (cursorAt s at)) a h next m e
 
-    laid : (i : Item) (after due : ℕ) → place + 1 + due ≤ at → due ≤ 1 → next ≤ after → after ≤ length s → ItemAt s w' k m i → Laid s w' place k after m due i
-    laid i after due long le from to it =
+    laid : (i : Item) (after due : ℕ) → place + 1 + due ≤ at → due ≤ 1 → next ≤ after → after ≤ length s → ((n : ℕ) → openAfter n i ≡ n + due) → ItemAt s w' k m i
+        → Laid s w' place k after m due i
+    laid i after due long le from to opening it =
         let f = found in
         record {
           passed = omega (arith, r .named, f .passed);
           inside = to;
           forth = omega (arith, f .forth);
           two = omega (arith, r .named, f .two, f .inside, f .passed);
+          opening = opening;
           item = it;
         }
+
+    -- the closing delimiter of a search's last string leaves a word, and so does THEN
+    apart : (after : ℕ) → place + 2 ≤ at → next ≤ after → after ≤ length s → Apart s place k after m
+    apart after long from to =
+        let f = found in
+        record { named = λ no-digit. omega (arith, f .two, f .inside, f .passed); followed = λ digit. by digit (eq-or-lt-of-le from) }
+      where
+        by : isDigit (getD s after 0) ≡ true → (next ≡ after) ⊎ (next < after) → m + 3 ≤ k + 2 * (after - place)
+        by digit (inr less) = let f = found in omega (arith, f .two, f .inside, f .passed)
+        by digit (inl same) = let f = found in omega (arith, f .spare (rw same digit), f .inside, f .passed)
 
     lies-at : (f : ℕ) → first ≡ f → SearchAt s w' k m f (found .search)
     lies-at f hd = subst (λ (y : ℕ). SearchAt s w' k m y (found .search)) hd (found .lies)
 
     pub seeks-written : (f : Seek) → first ≡ head (seekKind f) place → Written s w w' place k (decode false place (seeks f) (cursorAt s at)) (Command.Whole next m)
-    unfolding decode andThen CommandIs KeptBy ItemAt
+    unfolding decode andThen CommandIs KeptBy ItemAt openAfter
     seeks-written f hd = record {
       kept = found .kept;
       is = (
         seek place f (found .search),
         ap (λ (y : Got Search). andThen y (λ se c₁. got (whole (seek place f se)) c₁)) (found .is),
-        laid (seek place f (found .search)) next 0 (omega (arith, r .named)) (omega arith) (omega arith) (found .inside) (lies-at (head (seekKind f) place) hd),
+        laid (seek place f (found .search)) next 0 (omega (arith, r .named)) (omega arith) (omega arith) (found .inside) (λ n. omega arith) (lies-at (head (seekKind f) place) hd),
       );
     }
 
@@ -158,26 +175,28 @@ module _ (s w w' : List ℕ) (place at k : ℕ) (r : Room s w place at k) (first
 
     pub branches-written : (b : Bool) (after : ℕ) → place + 2 ≤ at → first ≡ head (branchKind b) place → skipThen (cursorAt s next) ≡ cursorAt s after → next ≤ after → after ≤ length s
         → Written s w w' place k (decode false place (branches b) (cursorAt s at)) (Command.Prefix true after m)
-    unfolding decode andThen CommandIs KeptBy
+    unfolding decode andThen CommandIs KeptBy openAfter
     branches-written b after long hd then from to = record {
       kept = found .kept;
       is = (
         opens place (branch (testOf b (found .search))),
         ap (λ (y : Got Search). andThen y (λ se c₁. got (prefix true (opens place (branch (testOf b se)))) (skipThen c₁))) (found .is)
             ∙ ap (got (prefix true (opens place (branch (testOf b (found .search)))))) then,
-        laid (opens place (branch (testOf b (found .search)))) after 1 (omega arith) (omega arith) from to (branch-item b hd),
+        laid (opens place (branch (testOf b (found .search)))) after 1 (omega arith) (omega arith) from to (λ n. refl) (branch-item b hd),
+        apart after long from to,
       );
     }
 
     pub loops-written : (b : Bool) → place + 2 ≤ at → first ≡ head (loopKind b) place
         → Written s w w' place k (decode false place (loops b) (cursorAt s at)) (Command.Prefix false next m)
-    unfolding decode andThen CommandIs KeptBy
+    unfolding decode andThen CommandIs KeptBy openAfter
     loops-written b long hd = record {
       kept = found .kept;
       is = (
         opens place (loop (testOf b (found .search))),
         ap (λ (y : Got Search). andThen y (λ se c₁. got (prefix false (opens place (loop (testOf b se)))) c₁)) (found .is),
-        laid (opens place (loop (testOf b (found .search)))) next 1 (omega arith) (omega arith) (omega arith) (found .inside) (loop-item b hd),
+        laid (opens place (loop (testOf b (found .search)))) next 1 (omega arith) (omega arith) (omega arith) (found .inside) (λ n. refl) (loop-item b hd),
+        apart next long (omega arith) (found .inside),
       );
     }
 

@@ -16,6 +16,7 @@ use Rattle.script.specs.Reading.{dueOf, groupsIn, bodiesIn, readingOf, F
 use Rattle.script.specs.declared.State.{State}
 use Rattle.script.specs.declared.Step.{Step}
 use Rattle.script.specs.declared.Decoded.{Decoded}
+use Rattle.script.proofs.Affording.{affords-first}
 
 -- the state shows a reading from which the rounds that are left come to x
 pub record Going (s w : List ℕ) (st : State) (x : Script) : Type 0 where
@@ -33,7 +34,7 @@ unfolding readScript readingOf dueOf groupsIn bodiesIn Gathered
 begins s w form work = record {
   rounds = suc (length s);
   acc = [];
-  stands = record { inside = omega arith; deep = omega arith; gathered = refl; room = omega arith; fits = record { work = work; small = script-short s form; form = form } };
+  stands = record { inside = omega arith; deep = omega arith; gathered = refl; affords = affords-first s; fits = record { work = work; small = script-short s form; form = form } };
   enough = omega arith;
   comes-to = refl;
 }
@@ -75,7 +76,7 @@ module _ (s w w' : List ℕ) (st : State) (x : Script) (g : Going s w st x) (r :
   ends-done n e = on (now-comes e)
     where
       on : Comes s w' (st .at) (readOne (readingOf s w st (g .acc))) (Step.Done n) → Reads s w' x (Decoded.Items n)
-      on (is, e', lie, le) = (is, sym (g .comes-to) ∙ after-done (g .rounds) (readingOf s w st (g .acc)) (items is) (omega (arith, g .enough)) e', lie, le)
+      on (is, e', lie, room, le) = (is, sym (g .comes-to) ∙ after-done (g .rounds) (readingOf s w st (g .acc)) (items is) (omega (arith, g .enough)) e', lie, room, le)
 
   pub ends-refused : (n p : ℕ) → r ≡ Step.Refused n p → Reads s w' x (Decoded.Refused n p)
   unfolding Comes Reads

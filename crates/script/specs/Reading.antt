@@ -6,6 +6,7 @@ use mathlib.Core.List.{List, [], _∷_}
 use Prim.Native.Nat.{ℕ, zero, suc, _+_, _-_, _*_, _/_, _%_, _≤_, _<_}
 use lib.ListN.{length, getD}
 use lib.Dec.{eqb, leb}
+use Rattle.definitions.specs.Bytes.{isDigit}
 use Rattle.definitions.specs.Control.{times, Item, opens}
 use Rattle.definitions.specs.Table.{isScript}
 use Rattle.definitions.specs.Reader.{Cursor, Got, got, refused, Word, word}
@@ -13,6 +14,7 @@ use Rattle.definitions.specs.Commands.{Decoded as Command-read, whole, prefix}
 use Rattle.definitions.specs.Script.{Due, nothing, body, Group, group, Reading, reading, Script, items, refusedAt, Next, more, done}
 use Rattle.reader.specs.Places.{cursorAt}
 use Rattle.script.specs.Words.{ItemAt, ItemsAt, Gathered}
+use Rattle.script.specs.Depth.{openAfter, deepest, openIn, mostIn}
 use Rattle.script.specs.declared.State.{State}
 use Rattle.script.specs.declared.Step.{Step}
 use Rattle.script.specs.declared.Command.{Command}
@@ -50,13 +52,24 @@ pub record Fits (s w : List ℕ) : Type 0 where
   pub small : length s ≤ 16384
   pub form : isScript s ≡ true
 
--- The state stands for the reading with the items `acc`. Every item takes at most two words a byte, the closes still to be written included;
--- a group's `(` may take one more, which its `)` makes good.
+-- Two words a byte that was read, and two an open group, afford the k words written, the close of each open body (`due`, and `others` in groups) and,
+-- while the script runs, one word for each body that can be open at once: `most` of these, or one more. Where a body is due a count takes three
+-- words: before a digit one is to spare. No digit stands behind a count.
+pub record Affords (s : List ℕ) (at k due others depth : ℕ) (acc : List Item) : Type 0 where
+  pub opened : openIn acc ≡ due + others
+  pub most : ℕ
+  pub so-far : mostIn acc ≤ suc most
+  pub in-groups : others ≤ most
+  pub in-all : due + others ≤ suc most
+  pub room : k + due + others + most ≤ 2 * at + 2 * depth
+  pub spare : 0 < due → isDigit (getD s at 0) ≡ true → suc (k + due + others + most) ≤ 2 * at + 2 * depth
+
+-- the state stands for the reading with the items `acc`
 pub record Stands (s w : List ℕ) (st : State) (acc : List Item) : Type 0 where
   pub inside : st .at ≤ length s
   pub deep : st .depth ≤ 16
   pub gathered : Gathered s w (st .k) acc
-  pub room : st .k + st .due + bodiesIn w (st .depth) + 2 * (length s - st .at) ≤ 2 * length s + st .depth
+  pub affords : Affords s (st .at) (st .k) (st .due) (bodiesIn w (st .depth)) (st .depth) acc
   pub fits : Fits s w
 
 -- the words below k and the last d stay
@@ -77,7 +90,7 @@ pub record Closed (k n : ℕ) (w w' : List ℕ) : Type 0 where
 pub record Room (s w : List ℕ) (place at k : ℕ) : Type 0 where
   pub named : place < at
   pub inside : at ≤ length s
-  pub room : k + 2 * (length s - place) ≤ 2 * length s + 16
+  pub room : k + 2 * (length s - place) ≤ 2 * length s + 32
   pub fits : Fits s w
 
 -- the command's item lies in the words from k up to m; `due` is 1 where a close will belong to it
@@ -86,11 +99,17 @@ pub record Laid (s w : List ℕ) (place k next m due : ℕ) (i : Item) : Type 0 
   pub inside : next ≤ length s
   pub forth : k ≤ m
   pub two : m + due ≤ k + 2 * (next - place)
+  pub opening : (n : ℕ) → openAfter n i ≡ n + due
   pub item : ItemAt s w k m i
+
+-- a prefix that is no count takes a word less, and two less where a digit follows, which is never behind a count
+pub record Apart (s : List ℕ) (place k next m : ℕ) : Type 0 where
+  pub named : isDigit (getD s place 0) ≡ false → m + 2 ≤ k + 2 * (next - place)
+  pub followed : isDigit (getD s next 0) ≡ true → m + 3 ≤ k + 2 * (next - place)
 
 unfoldable pub CommandIs : List ℕ → List ℕ → ℕ → ℕ → Got Command-read → Command → Type 0
 CommandIs s w place k x (Command.Whole next m) = (i : Item) × (x ≡ got (whole i) (cursorAt s next)) × Laid s w place k next m 0 i
-CommandIs s w place k x (Command.Prefix e next m) = (i : Item) × (x ≡ got (prefix e i) (cursorAt s next)) × Laid s w place k next m 1 i
+CommandIs s w place k x (Command.Prefix e next m) = (i : Item) × (x ≡ got (prefix e i) (cursorAt s next)) × Laid s w place k next m 1 i × Apart s place k next m
 CommandIs s w place k x (Command.Refused n p) = x ≡ refused n p
 
 -- a command that was read leaves the words before it, and those of the groups
@@ -113,12 +132,12 @@ counted place (word n c) = cond (leb n 65535) (got (prefix false (opens place (t
 -- the answer r of a round that began at place `at`, with the words after it
 unfoldable pub Comes : List ℕ → List ℕ → ℕ → Next → Step → Type 0
 Comes s w at x (Step.More st) = (acc : List Item) × (x ≡ more (readingOf s w st acc)) × Stands s w st acc × (at < st .at)
-Comes s w at x (Step.Done n) = (is : List Item) × (x ≡ done (items is)) × ItemsAt s w 0 n is × (n ≤ length w)
+Comes s w at x (Step.Done n) = (is : List Item) × (x ≡ done (items is)) × ItemsAt s w 0 n is × (n + deepest 0 is ≤ length w) × (n ≤ 65536)
 Comes s w at x (Step.Refused n p) = x ≡ done (refusedAt n p)
 
 -- ---- the whole script
 
--- the answer r of the reader, with the words after it: the items lie in the words from 0 on
+-- the answer r of the reader, with the words after it: the items lie in the words from 0 on, and leave one word for each body open at once
 unfoldable pub Reads : List ℕ → List ℕ → Script → Decoded → Type 0
-Reads s w x (Decoded.Items n) = (is : List Item) × (x ≡ items is) × ItemsAt s w 0 n is × (n ≤ length w)
+Reads s w x (Decoded.Items n) = (is : List Item) × (x ≡ items is) × ItemsAt s w 0 n is × (n + deepest 0 is ≤ length w) × (n ≤ 65536)
 Reads s w x (Decoded.Refused n p) = x ≡ refusedAt n p

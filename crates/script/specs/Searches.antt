@@ -2,8 +2,9 @@
 use mathlib.Core.Path.{_≡_}
 use mathlib.Core.Bool.{Bool, true, false}
 use mathlib.Core.List.{List}
-use Prim.Native.Nat.{ℕ, _+_, _-_, _*_, _≤_, _<_}
-use lib.ListN.{length}
+use Prim.Native.Nat.{ℕ, suc, _+_, _-_, _*_, _≤_, _<_}
+use lib.ListN.{length, getD}
+use Rattle.definitions.specs.Bytes.{isDigit}
 use Rattle.definitions.specs.Reader.{Got, got, refused}
 use Rattle.definitions.specs.Search.{Search}
 use Rattle.reader.specs.Places.{cursorAt}
@@ -28,7 +29,7 @@ unfoldable pub loopKind : Bool → ℕ
 loopKind true = 47
 loopKind false = 48
 
--- the names of tests have two letters at least
+-- the names of prefixes have two letters at least
 unfoldable pub NameOf : Shape → ℕ → ℕ → Type 0
 NameOf (Plain p) place at = Unit {0}
 NameOf Leaves place at = Unit {0}
@@ -40,9 +41,9 @@ NameOf InsertsLines place at = Unit {0}
 NameOf Replaces place at = Unit {0}
 NameOf (Alters c pointing) place at = Unit {0}
 NameOf (Points after) place at = Unit {0}
-NameOf Repeats place at = Unit {0}
+NameOf Repeats place at = place + 2 ≤ at
 NameOf (Branches b) place at = place + 2 ≤ at
-NameOf BranchesEof place at = Unit {0}
+NameOf BranchesEof place at = place + 2 ≤ at
 NameOf (Loops b) place at = place + 2 ≤ at
 NameOf Unknown place at = Unit {0}
 
@@ -56,6 +57,7 @@ pub record Found (s w w' : List ℕ) (at k first next m : ℕ) (x : Got Search) 
   pub passed : at < next
   pub inside : next ≤ length s
   pub two : m + 2 * (length s - next) ≤ k + 2 + 2 * (length s - at)
+  pub spare : isDigit (getD s next 0) ≡ true → suc m + 2 * (length s - next) ≤ k + 2 + 2 * (length s - at)
 
 unfoldable pub Searched : List ℕ → List ℕ → List ℕ → ℕ → ℕ → ℕ → Got Search → Parse → Type 0
 Searched s w w' at k first x (Parse.Next next m) = Found s w w' at k first next m x

@@ -25,7 +25,7 @@ fn flag(b: bool) -> u32
 
 // A group that is the body of nothing.
 fn open_bare(w: &mut [u32], st: State) -> Step
-    requires { ⌜ ((s : List ℕ) × (acc : List Item) × Stands s (now w) st acc × (st .at < length s)) × (st .depth < 16) ⌝ }
+    requires { ⌜ ((s : List ℕ) × (acc : List Item) × Stands s (now w) st acc × (st .at < length s)) × (st .depth < 16) × (st .due ≡ 0) ⌝ }
     ensures { λ r. ⌜ ((s : List ℕ) (acc : List Item) → Stands s (now (w .entry)) st acc → st .at < length s → Comes s (now (w .exit)) (st .at) (more (reading (cursorAt s (st .at + 1)) nothing (group 1 false ∷ groupsIn (now (w .entry)) (st .depth)) (bracket ∷ opens (st .at) bare ∷ acc))) r) ⌝ }
 {
     let at = st.at;
@@ -80,7 +80,7 @@ pub fn open_group(w: &mut [u32], st: State) -> Step
 
 // The group that must follow ELSE, which stands before p; it closes so many bodies.
 fn else_group(s: &[u8], w: &mut [u32], st: State, bodies: usize, p: usize) -> Step
-    requires { ⌜ ((acc : List Item) × Stands (now s) (now w) st acc) × (0 < st .depth) × (st .at < p) × (p ≤ length (now s)) × (bodies ≡ getD (now w) (length (now w) - st .depth) 0 / 2) ⌝ }
+    requires { ⌜ ((acc : List Item) × Stands (now s) (now w) st acc) × (0 < st .depth) × (st .at < p) × (p ≤ length (now s)) × (bodies ≡ getD (now w) (length (now w) - st .depth) 0 / 2) × (st .due ≡ 0) ⌝ }
     ensures { λ r. ⌜ ((acc : List Item) → Stands (now (s .entry)) (now (w .entry)) st acc → Comes (now (s .entry)) (now (w .exit)) (st .at) (elseGroup bodies (groupsIn (now (w .entry)) (st .depth - 1)) acc (cursorAt (now (s .entry)) p)) r) ⌝ }
 {
     if next_byte(s, p) != 40 {
@@ -103,7 +103,7 @@ fn else_group(s: &[u8], w: &mut [u32], st: State, bodies: usize, p: usize) -> St
 
 // The end of a group that closes so many bodies.
 fn end_group(w: &mut [u32], st: State, bodies: usize) -> Step
-    requires { ⌜ ((s : List ℕ) × (acc : List Item) × Stands s (now w) st acc × (st .at < length s)) × (0 < st .depth) × (bodies ≡ getD (now w) (length (now w) - st .depth) 0 / 2) ⌝ }
+    requires { ⌜ ((s : List ℕ) × (acc : List Item) × Stands s (now w) st acc × (st .at < length s)) × (0 < st .depth) × (bodies ≡ getD (now w) (length (now w) - st .depth) 0 / 2) × (st .due ≡ 0) ⌝ }
     ensures { λ r. ⌜ ((s : List ℕ) (acc : List Item) → Stands s (now (w .entry)) st acc → st .at < length s → Comes s (now (w .exit)) (st .at) (more (reading (cursorAt s (st .at + 1)) nothing (groupsIn (now (w .entry)) (st .depth - 1)) (closes bodies acc))) r) ⌝ }
 {
     let k = st.k;

@@ -4,6 +4,7 @@ pub mod groups; // groups.rt: brackets and ELSE
 pub mod inserts; // inserts.rt: IS, I and R
 pub mod named; // named.rt: the command that a name selects
 pub mod qualified; // qualified.rt: commands with qualified strings
+pub mod reading; // reading.rt: the reader that carries its place
 pub mod rounds; // rounds.rt: separators, the end, and what a command comes to
 pub mod searching; // searching.rt: commands with a search expression
 pub mod words; // words.rt: first words, words and closes
@@ -29,6 +30,7 @@ use reader::bytes::is_letter;
 use reader::names::name;
 use reader::spaces::skip_comment;
 use reader::spaces::skip_spaces;
+use reading::round;
 use rounds::finish;
 use rounds::line_end;
 use rounds::script_end;
@@ -137,7 +139,7 @@ pub fn read_script(s: &[u8], w: &mut [u32]) -> Decoded
         depth: 0,
     };
     loop {
-        let step = read_one(s, w, st);
+        let step = round(s, w, st);
         match step {
             Step::More(next) => {
                 st = next;

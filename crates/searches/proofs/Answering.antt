@@ -51,6 +51,7 @@ same-parsed parsed h same = record {
         after = p .after;
         within = p .within;
         room = p .room;
+        spare = p .spare;
       };
   refuses = λ e p is n g. same n g ∙ parsed .refuses e p is n (omega arith);
 }
@@ -69,6 +70,7 @@ with-fuel parsed fuel h = record {
         after = p .after;
         within = p .within;
         room = p .room;
+        spare = p .spare;
       };
   refuses = λ e p is n g. parsed .refuses e p is fuel h;
 }

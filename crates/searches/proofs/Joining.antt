@@ -1,11 +1,13 @@
 -- Laws of parts that an operator joins: the loops of conjunctions and alternatives. Assumes nothing.
 use mathlib.Core.Path.{_≡_, refl, sym, ap, _∙_}
+use mathlib.Core.Bool.{true}
 use mathlib.Core.List.{List}
 use mathlib.Core.Option.{none}
 use Prim.Native.Nat.{ℕ, suc, _+_, _-_, _*_, _≤_, _<_}
 use native.Mathlib.Omega.{arith}
-use lib.ListN.{length, take, set, length-set}
+use lib.ListN.{length, take, getD, set, length-set}
 use lib.Seq.{take-take, take-set-le}
+use Rattle.definitions.specs.Bytes.{isDigit}
 use Rattle.definitions.specs.Reader.{Cursor, Got, refused}
 use Rattle.definitions.specs.Search.{Search}
 use Rattle.definitions.specs.Strings.{operator}
@@ -29,6 +31,7 @@ pub record Joined (s first w : List ℕ) (at k bound : ℕ) (whole : ℕ → Cur
   pub after : suc at ≤ i
   pub within : i ≤ length s
   pub room : m + 2 * (length s - i) ≤ k + 2 * (length s - at)
+  pub spare : isDigit (getD s i 0) ≡ true → suc m + 2 * (length s - i) ≤ k + 2 * (length s - at)
 
 -- The reader of a part needs fuel 3 * (bytes left) + need. The reader of the whole begins at `at`, and writes from k on.
 module _ {s : List ℕ} {op kind : ℕ} {right whole : ℕ → Cursor → Got Search} {join : Search → Search → Search} {more : ℕ → Search → Cursor → Got Search}
@@ -55,6 +58,7 @@ module _ {s : List ℕ} {op kind : ℕ} {right whole : ℕ → Cursor → Got Se
     after = first .after;
     within = first .within;
     room = first .room;
+    spare = first .spare;
   }
 
   module _ {first w : List ℕ} {i m : ℕ} (joined : Joined s first w at k bound whole more i m) where
@@ -71,6 +75,7 @@ module _ {s : List ℕ} {op kind : ℕ} {right whole : ℕ → Cursor → Got Se
       after = joined .after;
       within = joined .within;
       room = joined .room;
+      spare = joined .spare;
     })
 
     module _ {next : ℕ} (operates : Operated s op i next) where
@@ -131,4 +136,5 @@ module _ {s : List ℕ} {op kind : ℕ} {right whole : ℕ → Cursor → Got Se
                 after = omega (arith, joined .after, operates .after, second .after);
                 within = second .within;
                 room = omega (arith, joined .room, second .room, operates .after, operates .within, second .after, second .within);
+                spare = λ digit. omega (arith, joined .room, second .room, operates .after, operates .within, second .after, second .within);
               }

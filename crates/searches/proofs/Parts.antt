@@ -74,6 +74,7 @@ module _ (s : List ℕ) (at deep : ℕ) {i : ℕ} (spaces : skipSpaces (cursorAt
           after = omega (arith, on .0, read .after);
           within = on .1;
           room = omega (arith, on .0, on .1, read .room, read .within);
+          spare = λ digit. omega (arith, on .0, on .1, read .room, read .within, bracket-within);
         })
         inner-closed (Answer.Refused e p) closes on = is-refused refl (λ n h. inside n h ∙ closes (read .search))
 

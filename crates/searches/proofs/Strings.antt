@@ -17,7 +17,7 @@ use Rattle.matching.proofs.Keeping.{string-encodes}
 use Rattle.reader.specs.Places.{cursorAt}
 use Rattle.strings.specs.declared.OneString.{OneString}
 use Rattle.strings.specs.Answers.{StringAt, Quoted}
-use Rattle.strings.proofs.Callers.{string-not, string-at, string-is, string-few, string-writable}
+use Rattle.strings.proofs.Callers.{string-not, string-at, string-is, string-few, string-spare, string-writable}
 use Rattle.searches.specs.declared.Parse.{Parse}
 use Rattle.searches.specs.Parsing.{noPart, stringPart, Room, Parsed}
 use Rattle.searches.proofs.Answering.{is-read, is-refused}
@@ -59,6 +59,7 @@ module _ (s w : List ℕ) (at k : ℕ) (room : Room s w at k) (a : OneString) (r
       after = omega (arith, stands .after, stands .ordered, stands .ends);
       within = stands .within;
       room = omega (arith, few);
+      spare = λ digit. omega (arith, string-spare s at q start end next stands (stands .closed digit));
     }))
 
   pub string-refused : (e p : ℕ) (r : Parse) → a ≡ OneString.Refused e p → r ≡ noPart a → (w′ : List ℕ)

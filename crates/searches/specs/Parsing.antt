@@ -4,7 +4,8 @@ use mathlib.Core.Bool.{true}
 use mathlib.Core.List.{List}
 use mathlib.Core.Option.{Option, none, some}
 use Prim.Native.Nat.{ℕ, suc, _+_, _-_, _*_, _≤_}
-use lib.ListN.{length, take}
+use lib.ListN.{length, take, getD}
+use Rattle.definitions.specs.Bytes.{isDigit}
 use Rattle.definitions.specs.Table.{isScript}
 use Rattle.definitions.specs.Reader.{Cursor, Got, got, refused, andThen}
 use Rattle.definitions.specs.Search.{Search, one}
@@ -55,7 +56,7 @@ pub record Room (script words : List ℕ) (at k : ℕ) : Type 0 where
   pub fits : k + 2 * (length script - at) ≤ 1073741823
 
 -- A search was read from `at` up to `next`, and lies in the words from k up to m; the words before k are as they were, and two words for each
--- byte that is left are still free. x n is the definition's answer with fuel n, and `bound` is enough fuel.
+-- byte that is left are still free, and one more where a digit follows. x n is the definition's answer with fuel n, and `bound` is enough fuel.
 pub record Written (script before words : List ℕ) (at k bound : ℕ) (x : ℕ → Got Search) (next m : ℕ) : Type 0 where
   pub search : Search
   pub is : (n : ℕ) → bound ≤ n → x n ≡ got search (cursorAt script next)
@@ -64,6 +65,7 @@ pub record Written (script before words : List ℕ) (at k bound : ℕ) (x : ℕ 
   pub after : suc at ≤ next
   pub within : next ≤ length script
   pub room : m + 2 * (length script - next) ≤ k + 2 * (length script - at)
+  pub spare : isDigit (getD script next 0) ≡ true → suc m + 2 * (length script - next) ≤ k + 2 * (length script - at)
 
 -- the answer r of a reader of a search at `at`, with the words before and after
 pub record Parsed (script before words : List ℕ) (at k bound : ℕ) (x : ℕ → Got Search) (r : Parse) : Type 0 where

@@ -82,6 +82,15 @@ module _ (s : List ℕ) (at : ℕ) (q : Quals) (start end next : ℕ) (stands : 
       few-words (length (columnWords (columnsOf (q .from) (q .to)))) (q .from) at start end next (length s)
       (cw .0) (cw .1) (stands .after) (stands .ordered) (stands .ends) (stands .within) (stands .columned)
 
+  -- its closing delimiter is a byte too: a word is to spare
+  pub string-spare : end < next → suc (length (stringWords (qualifiersOf q) start (end - start))) + 2 * (length s - next) ≤ 2 * (length s - at)
+  unfolding stringWords qualifiersOf columnsIn
+  string-spare less =
+      let cw = column-words (q .from) (q .to) in
+      let few = few-words (length (columnWords (columnsOf (q .from) (q .to)))) (q .from) at start end (next - 1) (length s)
+      (cw .0) (cw .1) (stands .after) (stands .ordered) (omega arith) (omega (arith, stands .within)) (stands .columned) in
+      omega (arith, few, stands .within)
+
   pub string-writable : isScript s ≡ true → Writable q start (end - start)
   string-writable form = record {
     anchored = stands .small .anchor;

@@ -1,19 +1,23 @@
 -- Laws of qualified strings: the string at its opening delimiter, and a second string after it. Assumes nothing.
-use mathlib.Core.Path.{_≡_, refl, ap, _∙_}
-use mathlib.Core.Bool.{Bool, true, false, _&&_}
-use mathlib.Core.List.{List}
-use Prim.Native.Nat.{ℕ, _+_, _≤_, _<_}
+use mathlib.Core.Path.{_≡_, refl, sym, ap, _∙_, subst}
+use mathlib.Core.Logic.{_⊎_, inl, inr}
+use mathlib.Core.Bool.{Bool, true, false, _&&_, _||_, false≢true}
+use mathlib.Core.List.{List, [], _∷_}
+use Prim.Native.Nat.{ℕ, zero, suc, _+_, _≤_, _<_}
+use native.Mathlib.Nat.{eq-or-lt-of-le}
 use native.Mathlib.Omega.{arith}
-use lib.ListN.{length, getD}
+use lib.ListN.{length, drop, getD}
+use lib.Dec.{eqb}
 use lib.Seq.{slice, slice-empty, slice-cons, length-slice}
-use borrow.Author.Tests.{eq-eqb, ne-eqb}
+use borrow.Author.Tests.{eq-eqb, ne-eqb, eqb-true}
+use Rattle.definitions.specs.Bytes.{isDigit}
 use Rattle.definitions.specs.Matching.{qualifiers, qualified}
-use Rattle.definitions.specs.Reader.{andThen, placeAt, stringNext, advance, pastDelimiter, afterString}
+use Rattle.definitions.specs.Reader.{Cursor, cursor, andThen, placeAt, nextByte, isNext, afterByte, stringUpTo, stringNext, advance, pastDelimiter, afterString}
 use Rattle.definitions.specs.Strings.{wantsBytes, isEmpty, readString, startQualifiers, qualifiedString, secondString, twoStrings}
 use Rattle.matching.specs.declared.Quals.{Quals}
 use Rattle.matching.specs.Quals.{qualifiersOf}
 use Rattle.reader.specs.Places.{cursorAt}
-use Rattle.reader.proofs.AtPlace.{next-in, after-in}
+use Rattle.reader.proofs.AtPlace.{is-next, next-in, next-at, after-in, after-next}
 use Rattle.strings.specs.declared.Read.{Read}
 use Rattle.strings.specs.declared.OneString.{OneString}
 use Rattle.strings.specs.declared.TwoStrings.{TwoStrings}
@@ -47,6 +51,43 @@ module _ (s : List ℕ) (start end d next : ℕ) (string : stringNext d (cursorA
   unfolding afterString
   after-is = ap (pastDelimiter d) passed ∙ closed
 
+-- a string goes up to its delimiter d, the line's end or the script's end: the byte there
+abbrev Stopped : ℕ → ℕ → Type 0
+Stopped d b = (b ≡ d) ⊎ (isDigit b ≡ false)
+
+stops : (d i : ℕ) (bs : List ℕ) → Stopped d (nextByte (cursor i (drop (length (stringUpTo d bs)) bs)))
+unfolding stringUpTo nextByte isDigit
+stops d i [] = inr refl
+stops d i (b ∷ bs) = go (eqb b d) (eqb b 10) refl refl (stops d i bs)
+  where
+    go : (t u : Bool) → eqb b d ≡ t → eqb b 10 ≡ u → Stopped d (nextByte (cursor i (drop (length (stringUpTo d bs)) bs)))
+        → Stopped d (nextByte (cursor i (drop (length {A = ℕ} (elim (t || u) [ true ↦ [] | false ↦ b ∷ stringUpTo d bs ])) (b ∷ bs))))
+    go true u e f rest = inl (eqb-true b d e)
+    go false true e f rest = let at : b ≡ 10 = eqb-true b 10 f in inr (rw at)
+    go false false e f rest = rest
+
+-- a delimiter that is passed is a byte
+passes : (s : List ℕ) (end d : ℕ) → nextByte (cursorAt s end) ≡ d → pastDelimiter d (cursorAt s end) ≡ cursorAt s end → isDigit d ≡ false
+unfolding pastDelimiter placeAt isDigit
+passes s end zero e closed = refl
+passes s end (suc d) e closed =
+    let on : cursorAt s (end + 1) ≡ cursorAt s end = sym (after-next s end (rw e (omega arith))) ∙ rw (is-next (suc d) (cursorAt s end) e) at closed in
+    absurd (omega (arith, ap placeAt on))
+
+module _ (s : List ℕ) (start end d next : ℕ) (passed : advance (length (stringNext d (cursorAt s start))) (cursorAt s start) ≡ cursorAt s end)
+    (closed : pastDelimiter d (cursorAt s end) ≡ cursorAt s next) where
+  stopped : Stopped d (nextByte (cursorAt s end))
+  unfolding advance stringNext nextByte
+  stopped = subst (λ (c : Cursor). Stopped d (nextByte c)) passed (stops d start (drop start s))
+
+  pub is-closed : end ≤ next → isDigit (getD s next 0) ≡ true → end < next
+  is-closed le digit = by (eq-or-lt-of-le le) stopped
+    where
+      by : (end ≡ next) ⊎ (end < next) → Stopped d (nextByte (cursorAt s end)) → end < next
+      by (inr less) stop = less
+      by (inl e) (inr other) = absurd (false≢true (sym other ∙ rw (next-at s end, e) digit))
+      by (inl e) (inl is) = absurd (false≢true (sym (passes s end d is (rw (← e) at closed)) ∙ rw (← is, next-at s end, e) digit))
+
 -- a string that is as long as a line at most
 short : (s : List ℕ) (start end d : ℕ) → stringNext d (cursorAt s start) ≡ slice start end s → end ≤ length s → Short s → end ≤ start + 255
 short s start end d e h lines = omega (arith, lines d start, ap length e ∙ length-slice start end s h)
@@ -70,6 +111,7 @@ module _ (s : List ℕ) (from at : ℕ) (q : Quals) (opened : Open s from q at) 
           after = omega (arith, opened .from);
           ordered = ordered;
           ends = ends;
+          closed = is-closed s (at + 1) end (getD s at 0) next passed closed ends;
           within = within;
           small = opened .small;
           columned = λ h. omega (arith, opened .columned h);

@@ -1,12 +1,13 @@
 -- What the answers of the code stand for, in the terms of the definitions. Assumes nothing.
 use mathlib.Core.Path.{_≡_}
-use mathlib.Core.Bool.{cond}
+use mathlib.Core.Bool.{true, cond}
 use mathlib.Core.List.{List}
 use mathlib.Core.Option.{Option}
 use Prim.Native.Nat.{ℕ, suc, _+_, _≤_, _<_}
 use lib.Dec.{leb}
-use lib.ListN.{length}
+use lib.ListN.{length, getD}
 use lib.Seq.{slice}
+use Rattle.definitions.specs.Bytes.{isDigit}
 use Rattle.definitions.specs.Matching.{Qualifiers, Qualified, qualified}
 use Rattle.definitions.specs.Reader.{Cursor, Got, got, refused, andThen, placeAt, afterByte, expect, skipSpaces, number, stringNext}
 use Rattle.definitions.specs.Strings.{added, setColumns, Pair, pair}
@@ -115,11 +116,12 @@ noString (Read.Refused k p) = OneString.Refused k p
 abbrev pub Short : List ℕ → Type 0
 Short s = (d i : ℕ) → length (stringNext d (cursorAt s i)) ≤ 255
 
--- where the string lies: after `at`, and after the columns if there are any
+-- Where the string lies: after `at`, and after the columns if there are any. Where a digit follows, its delimiter was read: else the line ends there.
 pub record StringAt (s : List ℕ) (at : ℕ) (q : Quals) (start end next : ℕ) : Type 0 where
   pub after : suc at ≤ start
   pub ordered : start ≤ end
   pub ends : end ≤ next
+  pub closed : isDigit (getD s next 0) ≡ true → end < next
   pub within : next ≤ length s
   pub small : Small q
   pub columned : 0 < q .from → suc (suc at) ≤ start

@@ -18,9 +18,9 @@ use reader::bytes::expect;
 use reader::bytes::is_delimiter;
 use reader::bytes::is_digit;
 use reader::bytes::next_byte;
-use reader::bytes::upper;
 use reader::numbers::number;
 use reader::spaces::skip_spaces;
+use text::upper;
 
 // A qualifier that stands at `at` was added or not; `next` is the place after it.
 fn added_at(a: Added, at: usize, next: usize) -> Read

@@ -1,6 +1,6 @@
 use mathlib.Core.Path.{refl}
 use Rattle.control.proofs.Failing.{else-opens, else-last, else-close, else-group, else-inner, else-plain}
-use Rattle.control.proofs.Standing.{stands-in, kept-none, kept-pushed}
+use Rattle.control.proofs.Standing.{stands-in, kept-none, kept-written}
 use Rattle.control.proofs.Classes.{readable}
 use native.Mathlib.Omega.{arith}
 use borrow.Author.Needs.{needs}
@@ -73,7 +73,7 @@ same-length-4 c = search needs
 
 -- src/lib.rt:124:13
 returns-4 : tie.Need-returns-4
-returns-4 c = (kept-pushed _ _ _ _ _ _ (c .before .before .before .push .ensures), λ s items frames h. else-group _ _ _ _ _ _ _ (c .before .before .before .before .before .before .before .before .before .here .ensures) (c .before .before .before .before .before .before .before .before .before .before .before .before .pre .1) _ (c .before .before .before .before .before .before .before .before .before .before .before .before .pre .2) s items frames h _ (c .before .before .before .push .ensures) (c .stand4 .ensures) (c .before .before .before .before .before .before .if4 .taken) (c .before .before .before .before .before .if5 .taken))
+returns-4 c = (kept-written _ _ _ _ _ (c .before .before .before .push .ensures) (omega arith), λ s items frames h. else-group _ _ _ _ _ _ _ (c .before .before .before .before .before .before .before .before .before .here .ensures) (c .before .before .before .before .before .before .before .before .before .before .before .before .pre .1) _ (c .before .before .before .before .before .before .before .before .before .before .before .before .pre .2) s items frames h _ (c .before .before .before .push .ensures) (c .stand4 .ensures) (c .before .before .before .before .before .before .if4 .taken) (c .before .before .before .before .before .if5 .taken))
 
 -- src/lib.rt:126:9
 stand-requires-5 : tie.Need-stand-requires-5

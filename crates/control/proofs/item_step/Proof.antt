@@ -1,7 +1,6 @@
 use mathlib.Core.Path.{refl}
 use Rattle.control.proofs.Pulling.{running-in, skipping-in, failing-in, leaving-in, running-step, skipping-step, failing-step, leaving-step}
 use Rattle.control.proofs.Standing.{kept-none}
-use borrow.Author.Needs.{needs}
 use Rattle.control.proofs.item_step.Statement.{statement}
 use Rattle.control.proofs.item_step.Tie as tie
 

@@ -1,7 +1,6 @@
 use Rattle.control.proofs.Failing.{outside, line-end, line-plain}
 use Rattle.control.proofs.Classes.{readable}
 use mathlib.Core.List.{[]}
-use borrow.Author.Needs.{needs}
 use Rattle.control.proofs.line_item.Statement.{statement}
 use Rattle.control.proofs.line_item.Tie as tie
 

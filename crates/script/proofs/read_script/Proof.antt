@@ -18,39 +18,39 @@ abbrev μ-loop : tie.MeasureT-loop
 loop-holds : tie.Need-loop-holds Inv-loop μ-loop
 loop-holds c = (begins _ _ (c .before .before .pre .0) (c .before .before .pre .1), refl)
 
-read-one-requires : tie.Need-read-one-requires Inv-loop μ-loop
-read-one-requires c κs = (c .before .loop .inv .0 .acc, c .before .loop .inv .0 .stands)
+round-requires : tie.Need-round-requires Inv-loop μ-loop
+round-requires c κs = (c .before .loop .inv .0 .acc, c .before .loop .inv .0 .stands)
 
 enum-known-step : tie.Need-enum-known-step Inv-loop μ-loop
 enum-known-step c = search needs
 
 loop-less : tie.Need-loop-less Inv-loop μ-loop
 loop-less c =
-    let g = goes-on _ _ _ _ _ (c .before .before .before .before .before .before .before .loop .inv .0) _ (c .before .before .before .before .before .read-one .ensures) _ (c .before .step .given .1) in
+    let g = goes-on _ _ _ _ _ (c .before .before .before .before .before .before .before .loop .inv .0) _ (c .before .before .before .before .before .round .ensures) _ (c .before .step .given .1) in
     omega (arith, g .1, g .2)
 
 loop-again : tie.Need-loop-again Inv-loop μ-loop
 loop-again c =
-    let g = goes-on _ _ _ _ _ (c .before .before .before .before .before .before .before .loop .inv .0) _ (c .before .before .before .before .before .read-one .ensures) _ (c .before .step .given .1) in
-    (g .0, c .before .before .before .before .before .read-one .kept .1 .0 ∙ c .before .before .before .before .before .before .before .loop .inv .1)
+    let g = goes-on _ _ _ _ _ (c .before .before .before .before .before .before .before .loop .inv .0) _ (c .before .before .before .before .before .round .ensures) _ (c .before .step .given .1) in
+    (g .0, c .before .before .before .before .before .round .kept .1 .0 ∙ c .before .before .before .before .before .before .before .loop .inv .1)
 
 enum-known-step-2 : tie.Need-enum-known-step-2 Inv-loop μ-loop
 enum-known-step-2 c = search needs
 
 same-length : tie.Need-same-length Inv-loop μ-loop
-same-length c = c .before .before .before .before .before .read-one .kept .1 .0 ∙ c .before .before .before .before .before .before .before .loop .inv .1
+same-length c = c .before .before .before .before .before .round .kept .1 .0 ∙ c .before .before .before .before .before .before .before .loop .inv .1
 
 returns : tie.Need-returns Inv-loop μ-loop
-returns c = ends-done _ _ _ _ _ (c .before .before .before .before .before .before .before .loop .inv .0) _ (c .before .before .before .before .before .read-one .ensures) _ (c .before .step2 .given .1)
+returns c = ends-done _ _ _ _ _ (c .before .before .before .before .before .before .before .loop .inv .0) _ (c .before .before .before .before .before .round .ensures) _ (c .before .step2 .given .1)
 
 enum-known-step-3 : tie.Need-enum-known-step-3 Inv-loop μ-loop
 enum-known-step-3 c = search needs
 
 same-length-2 : tie.Need-same-length-2 Inv-loop μ-loop
-same-length-2 c = c .before .before .before .before .before .read-one .kept .1 .0 ∙ c .before .before .before .before .before .before .before .loop .inv .1
+same-length-2 c = c .before .before .before .before .before .round .kept .1 .0 ∙ c .before .before .before .before .before .before .before .loop .inv .1
 
 returns-2 : tie.Need-returns-2 Inv-loop μ-loop
-returns-2 c = ends-refused _ _ _ _ _ (c .before .before .before .before .before .before .before .loop .inv .0) _ (c .before .before .before .before .before .read-one .ensures) _ _ (c .before .step3 .given .1)
+returns-2 c = ends-refused _ _ _ _ _ (c .before .before .before .before .before .before .before .loop .inv .0) _ (c .before .before .before .before .before .round .ensures) _ _ (c .before .step3 .given .1)
 
 pub read-script-spec : {M : Type 1} → statement M
 read-script-spec =
@@ -59,7 +59,7 @@ read-script-spec =
     Inv-loop
     μ-loop
     loop-holds
-    read-one-requires
+    round-requires
     enum-known-step
     loop-less
     loop-again

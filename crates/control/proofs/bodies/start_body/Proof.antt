@@ -1,5 +1,5 @@
-use Rattle.control.proofs.Starting.{opening-in, opening-two, start-none, start-times, start-round, start-branch, start-loop}
-use Rattle.control.proofs.Standing.{kept-none, kept-pushed}
+use Rattle.control.proofs.Starting.{opening-in, opening-two, opening-few, start-none, start-times, start-round, start-branch, start-loop}
+use Rattle.control.proofs.Standing.{kept-none, kept-written}
 use mathlib.Core.Path.{_∙_, refl}
 use native.Mathlib.Omega.{arith}
 use borrow.Author.Needs.{needs}
@@ -44,7 +44,7 @@ sub-push c = omega (arith, c .before .if2 .left)
 
 -- src/bodies.rt:88:9
 push-requires : tie.Need-push-requires
-push-requires c κs = let p = c .before .before .before .before .before .before .before .before .before .before .before .pre in omega (arith, opening-in (p .0) _ _ _ _ _ (p .1) (p .2) (p .3) (p .4) (p .5))
+push-requires c κs = let p = c .before .before .before .before .before .before .before .before .before .before .before .pre in omega (arith, opening-in (p .0) _ _ _ _ _ (p .1) (p .2) (p .3) (p .4) (p .5), opening-few (p .0) _ _ _ _ _ (p .1) (p .2) (p .3) (p .4) (p .5) _ _ (c .before .before .before .before .before .before .before .before .kind-of .ensures) (c .before .before .before .before .if1 .taken) (c .before .before .times-at .ensures))
 
 -- src/bodies.rt:89:9
 wants-requires : tie.Need-wants-requires
@@ -56,7 +56,7 @@ same-length-2 c = search needs
 
 -- src/bodies.rt:89:9
 returns-2 : tie.Need-returns-2
-returns-2 c = (kept-pushed _ _ _ _ _ _ (c .before .before .before .push .ensures), λ s place o items frames h. start-times _ _ _ _ _ _ (c .before .before .before .before .before .before .before .before .before .before .before .before .kind-of .ensures) _ s place _ _ (c .before .before .before .push .ensures) _ (c .before .before .before .before .before .before .before .before .before .before .place-of .ensures) _ (c .before .before .before .before .before .before .before .before .before .stand .ensures) _ (c .before .before .before .before .before .before .times-at .ensures) (c .before .before .before .before .before .if2 .left) refl (c .before .before .before .before .before .before .before .before .if1 .taken) (c .wants .ensures) o items frames h)
+returns-2 c = (kept-written _ _ _ _ _ (c .before .before .before .push .ensures) (omega arith), λ s place o items frames h. start-times _ _ _ _ _ _ (c .before .before .before .before .before .before .before .before .before .before .before .before .kind-of .ensures) _ s place _ _ (c .before .before .before .push .ensures) _ (c .before .before .before .before .before .before .before .before .before .before .place-of .ensures) _ (c .before .before .before .before .before .before .before .before .before .stand .ensures) _ (c .before .before .before .before .before .before .times-at .ensures) (c .before .before .before .before .before .if2 .left) refl (c .before .before .before .before .before .before .before .before .if1 .taken) (c .wants .ensures) o items frames h)
 
 -- src/bodies.rt:91:5
 push-requires-2 : tie.Need-push-requires-2
@@ -72,7 +72,7 @@ same-length-3 c = search needs
 
 -- src/bodies.rt:93:9
 returns-3 : tie.Need-returns-3
-returns-3 c = (kept-pushed _ _ _ _ _ _ (c .before .before .before .before .push2 .ensures), λ s place o items frames h. start-round _ _ _ _ _ _ (c .before .before .before .before .before .before .before .before .before .before .kind-of .ensures) _ s place _ _ (c .before .before .before .before .push2 .ensures) _ (c .before .before .before .before .before .before .before .before .place-of .ensures) _ (c .before .before .before .before .before .before .before .stand .ensures) (c .before .before .before .before .before .before .if1 .left) (c .before .if3 .taken) (c .wants2 .ensures) o items frames h)
+returns-3 c = (kept-written _ _ _ _ _ (c .before .before .before .before .push2 .ensures) (omega arith), λ s place o items frames h. start-round _ _ _ _ _ _ (c .before .before .before .before .before .before .before .before .before .before .kind-of .ensures) _ s place _ 0 (c .before .before .before .before .push2 .ensures) _ (c .before .before .before .before .before .before .before .before .place-of .ensures) _ (c .before .before .before .before .before .before .before .stand .ensures) (c .before .before .before .before .before .before .if1 .left) (c .before .if3 .taken) (c .wants2 .ensures) o items frames h)
 
 -- src/bodies.rt:95:9
 test-of-requires : tie.Need-test-of-requires
@@ -92,7 +92,7 @@ same-length-4 c = search needs
 
 -- src/bodies.rt:97:9
 returns-4 : tie.Need-returns-4
-returns-4 c = (kept-pushed _ _ _ _ _ _ (c .before .before .before .before .before .before .before .push2 .ensures), λ s place o items frames h. start-branch _ _ _ _ _ _ (c .before .before .before .before .before .before .before .before .before .before .before .before .before .kind-of .ensures) _ s place _ _ (c .before .before .before .before .before .before .before .push2 .ensures) _ (c .before .before .before .before .before .before .before .before .before .before .before .place-of .ensures) _ (c .before .before .before .before .before .before .before .before .before .before .stand .ensures) _ _ (c .wants3 .ensures) (c .before .before .before .before .if3 .left) (c .before .before .if4 .taken) (c .before .before .before .test-of .ensures .0 (c .before .before .if4 .taken)) (c .before .stand3 .ensures) o items frames h)
+returns-4 c = (kept-written _ _ _ _ _ (c .before .before .before .before .before .before .before .push2 .ensures) (omega arith), λ s place o items frames h. start-branch _ _ _ _ _ _ (c .before .before .before .before .before .before .before .before .before .before .before .before .before .kind-of .ensures) _ s place _ 0 (c .before .before .before .before .before .before .before .push2 .ensures) _ (c .before .before .before .before .before .before .before .before .before .before .before .place-of .ensures) _ (c .before .before .before .before .before .before .before .before .before .before .stand .ensures) _ _ (c .wants3 .ensures) (c .before .before .before .before .if3 .left) (c .before .before .if4 .taken) (c .before .before .before .test-of .ensures .0 (c .before .before .if4 .taken)) (c .before .stand3 .ensures) o items frames h)
 
 -- src/bodies.rt:99:33
 stand-requires-4 : tie.Need-stand-requires-4
@@ -108,7 +108,7 @@ same-length-5 c = search needs
 
 -- src/bodies.rt:76:1
 returns-5 : tie.Need-returns-5
-returns-5 c = (kept-pushed _ _ _ _ _ _ (c .before .before .before .before .before .before .before .push2 .ensures), λ s place o items frames h. start-loop _ _ _ _ _ _ (c .before .before .before .before .before .before .before .before .before .before .before .before .before .kind-of .ensures) _ s place _ _ (c .before .before .before .before .before .before .before .push2 .ensures) _ (c .before .before .before .before .before .before .before .before .before .before .before .place-of .ensures) _ (c .before .before .before .before .before .before .before .before .before .before .stand .ensures) _ _ (c .wants4 .ensures) (c .before .before .if4 .left) (c .before .before .before .test-of .ensures .1 (c .before .before .if4 .left)) (c .before .stand4 .ensures) o items frames h)
+returns-5 c = (kept-written _ _ _ _ _ (c .before .before .before .before .before .before .before .push2 .ensures) (omega arith), λ s place o items frames h. start-loop _ _ _ _ _ _ (c .before .before .before .before .before .before .before .before .before .before .before .before .before .kind-of .ensures) _ s place _ 0 (c .before .before .before .before .before .before .before .push2 .ensures) _ (c .before .before .before .before .before .before .before .before .before .before .before .place-of .ensures) _ (c .before .before .before .before .before .before .before .before .before .before .stand .ensures) _ _ (c .wants4 .ensures) (c .before .before .if4 .left) (c .before .before .before .test-of .ensures .1 (c .before .before .if4 .left)) (c .before .stand4 .ensures) o items frames h)
 
 pub start-body-spec : {M : Type 1} → statement M
 start-body-spec =

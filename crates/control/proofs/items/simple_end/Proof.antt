@@ -53,26 +53,26 @@ unfolding simpleEnd
 returns-5 c = simp (le-ltb _ _ (c .before .before .before .before .if1 .left), le-ltb _ _ (c .before .before .before .if2 .left), le-ltb _ _ (c .before .before .if3 .left), le-ltb _ _ (c .before .if4 .left), lt-ltb _ _ (c .if5 .taken))
 
 -- src/items.rt:48:32
-add-string-end : tie.Need-add-string-end
-add-string-end c = search needs
+add-end-at : tie.Need-add-end-at
+add-end-at c = search needs
 
 -- src/items.rt:48:9
-string-end-requires : tie.Need-string-end-requires
-string-end-requires c κs = c .before .before .before .before .before .before .pre .1 (c .if5 .left)
+end-at-requires : tie.Need-end-at-requires
+end-at-requires c κs = c .before .before .before .before .before .before .pre .1 (c .if5 .left)
 
 -- src/items.rt:50:16
 add-result-6 : tie.Need-add-result-6
-add-result-6 c = omega (arith, c .before .string-end .ensures, end-near (c .before .before .before .before .before .before .before .before .args .w .now) (c .before .before .before .before .before .before .before .before .args .k + 1))
+add-result-6 c = omega (arith, c .before .end-at .ensures, end-near (c .before .before .before .before .before .before .before .before .args .w .now) (c .before .before .before .before .before .before .before .before .args .k + 1))
 
 -- src/items.rt:50:9
 returns-6 : tie.Need-returns-6
 unfolding simpleEnd
-returns-6 c = simp (le-ltb _ _ (c .before .before .before .before .before .before .if1 .left), le-ltb _ _ (c .before .before .before .before .before .if2 .left), le-ltb _ _ (c .before .before .before .before .if3 .left), le-ltb _ _ (c .before .before .before .if4 .left), le-ltb _ _ (c .before .before .if5 .left), lt-ltb _ _ (c .if6 .taken), c .before .string-end .ensures)
+returns-6 c = simp (le-ltb _ _ (c .before .before .before .before .before .before .if1 .left), le-ltb _ _ (c .before .before .before .before .before .if2 .left), le-ltb _ _ (c .before .before .before .before .if3 .left), le-ltb _ _ (c .before .before .before .if4 .left), le-ltb _ _ (c .before .before .if5 .left), lt-ltb _ _ (c .if6 .taken), c .before .end-at .ensures)
 
 -- src/items.rt:29:1
 returns-7 : tie.Need-returns-7
 unfolding simpleEnd
-returns-7 c = simp (le-ltb _ _ (c .before .before .before .before .before .before .if1 .left), le-ltb _ _ (c .before .before .before .before .before .if2 .left), le-ltb _ _ (c .before .before .before .before .if3 .left), le-ltb _ _ (c .before .before .before .if4 .left), le-ltb _ _ (c .before .before .if5 .left), le-ltb _ _ (c .if6 .left), c .before .string-end .ensures)
+returns-7 c = simp (le-ltb _ _ (c .before .before .before .before .before .before .if1 .left), le-ltb _ _ (c .before .before .before .before .before .if2 .left), le-ltb _ _ (c .before .before .before .before .if3 .left), le-ltb _ _ (c .before .before .before .if4 .left), le-ltb _ _ (c .before .before .if5 .left), le-ltb _ _ (c .if6 .left), c .before .end-at .ensures)
 
 pub simple-end-spec : {M : Type 1} → statement M
 simple-end-spec =
@@ -88,8 +88,8 @@ simple-end-spec =
     returns-4
     add-result-5
     returns-5
-    add-string-end
-    string-end-requires
+    add-end-at
+    end-at-requires
     add-result-6
     returns-6
     returns-7)

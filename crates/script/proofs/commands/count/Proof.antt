@@ -1,6 +1,6 @@
 -- `script::commands::count` meets its contract. Assumes nothing.
-use Rattle.script.proofs.Items.{refused-written, over-count, small-count, large-count}
-use Rattle.script.proofs.Distances.{digits-far}
+use Rattle.script.proofs.Items.{refused-written, count-apart, over-count, small-count, large-count}
+use Rattle.script.proofs.Distances.{digits-far, digits-end}
 use native.Mathlib.Omega.{arith}
 use borrow.Author.Needs.{needs}
 use Rattle.script.proofs.commands.count.Statement.{statement}
@@ -38,7 +38,7 @@ returns-2 c =
     let start = c .before .before .before .before .before .before .before .before .before .before in
     let d = c .before .before .before .before .before .before .before .digits in
     let far = digits-far _ _ _ _ (omega (arith, start .pre .0 .inside)) (start .pre .1) (d .ensures .0) in
-    rw (c .before .before .put-one .ensures) (small-count _ _ _ _ _ _ (start .pre .0) (d .ensures .0) _ (c .before .before .before .head .ensures .0) (c .before .before .before .before .before .if2 .taken) (far .0) (d .ensures .1 .1))
+    rw (c .before .before .put-one .ensures) (small-count _ _ _ _ _ _ (start .pre .0) (d .ensures .0) (count-apart _ _ _ _ _ (start .pre .1) (digits-end _ _ _ _ (d .ensures .0))) _ (c .before .before .before .head .ensures .0) (c .before .before .before .before .before .if2 .taken) (far .0) (d .ensures .1 .1))
 
 head-requires-2 : tie.Need-head-requires-2
 head-requires-2 c κs = search needs
@@ -60,7 +60,7 @@ returns-3 c =
     let start = c .before .before .before .before .before .before .before .before .before .before in
     let d = c .before .before .before .before .before .before .before .digits in
     let far = digits-far _ _ _ _ (omega (arith, start .pre .0 .inside)) (start .pre .1) (d .ensures .0) in
-    rw (c .before .before .put-two .ensures) (large-count _ _ _ _ _ _ (start .pre .0) (d .ensures .0) _ (c .before .before .before .head2 .ensures .0) (c .before .before .before .before .before .before .if1 .left) (far .1 (omega (arith, c .before .before .before .before .before .if2 .left))) (d .ensures .1 .1))
+    rw (c .before .before .put-two .ensures) (large-count _ _ _ _ _ _ (start .pre .0) (d .ensures .0) (count-apart _ _ _ _ _ (start .pre .1) (digits-end _ _ _ _ (d .ensures .0))) _ (c .before .before .before .head2 .ensures .0) (c .before .before .before .before .before .before .if1 .left) (far .1 (omega (arith, c .before .before .before .before .before .if2 .left))) (d .ensures .1 .1))
 
 pub count-spec : {M : Type 1} → statement M
 count-spec =

@@ -43,7 +43,7 @@ else-group-requires : tie.Need-else-group-requires
 else-group-requires c κs =
     let start = c .before .before .before .before .before .before .before .before .before .before .before .before .before in
     let e = else-after _ _ _ _ (c .before .before .found .given .1) (c .before .before .before .before .skip-else .ensures) in
-    ((start .pre .0 .0, start .pre .0 .1), omega (arith, c .before .before .before .before .before .before .before .before .if2 .left), omega (arith, e .2), e .3, refl)
+    ((start .pre .0 .0, start .pre .0 .1), omega (arith, c .before .before .before .before .before .before .before .before .if2 .left), omega (arith, e .2), e .3, refl, c .before .before .before .before .before .before .before .before .before .if1 .left)
 
 same-length : tie.Need-same-length
 same-length c = search needs

@@ -55,7 +55,7 @@ same-length : tie.Need-same-length
 same-length c = search needs
 
 returns-2 : tie.Need-returns-2
-returns-2 c = λ acc h. else-opens _ _ _ acc h _ _ (c .before .before .before .before .pre .1) (c .before .before .before .before .pre .2) (c .before .before .before .before .pre .4) (sym (c .before .next-byte .ensures) ∙ c .if1 .left)
+returns-2 c = λ acc h. else-opens _ _ _ acc h _ _ (c .before .before .before .before .pre .1) (c .before .before .before .before .pre .5) (c .before .before .before .before .pre .2) (c .before .before .before .before .pre .4) (sym (c .before .next-byte .ensures) ∙ c .if1 .left)
 
 pub else-group-spec : {M : Type 1} → statement M
 else-group-spec =

@@ -25,7 +25,7 @@ same-length : tie.Need-same-length
 same-length c = search needs
 
 returns : tie.Need-returns
-returns c = λ s acc h less. ends s _ _ acc h less (c .before .before .before .before .before .before .before .pre .1) _ (c .before .before .before .before .before .before .before .pre .2) _ (c .before .before .before .before .put-closes .ensures)
+returns c = λ s acc h less. ends s _ _ acc h less (c .before .before .before .before .before .before .before .pre .1) (c .before .before .before .before .before .before .before .pre .3) _ (c .before .before .before .before .before .before .before .pre .2) _ (c .before .before .before .before .put-closes .ensures)
 
 pub end-group-spec : {M : Type 1} → statement M
 end-group-spec = tie.close (tie.spec put-closes-requires add-t8 add-t9 sub-t10 same-length returns)

@@ -162,7 +162,7 @@ same-length-11 : tie.Need-same-length-11
 same-length-11 c = search needs
 
 returns-11 : tie.Need-returns-11
-returns-11 c = repeats-written _ _ _ _ _ _ (c .before .before .before .before .before .before .before .before .pre .0) _ _ _ (c .before .before .before .before .enum-told7 .given .1) (c .before .before .prefix-word .ensures)
+returns-11 c = repeats-written _ _ _ _ _ _ (c .before .before .before .before .before .before .before .before .pre .0) _ _ _ (c .before .before .before .before .enum-told7 .given .1) (c .before .before .before .before .before .before .before .before .pre .1) (c .before .before .prefix-word .ensures)
 
 same-length-12 : tie.Need-same-length-12
 same-length-12 c = search needs
@@ -174,7 +174,7 @@ same-length-13 : tie.Need-same-length-13
 same-length-13 c = search needs
 
 returns-13 : tie.Need-returns-13
-returns-13 c = eof-written _ _ _ _ _ _ (c .before .before .before .before .before .before .before .before .before .pre .0) _ _ _ _ (c .before .before .before .before .before .enum-told8 .given .1) (c .before .before .before .skip-then .ensures .0) (c .before .before .before .skip-then .ensures .1 .0) (c .before .before .before .skip-then .ensures .1 .1) (c .before .before .prefix-word2 .ensures)
+returns-13 c = eof-written _ _ _ _ _ _ (c .before .before .before .before .before .before .before .before .before .pre .0) _ _ _ _ (c .before .before .before .before .before .enum-told8 .given .1) (c .before .before .before .before .before .before .before .before .before .pre .1) (c .before .before .before .skip-then .ensures .0) (c .before .before .before .skip-then .ensures .1 .0) (c .before .before .before .skip-then .ensures .1 .1) (c .before .before .prefix-word2 .ensures)
 
 same-length-14 : tie.Need-same-length-14
 same-length-14 c = search needs

@@ -1,6 +1,6 @@
 -- `script::named::named` meets its contract. Assumes nothing.
 use Rattle.script.proofs.Choosing.{room-of, in-groups, named-is}
-use Rattle.script.proofs.NameLengths.{test-name}
+use Rattle.script.proofs.NameLengths.{prefix-name}
 use borrow.Author.Needs.{needs}
 use Rattle.script.proofs.named.named.Statement.{statement}
 use Rattle.script.proofs.named.named.Tie as tie
@@ -9,7 +9,7 @@ command-requires : tie.Need-command-requires
 command-requires c κs = search needs
 
 decode-requires : tie.Need-decode-requires
-decode-requires c κs = (room-of _ _ _ _ _ (c .before .before .before .before .before .pre .0 .1) (c .before .before .before .before .before .pre .1) (c .before .before .before .before .before .pre .2), test-name _ _ _ _ (c .before .before .command .ensures) (c .before .before .before .before .before .pre .3))
+decode-requires c κs = (room-of _ _ _ _ _ (c .before .before .before .before .before .pre .0 .1) (c .before .before .before .before .before .pre .1) (c .before .before .before .before .before .pre .2), prefix-name _ _ _ _ (c .before .before .command .ensures) (c .before .before .before .before .before .pre .3))
 
 finish-requires : tie.Need-finish-requires
 finish-requires c κs = (_, _, c .before .before .before .before .before .before .before .before .before .pre .0 .0, _, c .before .before .before .before .before .before .before .before .before .pre .0 .1, c .before .before .before .decode .ensures)
