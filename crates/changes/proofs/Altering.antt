@@ -16,14 +16,14 @@ use Rattle.definitions.specs.Matching.{Qualifiers, Qualified, qualified, placeO
 use Rattle.matching.specs.Quals.{foundOf}
 use Rattle.matching.specs.declared.Found.{Found}
 use Rattle.matching.specs.declared.Found.the-variants.{At, Nothing}
-use Rattle.editor.specs.Shows.{Placed, Shows, Answers, Answered}
+use Rattle.editor.specs.Shows.{Placed, Shows, Answered}
 use Rattle.editor.specs.declared.State.{State}
 use Rattle.editor.specs.declared.Moved.{Moved}
 use Rattle.editor.specs.declared.Moved.the-variants.{On, Stop}
-use Rattle.editor.proofs.Answers.{step-still}
-use Rattle.changes.specs.Current.{part, LinesOf, LinesAt, PointIn, changeOf, spliced, alteredAt}
+use Rattle.editor.specs.Current.{textOf, PointIn, TableOf}
+use Rattle.editor.proofs.Answers.{step-still, shown-record}
+use Rattle.changes.specs.Current.{part, LinesAt, changeOf, spliced, alteredAt}
 use Rattle.changes.specs.declared.Current.{Current}
-use Rattle.changes.proofs.Splicing.{text-length}
 use Rattle.changes.proofs.Bounds.{place-inside}
 use Rattle.changes.proofs.Commands.{halts, points, eof-stops}
 
@@ -53,75 +53,64 @@ part-length s from to h = length-take-le (to - from) (drop from s) (omega (arith
 pub whole-text : (l : Line) → allText l ≡ true → allText (take (length l) l) ≡ true
 whole-text l h = rw (take-all (length l) l (omega arith)) h
 
--- what `find_current` asks
-pub record Findable (j : List ℕ) (c : Current) (p : ℕ) : Type 0 where
-  pub ordered : c .start ≤ c .end
-  pub inside : c .end ≤ length j
-  pub window : p ≤ c .end - c .start
+module _ (table j : List ℕ) (st : State) (more : st .back < length j) (qs : Qualifiers) (script : List ℕ) (from to : ℕ) (room : to ≤ length script) (o : Option ℕ)
+    (found : (e : Ed) (t : Tape) → Shows j st e t → TableOf table e t → o ≡ placeOf (qualified qs (part script from to)) (st .p) (textOf e)) where
+  place-is : (b : List Record) (r : Record) (a : List Record) (p : ℕ) (t : Tape) → Shows j st (ed b (r ∷ a) p) t → TableOf table (ed b (r ∷ a) p) t
+      → placeOf (qualified qs (part script from to)) p (current r) ≡ o
+  place-is b r a p t h w = sym (found (ed b (r ∷ a) p) t h w ∙ ap (λ (i : ℕ). placeOf (qualified qs (part script from to)) i (current r)) (h .p))
 
-module _ (j : List ℕ) (st : State) (c : Current) (text : (e : Ed) (t : Tape) → Shows j st e t → LinesAt j st c e) where
-  pub findable : ((e : Ed) × (t : Tape) × Shows j st e t × PointIn e) → Findable j c (st .p)
-  findable (ed b [] p, t, h, i) = absurd (text (ed b [] p) t h)
-  findable (ed b (r ∷ a) p, t, h, i) =
-      let w : LinesOf j st c r = text (ed b (r ∷ a) p) t h in
-      record { ordered = w .ordered; inside = omega (arith, w .inside); window = omega (arith, text-length r w, h .p) }
+  -- where the string is found, it lies within the line
+  pub found-inside : (i : ℕ) → o ≡ some i → (e : Ed) (t : Tape) → Shows j st e t → TableOf table e t → PointIn e → i + (to - from) ≤ length (textOf e)
+  unfolding stringIn
+  found-inside i is (ed b [] p) t h w k = absurd (shown-record b p t h more)
+  found-inside i is (ed b (r ∷ a) p) t h w k =
+      let x : (p ≤ i) × (i + length (part script from to) ≤ length (current r)) = place-inside (qualified qs (part script from to)) p (current r) i k (place-is b r a p t h w ∙ is) in
+      omega (arith, x .1, part-length script from to room)
 
-  module _ (qs : Qualifiers) (script : List ℕ) (from to : ℕ) (room : to ≤ length script) (o : Option ℕ)
-      (found : o ≡ placeOf (qualified qs (part script from to)) (st .p) (part j (c .start) (c .end))) where
-    place-is : (r : Record) (p : ℕ) → LinesOf j st c r → st .p ≡ p → placeOf (qualified qs (part script from to)) p (current r) ≡ o
-    place-is r p w e = sym (found ∙ rw (e, w .text))
+  -- 24
+  pub point-none : (after : Bool) (n : ℕ) → o ≡ none
+      → (e : Ed) (t : Tape) → Shows j st e t → TableOf table e t → PointIn e → Answered j (Stop 24 st) (step n (Op.point after (qualified qs (part script from to))) e t)
+  unfolding need act withLine pointAt
+  point-none after n is (ed b [] p) t h w k = absurd (shown-record b p t h more)
+  point-none after n is (ed b (r ∷ a) p) t h w k =
+      halts j st (Op.point after (qualified qs (part script from to))) (λ e. refl) n 24 (ed b (r ∷ a) p) t (rw (place-is b r a p t h w, is)) h
 
-    -- where the string is found, it lies within the line
-    pub found-inside : (i : ℕ) → o ≡ some i → ((e : Ed) × (t : Tape) × Shows j st e t × PointIn e) → i + (to - from) ≤ c .end - c .start
-    unfolding stringIn
-    found-inside i is (ed b [] p, t, h, k) = absurd (text (ed b [] p) t h)
-    found-inside i is (ed b (r ∷ a) p, t, h, k) =
-        let w : LinesOf j st c r = text (ed b (r ∷ a) p) t h in
-        let x : (p ≤ i) × (i + length (part script from to) ≤ length (current r)) = place-inside (qualified qs (part script from to)) p (current r) i k (place-is r p w (h .p) ∙ is) in
-        omega (arith, x .1, text-length r w, part-length script from to room)
+  pub alter-none : (ch : Change) (pointing : Bool) (new : Line) (n : ℕ) → o ≡ none
+      → (e : Ed) (t : Tape) → Shows j st e t → TableOf table e t → PointIn e → Answered j (Stop 24 st) (step n (Op.alter ch pointing (qualified qs (part script from to)) new) e t)
+  unfolding need act withLine alterAt
+  alter-none ch pointing new n is (ed b [] p) t h w k = absurd (shown-record b p t h more)
+  alter-none ch pointing new n is (ed b (r ∷ a) p) t h w k =
+      halts j st (Op.alter ch pointing (qualified qs (part script from to)) new) (λ e. refl) n 24 (ed b (r ∷ a) p) t (rw (place-is b r a p t h w, is)) h
 
-    -- 24
-    pub point-none : (after : Bool) (n : ℕ) → o ≡ none → (e : Ed) (t : Tape) → Shows j st e t → PointIn e → Answered j (Stop 24 st) (step n (Op.point after (qualified qs (part script from to))) e t)
-    unfolding need act withLine pointAt
-    point-none after n is (ed b [] p) t h k = absurd (text (ed b [] p) t h)
-    point-none after n is (ed b (r ∷ a) p) t h k =
-        halts j st (Op.point after (qualified qs (part script from to))) (λ e. refl) n 24 (ed b (r ∷ a) p) t (rw (place-is r p (text (ed b (r ∷ a) p) t h) (h .p), is)) h
+  module _ (i : ℕ) (is : o ≡ some i) where
+    -- PA, PB
+    module _ (s : State) (placed : Placed st s) (far : s .furthest ≡ st .furthest) (n : ℕ) where
+      pub after-on : (after : Bool) → after ≡ true → s .p ≡ i + (to - from)
+          → (e : Ed) (t : Tape) → Shows j st e t → TableOf table e t → PointIn e → Answered j (On s) (step n (Op.point after (qualified qs (part script from to))) e t)
+      unfolding need act withLine pointAt stringIn
+      after-on after side sp (ed b [] p) t h w k = absurd (shown-record b p t h more)
+      after-on after side sp (ed b (r ∷ a) p) t h w k =
+          points j st (Op.point after (qualified qs (part script from to))) (λ e. refl) n b r a p t h s placed far (i + length (part script from to)) (omega (arith, part-length script from to room))
+          (rw (place-is b r a p t h w, is, side))
 
-    pub alter-none : (ch : Change) (pointing : Bool) (new : Line) (n : ℕ) → o ≡ none
-        → (e : Ed) (t : Tape) → Shows j st e t → PointIn e → Answered j (Stop 24 st) (step n (Op.alter ch pointing (qualified qs (part script from to)) new) e t)
-    unfolding need act withLine alterAt
-    alter-none ch pointing new n is (ed b [] p) t h k = absurd (text (ed b [] p) t h)
-    alter-none ch pointing new n is (ed b (r ∷ a) p) t h k =
-        halts j st (Op.alter ch pointing (qualified qs (part script from to)) new) (λ e. refl) n 24 (ed b (r ∷ a) p) t (rw (place-is r p (text (ed b (r ∷ a) p) t h) (h .p), is)) h
+      pub before-on : (after : Bool) → after ≡ false → s .p ≡ i
+          → (e : Ed) (t : Tape) → Shows j st e t → TableOf table e t → PointIn e → Answered j (On s) (step n (Op.point after (qualified qs (part script from to))) e t)
+      unfolding need act withLine pointAt
+      before-on after side sp (ed b [] p) t h w k = absurd (shown-record b p t h more)
+      before-on after side sp (ed b (r ∷ a) p) t h w k =
+          points j st (Op.point after (qualified qs (part script from to))) (λ e. refl) n b r a p t h s placed far i sp
+          (rw (place-is b r a p t h w, is, side))
 
-    module _ (i : ℕ) (is : o ≡ some i) where
-      -- PA, PB
-      module _ (s : State) (placed : Placed st s) (far : s .furthest ≡ st .furthest) (n : ℕ) where
-        pub after-on : (after : Bool) → after ≡ true → s .p ≡ i + (to - from)
-            → (e : Ed) (t : Tape) → Shows j st e t → PointIn e → Answered j (On s) (step n (Op.point after (qualified qs (part script from to))) e t)
-        unfolding need act withLine pointAt stringIn
-        after-on after side sp (ed b [] p) t h k = absurd (text (ed b [] p) t h)
-        after-on after side sp (ed b (r ∷ a) p) t h k =
-            points j st (Op.point after (qualified qs (part script from to))) (λ e. refl) n b r a p t h s placed far (i + length (part script from to)) (omega (arith, part-length script from to room))
-            (rw (place-is r p (text (ed b (r ∷ a) p) t h) (h .p), is, side))
-
-        pub before-on : (after : Bool) → after ≡ false → s .p ≡ i
-            → (e : Ed) (t : Tape) → Shows j st e t → PointIn e → Answered j (On s) (step n (Op.point after (qualified qs (part script from to))) e t)
-        unfolding need act withLine pointAt
-        before-on after side sp (ed b [] p) t h k = absurd (text (ed b [] p) t h)
-        before-on after side sp (ed b (r ∷ a) p) t h k =
-            points j st (Op.point after (qualified qs (part script from to))) (λ e. refl) n b r a p t h s placed far i sp
-            (rw (place-is r p (text (ed b (r ∷ a) p) t h) (h .p), is, side))
-
-      -- A, B, E, AP, BP, EP
-      pub alter-on : (k : List ℕ) (n : ℕ) (m : Moved) (ch : Change) (pointing : Bool) (new : Line)
-          → ((e : Ed) (t : Tape) → Shows j st e t → LinesAt j st c e → Answered k m (within n e (alteredAt ch pointing i (to - from) new e) t))
-          → (e : Ed) (t : Tape) → Shows j st e t → PointIn e → Answered k m (step n (Op.alter ch pointing (qualified qs (part script from to)) new) e t)
-      unfolding need act withLine alterAt alteredAt stringIn
-      alter-on k n m ch pointing new did (ed b [] p) t h v = absurd (text (ed b [] p) t h)
-      alter-on k n m ch pointing new did (ed b (r ∷ a) p) t h v =
-          let x : LinesOf j st c r = text (ed b (r ∷ a) p) t h in
-          rw (step-still n (Op.alter ch pointing (qualified qs (part script from to)) new) (ed b (r ∷ a) p) t refl, place-is r p x (h .p), is, part-length script from to room) (did (ed b (r ∷ a) p) t h x)
+    -- A, B, E, AP, BP, EP
+    pub alter-on : (k : List ℕ) (c : Current) (n : ℕ) (m : Moved) (ch : Change) (pointing : Bool) (new : Line)
+        → ((e : Ed) (t : Tape) → Shows j st e t → LinesAt j st c e)
+        → ((e : Ed) (t : Tape) → Shows j st e t → LinesAt j st c e → Answered k m (within n e (alteredAt ch pointing i (to - from) new e) t))
+        → (e : Ed) (t : Tape) → Shows j st e t → TableOf table e t → PointIn e → Answered k m (step n (Op.alter ch pointing (qualified qs (part script from to)) new) e t)
+    unfolding need act withLine alterAt alteredAt stringIn
+    alter-on k c n m ch pointing new text did (ed b [] p) t h w v = absurd (shown-record b p t h more)
+    alter-on k c n m ch pointing new text did (ed b (r ∷ a) p) t h w v =
+        rw (step-still n (Op.alter ch pointing (qualified qs (part script from to)) new) (ed b (r ∷ a) p) t refl, place-is b r a p t h w, is, part-length script from to room)
+        (did (ed b (r ∷ a) p) t h (text (ed b (r ∷ a) p) t h))
 
 -- ---- by the kind of change
 

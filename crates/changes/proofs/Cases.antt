@@ -14,7 +14,7 @@ use Rattle.definitions.specs.Journal.{Record}
 use Rattle.definitions.specs.Tape.{Tape}
 use Rattle.definitions.specs.Editor.{Ed, ed, current}
 use Rattle.definitions.specs.Edit.{Op, need, act, withLine, within, step, unlessEnd, retext, splice, cased, recased}
-use Rattle.editor.specs.Shows.{Shows, Answers, Answered}
+use Rattle.editor.specs.Shows.{Shows, Answered}
 use Rattle.editor.specs.declared.State.{State}
 use Rattle.editor.specs.declared.Moved.{Moved}
 use Rattle.editor.specs.declared.Moved.the-variants.{Stop}
@@ -22,7 +22,8 @@ use Rattle.editor.proofs.Answers.{step-still}
 use Rattle.changes.specs.Current.{LinesOf, LinesAt, spliced}
 use Rattle.changes.specs.declared.Current.{Current}
 use Rattle.changes.proofs.Texts.{and-left, and-right, is-text}
-use Rattle.changes.proofs.Splicing.{text-length, current-line}
+use Rattle.editor.proofs.Texts.{current-good}
+use Rattle.changes.proofs.Splicing.{text-length}
 use Rattle.changes.proofs.Commands.{eof-stops, end-stops}
 
 -- ---- bytes in another case
@@ -81,7 +82,7 @@ module _ (j : List ℕ) (st : State) (c : Current) (text : (e : Ed) (t : Tape) �
   point-text (ed b [] p, t, h) = absurd (text (ed b [] p) t h)
   point-text (ed b (r ∷ a) p, t, h) =
       let w : LinesOf j st c r = text (ed b (r ∷ a) p) t h in
-      rw (h .p, ← byte-is r p w (h .p)) (text-at (current r) p (is-text (current r) (current-line r (h .holds .good .0))) (omega (arith, text-length r w, h .p)))
+      rw (h .p, ← byte-is r p w (h .p)) (text-at (current r) p (is-text (current r) (current-good r (h .holds .good .0))) (omega (arith, text-length r w, h .p)))
 
   pub point-inside : ((e : Ed) × (t : Tape) × Shows j st e t) → c .start + st .p < length j
   point-inside (ed b [] p, t, h) = absurd (text (ed b [] p) t h)

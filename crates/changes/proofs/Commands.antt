@@ -15,11 +15,9 @@ use Rattle.editor.specs.declared.State.{State}
 use Rattle.editor.specs.declared.Moved.the-variants.{On, Stop}
 use Rattle.editor.proofs.Held.{holds-as}
 use Rattle.editor.proofs.Reading.{reachOf}
-use Rattle.editor.proofs.Answers.{step-still, shown-reach, shows-of}
+use Rattle.editor.proofs.Answers.{step-still, shown-reach, shows-of, shows-leaves, shown-record, shown-eof}
 use Rattle.changes.specs.Current.{LinesAt}
 use Rattle.changes.specs.declared.Current.{Current}
-use Rattle.changes.proofs.Place.{shown-record, shown-eof}
-use Rattle.changes.proofs.Rewriting.{left-alone}
 use Rattle.changes.proofs.Splicing.{text-length}
 
 -- ---- a command that reads nothing: it stops, or moves p
@@ -27,7 +25,7 @@ use Rattle.changes.proofs.Splicing.{text-length}
 module _ (j : List ℕ) (st : State) (op : Op) (still : (e : Ed) → need op e ≡ Need.next 0) (n : ℕ) where
   pub halts : (m : ℕ) (e : Ed) (t : Tape) → act op e ≡ halt m e → Shows j st e t → Answered j (Stop m st) (step n op e t)
   unfolding Answers within
-  halts m e t q h = rw (step-still n op e t (still e), q) (refl, left-alone e t h)
+  halts m e t q h = rw (step-still n op e t (still e), q) (refl, shows-leaves e t h)
 
   pub points : (b : List Record) (r : Record) (a : List Record) (p : ℕ) (t : Tape) → Shows j st (ed b (r ∷ a) p) t
       → (s : State) → Placed st s → s .furthest ≡ st .furthest → (q : ℕ) → s .p ≡ q → act op (ed b (r ∷ a) p) ≡ on true (ed b (r ∷ a) q)

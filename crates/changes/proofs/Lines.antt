@@ -1,39 +1,15 @@
--- Lines as bytes: where a text ends, and whether two lines are equal. Assumes nothing.
+-- Whether two lines are equal. Assumes nothing.
 use mathlib.Core.Path.{_≡_, refl, ap}
 use mathlib.Core.Bool.{Bool, true, false, _&&_}
 use Prim.Native.Nat.{ℕ, suc, _+_, _≤_, _<_}
 use native.Mathlib.Omega.{arith}
 use native.Mathlib.Numerals.{add-one}
-use mathlib.Core.List.{List, [], _∷_, _++_}
+use mathlib.Core.List.{List, [], _∷_}
 use lib.ListN.{length, drop, getD, drop-of-length-le}
 use lib.Seq.{drop-cons}
 use lib.Dec.{eqb}
-use borrow.Author.Tests.{eq-eqb, ne-eqb, lt-ltb, le-ltb, eqb-true}
+use borrow.Author.Tests.{eq-eqb, ne-eqb, eqb-true}
 use Rattle.definitions.specs.Bytes.{eqLine}
-use Rattle.editor.proofs.Records.{Text}
-use Rattle.changes.specs.Current.{textLength}
-
--- ---- where a text ends
-
-module _ (l : List ℕ) (i : ℕ) where
-  pub end-hit : i < length l → getD l i 0 < 32 → i + textLength (drop i l) ≡ i
-  unfolding textLength
-  end-hit h e = rw (drop-cons l i 0 h, lt-ltb (getD l i 0) 32 e) (omega arith)
-
-  pub end-miss : i < length l → 32 ≤ getD l i 0 → i + textLength (drop i l) ≡ (i + 1) + textLength (drop (i + 1) l)
-  unfolding textLength
-  end-miss h e = rw (drop-cons l i 0 h, le-ltb (getD l i 0) 32 e, add-one i) (omega arith)
-
-  pub end-none : length l ≤ i → i + textLength (drop i l) ≡ i
-  unfolding textLength
-  end-none h = rw (drop-of-length-le l {i = i} h) (omega arith)
-
-pub text-ends : (l : List ℕ) (x : ℕ) (z : List ℕ) → Text l → x < 32 → textLength (l ++ (x ∷ z)) ≡ length l
-unfolding textLength Text
-text-ends [] x z t h = rw (lt-ltb x 32 h)
-text-ends (b ∷ l) x z t h = rw (le-ltb b 32 (t .0), text-ends l x z (t .2) h)
-
--- ---- equal lines
 
 module _ (a b : List ℕ) (i : ℕ) (long : length a ≡ length b) where
   pub eq-end : length a ≤ i → eqLine (drop i a) (drop i b) ≡ true

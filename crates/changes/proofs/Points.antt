@@ -17,7 +17,7 @@ use Rattle.definitions.specs.Matching.{placeOf, stringIn}
 use Rattle.definitions.specs.Search.{holds}
 use Rattle.editor.specs.Records.{Live}
 use Rattle.editor.specs.Shows.{afterOf, GroundedAt}
-use Rattle.changes.specs.Current.{PointIn}
+use Rattle.editor.specs.Current.{PointIn}
 use Rattle.changes.proofs.Lines.{eq-same}
 use Rattle.changes.proofs.Texts.{splice-length}
 use Rattle.changes.proofs.Bounds.{place-inside}

@@ -1,32 +1,23 @@
 -- The current record's bytes replaced, the gap growing or shrinking. Assumes nothing.
 use mathlib.Core.Path.{_≡_, refl, sym, ap, _∙_}
-use Prim.Native.Nat.{ℕ, zero, suc, _+_, _-_, _≤_, _<_}
+use Prim.Native.Nat.{ℕ, _+_, _-_, _≤_, _<_}
 use native.Mathlib.Omega.{arith}
-use mathlib.Core.List.{List, [], _∷_, _++_, reverseAux, append-assoc}
-use lib.ListN.{length, take, drop, length-append, length-drop, length-replicate, take-append-drop}
+use mathlib.Core.List.{List, _∷_, _++_, reverseAux, append-assoc}
+use lib.ListN.{length, take, drop, length-append, length-drop, length-replicate, take-append-drop, replicate-append-replicate}
 use lib.Seq.{length-take-le, paste}
 use Rattle.gap.specs.Gap.{zeros, cleared}
 use Rattle.gap.proofs.Laws.{paste-parts, clear-parts}
-use Rattle.definitions.specs.Journal.{Record, journalLength}
-use Rattle.definitions.specs.Editor.{sources}
+use Rattle.definitions.specs.Journal.{Record, oldOf, journalLength}
 use Rattle.editor.specs.Records.{enc, encAll, encBefore, Good}
 use Rattle.editor.specs.Shows.{Holds}
 use Rattle.editor.specs.declared.State.{State}
 use Rattle.editor.specs.declared.Moved.the-variants.{On, Stop}
-use Rattle.editor.proofs.Records.{sources-cons, all-length, before-all}
-use Rattle.editor.proofs.Held.{held-length}
+use Rattle.editor.proofs.Records.{all-length, before-all}
+use Rattle.editor.proofs.Held.{held-length, replaced-holds}
 use Rattle.changes.specs.Current.{Put}
 
-zeros-add : (m n : ℕ) → zeros (m + n) ≡ zeros m ++ zeros n
-zeros-add zero n =
-    let s : 0 + n ≡ n = omega arith in
-    ap zeros s
-zeros-add (suc m) n =
-    let s : suc m + n ≡ suc (m + n) = omega arith in
-    ap zeros s ∙ ap (λ (z : List ℕ). 0 ∷ z) (zeros-add m n)
-
 zeros-split : (g m n : ℕ) → g ≡ m + n → zeros g ≡ zeros m ++ zeros n
-zeros-split g m n e = rw e (zeros-add m n)
+zeros-split g m n e = rw (e, replicate-append-replicate {A = ℕ} m n 0)
 
 pub journal-length : (b : List Record) (x : Record) (a : List Record) → journalLength (reverseAux b (x ∷ a)) ≡ length (encBefore b) + (length (enc x) + length (encAll a))
 unfolding encAll
@@ -46,25 +37,16 @@ module _ {j : List ℕ} {st : State} {b : List Record} {r : Record} {a : List Re
   total : journalLength (reverseAux b (x ∷ a)) ≡ st .front + (n + length (encAll a))
   total = omega (arith, journal-length b x a, long, h .front)
 
-  module _ (good : Good x) (src : sources (x ∷ []) ≡ sources (r ∷ [])) (q : ℕ) where
+  module _ (good : Good x) (src : oldOf x ≡ oldOf r) (q : ℕ) where
     pub put-stop : end - st .front < n → Put j j st b x a q (Stop 26 st)
     unfolding Put
     put-stop few = (refl, refl, refl, omega (arith, total, whole, h .order))
 
     module _ (room : n ≤ end - st .front) (k : List ℕ) where
-      put-holds : (s : State) → s .front ≡ st .front → s .back ≡ end - n → s .past ≡ st .past → s .lines ≡ st .lines
+      put-holds : (s : State) → s .front ≡ st .front → s .back ≡ end - n → s .past ≡ st .past → s .lines ≡ st .lines → s .source ≡ st .source → s .size ≡ st .size
           → k ≡ encBefore b ++ (zeros ((end - n) - st .front) ++ (enc x ++ encAll a)) → Holds k s b (x ∷ a)
       unfolding encAll
-      put-holds s f e p l bytes = record {
-        bytes = rw (e, f) bytes;
-        front = h .front ∙ sym f;
-        order = omega (arith, h .order);
-        past-good = h .past-good;
-        good = (good, h .good .1);
-        past = p ∙ h .past;
-        lines = omega (arith, h .lines, sources-cons x [], sources-cons r [], sources-cons x a, sources-cons r a);
-        few = omega (arith, h .few);
-      }
+      put-holds s f e p l o z bytes = replaced-holds h good src f (omega (arith, h .order)) p l o z (rw (e, f) bytes)
 
       -- the record is no shorter: the gap's last bytes are written over
       grown-bytes : end - n ≤ st .back → k ≡ paste j (end - n) rec n → k ≡ encBefore b ++ (zeros ((end - n) - st .front) ++ (enc x ++ encAll a))
@@ -82,11 +64,11 @@ module _ {j : List ℕ} {st : State} {b : List Record} {r : Record} {a : List Re
           e ∙ ap (λ (y : List ℕ). paste y (end - n) rec n) was ∙ paste-parts A M (encAll a) rec (end - n) n la lm
           ∙ rw is (append-assoc (encBefore b) (zeros g) (enc x ++ encAll a))
 
-      pub put-grown : (s : State) → s .front ≡ st .front → s .back ≡ end - n → s .past ≡ st .past → s .lines ≡ st .lines → s .furthest ≡ st .furthest → s .p ≡ q
+      pub put-grown : (s : State) → s .front ≡ st .front → s .back ≡ end - n → s .past ≡ st .past → s .lines ≡ st .lines → s .source ≡ st .source → s .size ≡ st .size → s .furthest ≡ st .furthest → s .p ≡ q
           → end - n ≤ st .back → k ≡ paste j (end - n) rec n → Put j k st b x a q (On s)
       unfolding Put
-      put-grown s f e p l far w le bytes =
-          (put-holds s f e p l (grown-bytes le bytes), far, l, w, omega (arith, total, whole, h .order))
+      put-grown s f e p l o z far w le bytes =
+          (put-holds s f e p l o z (grown-bytes le bytes), far, l, w, omega (arith, total, whole, h .order))
 
       -- the record is shorter: what it leaves is cleared
       shrunk-bytes : st .back < end - n → (i : List ℕ) → i ≡ paste j (end - n) rec n → k ≡ cleared (st .back) ((end - n) - st .back) i
@@ -109,8 +91,8 @@ module _ {j : List ℕ} {st : State} {b : List Record} {r : Record} {a : List Re
           c ∙ ap (λ (y : List ℕ). cleared (st .back) m y) i-is ∙ clear-parts B T Z (st .back) m lb lt′
           ∙ rw (zeros-split ((end - n) - st .front) g m (omega (arith, h .order))) (simp append-assoc)
 
-      pub put-shrunk : (s : State) → s .front ≡ st .front → s .back ≡ end - n → s .past ≡ st .past → s .lines ≡ st .lines → s .furthest ≡ st .furthest → s .p ≡ q
+      pub put-shrunk : (s : State) → s .front ≡ st .front → s .back ≡ end - n → s .past ≡ st .past → s .lines ≡ st .lines → s .source ≡ st .source → s .size ≡ st .size → s .furthest ≡ st .furthest → s .p ≡ q
           → st .back < end - n → (i : List ℕ) → i ≡ paste j (end - n) rec n → k ≡ cleared (st .back) ((end - n) - st .back) i → Put j k st b x a q (On s)
       unfolding Put
-      put-shrunk s f e p l far w lt i bytes clears =
-          (put-holds s f e p l (shrunk-bytes lt i bytes clears), far, l, w, omega (arith, total, whole, h .order))
+      put-shrunk s f e p l o z far w lt i bytes clears =
+          (put-holds s f e p l o z (shrunk-bytes lt i bytes clears), far, l, w, omega (arith, total, whole, h .order))

@@ -8,29 +8,23 @@ use lib.ListN.{length, take, drop, getD, length-append, length-drop}
 use lib.Seq.{length-take-le}
 use borrow.Author.Tests.{le-leb, lt-leb}
 use Rattle.definitions.specs.Bytes.{Line, eqLine, isLine}
-use Rattle.definitions.specs.Journal.{Record, kept, changed, deleted, inserted, change, rewrite, oldOf, oldSide, journalLength}
+use Rattle.definitions.specs.Journal.{Record, kept, changed, deleted, inserted, change, rewrite, oldOf, journalLength}
 use Rattle.definitions.specs.Tape.{Tape, restLines}
-use Rattle.definitions.specs.Editor.{Ed, ed, edited, journal, sources, current}
+use Rattle.definitions.specs.Editor.{Ed, ed, edited, journal, current}
 use Rattle.definitions.specs.Edit.{within}
 use Rattle.editor.specs.Records.{enc, mark, Good, Live}
-use Rattle.editor.specs.Shows.{Holds, Shows, Leaves, Answers, Answered}
+use Rattle.editor.specs.Shows.{Holds, Shows, Answers, Answered}
 use Rattle.editor.specs.declared.State.{State}
 use Rattle.editor.specs.declared.Moved.{Moved}
 use Rattle.editor.specs.declared.Moved.the-variants.{On, Stop}
 use Rattle.editor.proofs.Records.{line-short}
 use Rattle.editor.proofs.Held.{held-mark}
 use Rattle.editor.proofs.Reading.{reachOf}
-use Rattle.editor.proofs.Answers.{shown-reach, journal-is, shows-of, leaves-of, same-here}
+use Rattle.editor.proofs.Answers.{shown-reach, journal-is, shows-of, shows-leaves}
 use Rattle.changes.specs.Current.{part, firstLine, LinesOf, LinesAt, written, Put, retexted}
 use Rattle.changes.specs.declared.Current.{Current}
 use Rattle.changes.proofs.Lines.{eq-same}
 use Rattle.changes.proofs.Written.{first-written}
-
--- ---- stops
-
--- a buffer that is left alone
-pub left-alone : {j : List ℕ} {st : State} (e : Ed) (t : Tape) → Shows j st e t → Leaves j st e t
-left-alone (ed b a p) t h = leaves-of b a p t (same-here (h .holds)) (shown-reach b a p t h)
 
 -- ---- a record in the place of the current one
 
@@ -45,28 +39,28 @@ module _ {j : List ℕ} {st : State} (b : List Record) (r : Record) (a : List Re
   put-answers k x q (Stop m s) live w =
       let size : length j < journalLength (journal (ed b (x ∷ a) q) t) = rw (← journal-is b (x ∷ a) q t) (w .3) in
       rw (lt-leb (journalLength (journal (ed b (x ∷ a) q) t)) (length j) size, w .1, w .2)
-      (w .0, left-alone (ed b (r ∷ a) p) t h)
+      (w .0, shows-leaves (ed b (r ∷ a) p) t h)
 
 -- ---- what becomes of the record
 
 module _ (l : Line) (fine : isLine l ≡ true) where
-  to-inserted : (r : Record) → mark r ≡ 43 → (rewrite r l ≡ inserted l) × (sources (inserted l ∷ []) ≡ sources (r ∷ []))
-  unfolding rewrite sources oldSide oldOf
+  to-inserted : (r : Record) → mark r ≡ 43 → (rewrite r l ≡ inserted l) × (oldOf (inserted l) ≡ oldOf r)
+  unfolding rewrite oldOf
   to-inserted (kept m) e = absurd (omega arith)
   to-inserted (changed o n) e = absurd (omega arith)
   to-inserted (deleted m) e = absurd (omega arith)
   to-inserted (inserted m) e = (refl, refl)
 
-  to-kept : (r : Record) → Live r → (mark r ≡ 43 → ⊥) → eqLine (firstLine r) l ≡ true → (rewrite r l ≡ kept l) × (sources (kept l ∷ []) ≡ sources (r ∷ []))
-  unfolding rewrite change sources oldSide oldOf
+  to-kept : (r : Record) → Live r → (mark r ≡ 43 → ⊥) → eqLine (firstLine r) l ≡ true → (rewrite r l ≡ kept l) × (oldOf (kept l) ≡ oldOf r)
+  unfolding rewrite change oldOf
   to-kept (kept m) v e q = rw (q, eq-same m l q) (refl, refl)
   to-kept (changed o n) v e q = rw (q, eq-same o l q) (refl, refl)
   to-kept (deleted m) v e q = absurd v
   to-kept (inserted m) v e q = absurd (e refl)
 
   to-changed : (r : Record) → Live r → Good r → (mark r ≡ 43 → ⊥) → eqLine (firstLine r) l ≡ false
-      → (rewrite r l ≡ changed (firstLine r) l) × (sources (changed (firstLine r) l ∷ []) ≡ sources (r ∷ [])) × (isLine (firstLine r) ≡ true)
-  unfolding rewrite change sources oldSide oldOf
+      → (rewrite r l ≡ changed (firstLine r) l) × (oldOf (changed (firstLine r) l) ≡ oldOf r) × (isLine (firstLine r) ≡ true)
+  unfolding rewrite change oldOf
   to-changed (kept m) v g e q = rw q (refl, refl, g)
   to-changed (changed o n) v g e q = rw q (refl, refl, g .0)
   to-changed (deleted m) v g e q = absurd v
@@ -77,9 +71,9 @@ module _ (l : Line) (fine : isLine l ≡ true) where
 module _ (j k : List ℕ) (st : State) (c : Current) (rec line : List ℕ) (n len q end : ℕ) (m : Moved) (fits : len ≤ length line) (fine : isLine (take len line) ≡ true)
     (ends : end ≡ c .end + 1)
     (puts : (b : List Record) (r : Record) (a : List Record) (x : Record) → Holds j st b (r ∷ a) → end ≡ st .back + length (enc r)
-    → take n rec ≡ enc x → Good x → sources (x ∷ []) ≡ sources (r ∷ []) → Put j k st b x a q m) where
+    → take n rec ≡ enc x → Good x → oldOf x ≡ oldOf r → Put j k st b x a q m) where
   rewrote : (b : List Record) (r : Record) (a : List Record) (p : ℕ) (t : Tape) → Shows j st (ed b (r ∷ a) p) t → LinesOf j st c r
-      → (x : Record) → take n rec ≡ enc x → Good x → Live x → rewrite r (take len line) ≡ x → sources (x ∷ []) ≡ sources (r ∷ [])
+      → (x : Record) → take n rec ≡ enc x → Good x → Live x → rewrite r (take len line) ≡ x → oldOf x ≡ oldOf r
       → Answered k m (within (length j) (ed b (r ∷ a) p) (retexted (take len line) q (ed b (r ∷ a) p)) t)
   unfolding retexted
   rewrote b r a p t h w x is good live to src =

@@ -1,10 +1,9 @@
 -- Where the current line's text stands in the journal buffer, and what the commands that change it come to. Assumes nothing.
 use mathlib.Core.Path.{_≡_}
-use mathlib.Core.Bool.{Bool, cond}
+use mathlib.Core.Bool.{Bool}
 use mathlib.Core.List.{List, [], _∷_, _++_, reverseAux}
 use Prim.Native.Nat.{ℕ, zero, suc, _+_, _-_, _≤_, _<_}
 use lib.ListN.{length, take, drop}
-use lib.Dec.{ltb}
 use Rattle.definitions.specs.Bytes.{Line}
 use Rattle.definitions.specs.Journal.{Record, kept, changed, deleted, inserted, rewrite, journalLength}
 use Rattle.definitions.specs.Editor.{Ed, ed, Out, edited, halt, current}
@@ -25,11 +24,6 @@ unfoldable pub written : List ℕ → List ℕ → List ℕ
 written d x = x ++ drop (length x) d
 
 -- ---- where the lines of the current record stand
-
--- how many text bytes stand first
-unfoldable pub textLength : List ℕ → ℕ
-textLength [] = 0
-textLength (x ∷ l) = cond (ltb x 32) 0 (suc (textLength l))
 
 -- a record's first line: the old one where it is changed
 abbrev pub firstLine : Record → Line
@@ -52,11 +46,6 @@ pub record LinesOf (j : List ℕ) (st : State) (c : Current) (r : Record) : Type
 abbrev pub LinesAt : List ℕ → State → Current → Ed → Type 0
 LinesAt j st c (ed before [] p) = ⊥
 LinesAt j st c (ed before (r ∷ after) p) = LinesOf j st c r
-
--- p is within the current line
-abbrev pub PointIn : Ed → Type 0
-PointIn (ed before [] p) = Unit {0}
-PointIn (ed before (r ∷ after) p) = p ≤ length (current r)
 
 -- ---- the record that is written anew
 

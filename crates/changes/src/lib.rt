@@ -4,7 +4,7 @@ mod rewrite;
 ghost use mathlib.Core.Path.{_≡_};
 ghost use mathlib.Core.Bool.{true};
 ghost use Prim.Native.Nat.{_+_, _-_, _≤_, _<_};
-ghost use lib.ListN.{length, drop};
+ghost use lib.ListN.{length};
 ghost use Rattle.definitions.specs.Bytes.{allText, lower as «lower-of»};
 ghost use Rattle.definitions.specs.Tape.{Tape};
 ghost use Rattle.definitions.specs.Editor.{Ed};
@@ -12,7 +12,8 @@ ghost use Rattle.definitions.specs.Edit.{Op, within, step, alteredPoint};
 ghost use Rattle.definitions.specs.Matching.{qualified, placeOf};
 ghost use Rattle.matching.specs.Quals.{qualifiersOf, foundOf};
 ghost use Rattle.editor.specs.Shows.{Shows, Answered};
-ghost use Rattle.changes.specs.Current.{part, textLength, LinesAt, PointIn, changeOf, alteredAt};
+ghost use Rattle.editor.specs.Current.{TableOf, textOf, PointIn};
+ghost use Rattle.changes.specs.Current.{part, LinesAt, changeOf, alteredAt};
 use editor::Moved;
 use editor::State;
 use matching::Found;
@@ -26,49 +27,36 @@ pub struct Current {
     pub end: usize,
 }
 
-// Past the text bytes from `at` on.
-fn text_end(j: &[u8], at: usize) -> usize
-    requires { ⌜ at ≤ length (now j) ⌝ }
-    ensures { λ r. ⌜ r ≡ at + textLength (drop at (now (j .entry))) ⌝ }
-{
-    let mut i = at;
-    while i < j.len() {
-        if j[i] < 32 {
-            return i;
-        }
-        i += 1;
-    }
-    i
-}
-
 // Where the current record's lines stand. A 0 stands between those of a changed one.
 pub fn current_text(j: &[u8], st: State) -> Current
     requires { ⌜ ((e : Ed) × (t : Tape) × Shows (now j) st e t) × (st .back < length (now j)) ⌝ }
     ensures { λ r. ⌜ ((e : Ed) (t : Tape) → Shows (now (j .entry)) st e t → LinesAt (now (j .entry)) st r e) ⌝ }
 {
     let at = st.back;
-    let first = at + 2;
-    let old = text_end(j, first);
+    let x = editor::walk::line_text(j, st);
+    let start = x.from;
+    let end = start + x.n;
     if j[at] != 60 {
         return Current {
-            old,
-            start: first,
-            end: old,
+            old: end,
+            start,
+            end,
         };
     }
-    let start = old + 1;
-    let end = text_end(j, start);
-    Current { old, start, end }
+    Current {
+        old: start - 1,
+        start,
+        end,
+    }
 }
 
-// Where the string occurs in the current line's window.
-fn find_current(j: &[u8], c: Current, p: usize, q: Quals, s: &[u8]) -> Found
-    requires { ⌜ (c .start ≤ c .end) × (c .end ≤ length (now j)) × (p ≤ c .end - c .start) ⌝ }
-    ensures { λ r. ⌜ foundOf r ≡ placeOf (qualified (qualifiersOf q) (now (s .entry))) p (part (now (j .entry)) (c .start) (c .end)) ⌝ }
+// Where the string occurs in the current line's window. Until the line's first change it is the table that is looked at.
+fn find_current<'a>(table: &'a [u8], j: &'a [u8], st: State, q: Quals, s: &[u8]) -> Found
+    requires { ⌜ ((e : Ed) × (t : Tape) × Shows (now j) st e t × TableOf (now table) e t × PointIn e) × (st .back < length (now j)) ⌝ }
+    ensures { λ r. ⌜ ((e : Ed) (t : Tape) → Shows (now (j .entry)) st e t → TableOf (now (table .entry)) e t → foundOf r ≡ placeOf (qualified (qualifiersOf q) (now (s .entry))) (st .p) (textOf e)) ⌝ }
 {
-    let a = c.start;
-    let b = c.end;
-    matching::find(&j[a..b], p, q, s)
+    let line = editor::current::current_line(table, j, st);
+    matching::find(line, st.p, q, s)
 }
 
 // PR: p = 0.
@@ -121,8 +109,9 @@ pub fn right(j: &[u8], st: State) -> Moved
 }
 
 // PA (after), PB: p after or before the string.
-pub fn point(
-    j: &[u8],
+pub fn point<'a>(
+    table: &'a [u8],
+    j: &'a [u8],
     st: State,
     after: bool,
     q: Quals,
@@ -130,15 +119,14 @@ pub fn point(
     from: usize,
     to: usize,
 ) -> Moved
-    requires { ⌜ ((e : Ed) × (t : Tape) × Shows (now j) st e t × PointIn e) × (from ≤ to) × (to ≤ length (now script)) ⌝ }
-    ensures { λ r. ⌜ ((e : Ed) (t : Tape) → Shows (now (j .entry)) st e t → PointIn e → Answered (now (j .entry)) r (step (length (now (j .entry))) (Op.point after (qualified (qualifiersOf q) (part (now (script .entry)) from to))) e t)) ⌝ }
+    requires { ⌜ ((e : Ed) × (t : Tape) × Shows (now j) st e t × TableOf (now table) e t × PointIn e) × (from ≤ to) × (to ≤ length (now script)) ⌝ }
+    ensures { λ r. ⌜ ((e : Ed) (t : Tape) → Shows (now (j .entry)) st e t → TableOf (now (table .entry)) e t → PointIn e → Answered (now (j .entry)) r (step (length (now (j .entry))) (Op.point after (qualified (qualifiersOf q) (part (now (script .entry)) from to))) e t)) ⌝ }
 {
     let at = st.back;
     if at >= j.len() {
         return Moved::Stop(20, st);
     }
-    let c = current_text(j, st);
-    let found = find_current(j, c, st.p, q, &script[from..to]);
+    let found = find_current(table, j, st, q, &script[from..to]);
     let Found::At(i) = found else {
         return Moved::Stop(24, st);
     };
@@ -196,7 +184,7 @@ pub fn recase(j: &mut [u8], st: State, up: bool) -> Moved
     let k = c.start + st.p;
     let b = j[k];
     if up {
-        let big = [matching::upper(b)];
+        let big = [text::upper(b)];
         return splice_current(j, st, c, st.p, 1, &big, 1, st.p + 1);
     }
     let small = [lower(b)];
@@ -244,6 +232,7 @@ fn alter_at(
 
 // A, B, E; with pointing AP, BP, EP. kind: 0 for A, 1 for B, 2 for E.
 pub fn alter(
+    table: &[u8],
     j: &mut [u8],
     st: State,
     kind: u8,
@@ -255,17 +244,17 @@ pub fn alter(
     start: usize,
     end: usize,
 ) -> Moved
-    requires { ⌜ ((e : Ed) × (t : Tape) × Shows (now j) st e t × PointIn e) × (from ≤ to) × (to ≤ length (now script)) × (start ≤ end) × (end ≤ length (now script)) × (length (now script) ≤ 16384) × (allText (part (now script) start end) ≡ true) ⌝ }
-    ensures { λ r. ⌜ ((e : Ed) (t : Tape) → Shows (now (j .entry)) st e t → PointIn e → Answered (now (j .exit)) r (step (length (now (j .entry))) (Op.alter (changeOf kind) pointing (qualified (qualifiersOf q) (part (now (script .entry)) from to)) (part (now (script .entry)) start end)) e t)) ⌝ }
+    requires { ⌜ ((e : Ed) × (t : Tape) × Shows (now j) st e t × TableOf (now table) e t × PointIn e) × (from ≤ to) × (to ≤ length (now script)) × (start ≤ end) × (end ≤ length (now script)) × (length (now script) ≤ 16384) × (allText (part (now script) start end) ≡ true) ⌝ }
+    ensures { λ r. ⌜ ((e : Ed) (t : Tape) → Shows (now (j .entry)) st e t → TableOf (now (table .entry)) e t → PointIn e → Answered (now (j .exit)) r (step (length (now (j .entry))) (Op.alter (changeOf kind) pointing (qualified (qualifiersOf q) (part (now (script .entry)) from to)) (part (now (script .entry)) start end)) e t)) ⌝ }
 {
     let at = st.back;
     if at >= j.len() {
         return Moved::Stop(20, st);
     }
-    let c = current_text(j, st);
-    let found = find_current(j, c, st.p, q, &script[from..to]);
+    let found = find_current(table, j, st, q, &script[from..to]);
     let Found::At(i) = found else {
         return Moved::Stop(24, st);
     };
+    let c = current_text(j, st);
     alter_at(j, st, c, kind, pointing, i, to - from, &script[start..end])
 }

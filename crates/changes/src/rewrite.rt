@@ -5,9 +5,9 @@ ghost use mathlib.Core.List.{List, [], _∷_, _++_};
 ghost use Prim.Native.Nat.{_+_, _-_, _≤_, _<_};
 ghost use lib.ListN.{length, take, drop, set};
 ghost use Rattle.definitions.specs.Bytes.{eqLine, isLine, allText};
-ghost use Rattle.definitions.specs.Journal.{Record};
+ghost use Rattle.definitions.specs.Journal.{Record, oldOf};
 ghost use Rattle.definitions.specs.Tape.{Tape};
-ghost use Rattle.definitions.specs.Editor.{Ed, sources};
+ghost use Rattle.definitions.specs.Editor.{Ed};
 ghost use Rattle.definitions.specs.Edit.{within, splice};
 ghost use Rattle.editor.specs.Records.{enc, Good};
 ghost use Rattle.editor.specs.Shows.{Holds, Shows, Answered};
@@ -76,7 +76,7 @@ fn changed_record(rec: &mut [u8], j: &[u8], from: usize, n: usize, line: &[u8], 
 // The first n bytes of rec stand for the current record, which ends at `end`; p becomes q. 26: the journal would exceed its buffer.
 fn put_record(j: &mut [u8], st: State, end: usize, rec: &[u8], n: usize, q: usize) -> Moved
     requires { ⌜ ((b : List Record) × (r : Record) × (a : List Record) × Holds (now j) st b (r ∷ a) × (end ≡ st .back + length (enc r))) × (n ≤ length (now rec)) ⌝ }
-    ensures { λ m. ⌜ ((b : List Record) (r : Record) (a : List Record) (x : Record) → Holds (now (j .entry)) st b (r ∷ a) → end ≡ st .back + length (enc r) → take n (now (rec .entry)) ≡ enc x → Good x → sources (x ∷ []) ≡ sources (r ∷ []) → Put (now (j .entry)) (now (j .exit)) st b x a q m) ⌝ }
+    ensures { λ m. ⌜ ((b : List Record) (r : Record) (a : List Record) (x : Record) → Holds (now (j .entry)) st b (r ∷ a) → end ≡ st .back + length (enc r) → take n (now (rec .entry)) ≡ enc x → Good x → oldOf x ≡ oldOf r → Put (now (j .entry)) (now (j .exit)) st b x a q m) ⌝ }
 {
     let front = st.front;
     let at = st.back;

@@ -9,11 +9,12 @@ use Rattle.definitions.specs.Journal.{Record, kept}
 use Rattle.definitions.specs.Tape.{Tape, unread, ended, restLines, bind, Need, readNext, readNeed}
 use Rattle.definitions.specs.Editor.{Ed, ed, Out, on, halt, records, journal, sources, furthest, seen, land, goBack}
 use Rattle.definitions.specs.Edit.{Op, need, nextNeed, act, withLine, within, step}
+use Rattle.editor.specs.Records.{encAll}
 use Rattle.editor.specs.Shows.{Holds, Placed, Shows, Leaves, beforeOf, afterOf, pointOf, restOf, GroundedAt, Same, Answers, Answered, reachedBy}
 use Rattle.editor.specs.declared.State.{State}
 use Rattle.editor.specs.declared.Moved.the-variants.{On, Stop}
 use Rattle.editor.proofs.Records.{some-bytes, sourced, sources-cons, sources-reverse}
-use Rattle.editor.proofs.Held.{holds-as, holds-lists, held-first, held-none, held-nearest, held-start, held-mark, held-more}
+use Rattle.editor.proofs.Held.{holds-as, holds-lists, held-length, held-first, held-none, held-nearest, held-start, held-mark, held-more}
 use Rattle.editor.proofs.Reading.{reverse-append, reachOf, reach-of}
 use Rattle.editor.proofs.Reaching.{landRead, landing, landingAll, Landing, lands, Reached, stops, lands-on, back-reached, back-over, back-live, back-none}
 
@@ -109,6 +110,17 @@ current-is (x ∷ a) t g r d q =
     let two : a ++ map kept (restLines t) ≡ d = cc in
     (a, ap (λ (y : Record). y ∷ a) one, sym two)
 
+pub shown-record : {j : List ℕ} {st : State} (b : List Record) (p : ℕ) (t : Tape) → Shows j st (ed b [] p) t → st .back < length j → ⊥
+unfolding encAll restLines
+shown-record b p (unread ls) h more = h .grounded
+shown-record b p ended h more = omega (arith, held-length (h .holds))
+
+pub shown-eof : {j : List ℕ} {st : State} (b : List Record) (r : Record) (a : List Record) (p : ℕ) (t : Tape) → Shows j st (ed b (r ∷ a) p) t → length j ≤ st .back → ⊥
+shown-eof b r a p t h end =
+    let none : r ∷ (a ++ map kept (restLines t)) ≡ [] = held-none (h .holds) end in
+    let z : _≡_ {A = ℕ} 0 1 = cc in
+    omega arith
+
 next-none : {j : List ℕ} {st : State} (n : ℕ) (b : List Record) (p : ℕ) (t : Tape) → Shows j st (ed b [] p) t → Answered j (Stop 20 st) (step n Op.next (ed b [] p) t)
 unfolding Answers step bind readNeed readNext need nextNeed act withLine within seen
 next-none n b p t h = (refl, leaves-of b [] p t (same-here (h .holds)) (shown-reach b [] p t h))
@@ -120,7 +132,7 @@ next-eof {j} {st} n (ed b a p) t h end = at-none a (unread-none a t (held-none (
     at-none [] q h = next-none n b p t h
     at-none (r ∷ c) q h = absurd (let z : _≡_ {A = ℕ} 0 1 = cc in omega arith)
 
-next-step : (n : ℕ) (b : List Record) (r : Record) (a : List Record) (p : ℕ) (t : Tape)
+pub next-step : (n : ℕ) (b : List Record) (r : Record) (a : List Record) (p : ℕ) (t : Tape)
     → step n Op.next (ed b (r ∷ a) p) t ≡ (on true (landing (r ∷ b) a t), (landRead a t) .1)
 unfolding step bind need nextNeed act withLine within seen
 next-step n b r a p t = refl
@@ -217,7 +229,7 @@ module _ {j k : List ℕ} {s u : State} {b a : List Record} (w : Backing j s b a
   backing-live m =
       (near .1, near .0 ∷ w .back, there, λ x. sym (way-there x) ∙ back-live x (near .1) (near .0) (w .back) (λ q. m (held-mark there ∙ q)))
 
-previous-step : (n : ℕ) (b a : List Record) (p : ℕ) (t : Tape) → step n Op.previous (ed b a p) t ≡ within n (ed b a p) (goBack (ed b a p) b a) t
+pub previous-step : (n : ℕ) (b a : List Record) (p : ℕ) (t : Tape) → step n Op.previous (ed b a p) t ≡ within n (ed b a p) (goBack (ed b a p) b a) t
 unfolding need act
 previous-step n b a p t = step-still n Op.previous (ed b a p) t refl
 

@@ -7,7 +7,7 @@ use native.Mathlib.Numerals.{add-one}
 use mathlib.Core.List.{List, [], _∷_, _++_, map, reverseAux, append-assoc, append-nil}
 use lib.ListN.{length, take, drop, getD, set, length-append}
 use lib.Seq.{take-suc, drop-cons, set-at, getD-at, take-at, drop-at, length-take-le}
-use borrow.Author.Tests.{eq-eqb, ne-eqb}
+use borrow.Author.Tests.{ne-eqb}
 use Rattle.gap.specs.Gap.{zeros, movedDown}
 use Rattle.gap.proofs.Laws.{down-parts}
 use Rattle.definitions.specs.Bytes.{Line, isLine, lineBytes}
@@ -63,15 +63,13 @@ module _ (j : List ℕ) (i : ℕ) (h : i < length j) where
   at : length (map lineEnd (take i j)) ≡ i
   at = map-length (take i j) ∙ length-take-le i j (omega arith)
 
-  pub ended-byte : getD (endedTo i j) i 0 ≡ getD j i 0
-  ended-byte = rw (ended-now j i h) (getD-at (map lineEnd (take i j)) (getD j i 0) (drop (i + 1) j) 0 i at)
+  byte : getD (endedTo i j) i 0 ≡ getD j i 0
+  byte = rw (ended-now j i h) (getD-at (map lineEnd (take i j)) (getD j i 0) (drop (i + 1) j) 0 i at)
 
-  pub ended-keep : (getD j i 0 ≡ 0 → ⊥) → endedTo i j ≡ endedTo (i + 1) j
-  ended-keep e = ended-now j i h ∙ rw (ended-next j i h, ne-eqb (getD j i 0) 0 e)
-
-  pub ended-set : getD j i 0 ≡ 0 → set (endedTo i j) i 10 ≡ endedTo (i + 1) j
-  ended-set e =
-      rw (ended-now j i h) (set-at (map lineEnd (take i j)) (getD j i 0) (drop (i + 1) j) 10 i at ∙ sym (ended-next j i h ∙ rw (eq-eqb (getD j i 0) 0 e)))
+  pub ended-set : set (endedTo i j) i (lineEnd (getD (endedTo i j) i 0)) ≡ endedTo (i + 1) j
+  ended-set =
+      rw byte
+      (rw (ended-now j i h) (set-at (map lineEnd (take i j)) (getD j i 0) (drop (i + 1) j) (lineEnd (getD j i 0)) i at) ∙ sym (ended-next j i h))
 
 -- ---- the whole
 

@@ -50,7 +50,7 @@ unfolding step bind need deleteNeed deleteHereNeed act deleteLines thenDo moveTo
 delete-step n b r a p t = refl
 
 -- records changed, and the journal fits
-edited-fits : {k : List ℕ} {s : State} (n : ℕ) (x e : Ed) (t : Tape) → n ≡ length k → Shows k s e t → Answered k (On s) (within n x (edited e) t)
+pub edited-fits : {k : List ℕ} {s : State} (n : ℕ) (x e : Ed) (t : Tape) → n ≡ length k → Shows k s e t → Answered k (On s) (within n x (edited e) t)
 unfolding Answers within
 edited-fits n x e t q h = rw (le-leb (journalLength (journal e t)) n (omega (arith, shows-fits e t h))) h
 

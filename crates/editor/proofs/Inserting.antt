@@ -14,13 +14,13 @@ use Rattle.gap.proofs.Laws.{paste-parts}
 use Rattle.definitions.specs.Bytes.{Line, isLine}
 use Rattle.definitions.specs.Journal.{Record, kept, inserted, recordLength, journalLength}
 use Rattle.definitions.specs.Tape.{Tape, restLines}
-use Rattle.definitions.specs.Editor.{Ed, ed, edited, halt, journal, sources, putBefore}
+use Rattle.definitions.specs.Editor.{Ed, ed, edited, halt, journal, putBefore}
 use Rattle.definitions.specs.Edit.{Op, need, act, insertLines, within, step}
 use Rattle.editor.specs.Records.{encAll, encBefore}
 use Rattle.editor.specs.Shows.{Holds, Shows, Stays, Answers, Answered}
 use Rattle.editor.specs.declared.State.{State}
 use Rattle.editor.specs.declared.Moved.the-variants.{On, Stop}
-use Rattle.editor.proofs.Records.{line-short, sources-cons, all-length, before-all}
+use Rattle.editor.proofs.Records.{line-short, sources-cons, old-bytes-cons, sum-reverse, all-length, before-all}
 use Rattle.editor.proofs.Held.{held-length}
 use Rattle.editor.proofs.Reading.{reachOf}
 use Rattle.editor.proofs.Answers.{step-still, shown-reach, journal-is, shows-of, leaves-of, same-here}
@@ -55,10 +55,10 @@ module _ (B A s : List ℕ) (f n r : ℕ) (at : length B ≡ f) (fits : n ≤ le
 -- what `put_line` makes of a buffer
 pub put-holds : (j k : List ℕ) (st s : State) (text : List ℕ) (n : ℕ) → n ≤ length text → isLine (take n text) ≡ true → st .front + (n + 3) ≤ st .back
     → k ≡ set (paste (set (set j (st .front) 43) (st .front + 1) 43) (st .front + 2) text n) (st .front + 2 + n) 10
-    → s .front ≡ st .front + 2 + n + 1 → s .back ≡ st .back → s .past ≡ st .past → s .lines ≡ st .lines
+    → s .front ≡ st .front + 2 + n + 1 → s .back ≡ st .back → s .past ≡ st .past → s .lines ≡ st .lines → s .source ≡ st .source → s .size ≡ st .size
     → (b a : List Record) → Holds j st b a → Holds k s (inserted (take n text) ∷ b) a
 unfolding encBefore
-put-holds j k st s text n fits good room is f e c l b a h =
+put-holds j k st s text n fits good room is f e c l o z b a h =
     let T : List ℕ = take n text in
     let r : ℕ = s .back - s .front in
     let long : length T ≡ n = length-take-le n text fits in
@@ -70,8 +70,10 @@ put-holds j k st s text n fits good room is f e c l b a h =
       order = omega arith;
       past-good = (good, h .past-good);
       good = h .good;
-      past = c ∙ h .past ∙ sym (sources-cons (inserted T) b ∙ (let z : 0 + sources b ≡ sources b = omega arith in z));
+      past = omega (arith, h .past, sources-cons (inserted T) b);
       lines = omega (arith, h .lines, sources-cons (inserted T) b);
+      source = omega (arith, h .source, old-bytes-cons (inserted T) b);
+      size = omega (arith, h .size, old-bytes-cons (inserted T) b);
       few = omega (arith, h .few);
     }
 
@@ -89,46 +91,59 @@ pub held-journal : {j : List ℕ} {st : State} {b a : List Record} → Holds j s
 held-journal {b = b} {a = a} h =
     omega (arith, all-length (reverseAux b a), ap length (before-all b a), length-append (encBefore b) (encAll a), h .front, h .order, held-length h)
 
-length-reverse : (b a : List Record) → journalLength (reverseAux b a) ≡ journalLength b + journalLength a
+pub length-reverse : (b a : List Record) → journalLength (reverseAux b a) ≡ journalLength b + journalLength a
 unfolding journalLength
-length-reverse [] a = omega arith
-length-reverse (r ∷ b) a = omega (arith, length-reverse b (r ∷ a))
+length-reverse = sum-reverse journalLength recordLength refl (λ r rs. refl)
 
-inserted-length : (l : Line) (b a : List Record) → journalLength (reverseAux (inserted l ∷ b) a) ≡ 3 + length l + journalLength (reverseAux b a)
-unfolding journalLength recordLength
-inserted-length l b a = omega (arith, length-reverse (inserted l ∷ b) a, length-reverse b a)
+-- lines put before the current one, as records
+pub put-length : (ls : List Line) (b a : List Record) → journalLength (reverseAux (putBefore ls b) a) ≡ journalLength (map inserted ls) + journalLength (reverseAux b a)
+unfolding journalLength recordLength putBefore
+put-length [] b a = omega arith
+put-length (l ∷ ls) b a = omega (arith, put-length ls (inserted l ∷ b) a, length-reverse (inserted l ∷ b) a, length-reverse b a)
 
--- ---- IS
+-- ---- I and IS
 
-insert-step : (n : ℕ) (l : Line) (b a : List Record) (p : ℕ) (t : Tape)
-    → step n (Op.insert none (l ∷ [])) (ed b a p) t
-    ≡ cond (leb (journalLength (journal (ed (inserted l ∷ b) a p) t)) n) (edited (ed (inserted l ∷ b) a p), t) (halt 26 (ed b a p), t)
-unfolding need act insertLines putBefore within
-insert-step n l b a p t = step-still n (Op.insert none (l ∷ [])) (ed b a p) t refl
+insert-step : (n : ℕ) (ls : List Line) (b a : List Record) (p : ℕ) (t : Tape)
+    → step n (Op.insert none ls) (ed b a p) t
+    ≡ cond (leb (journalLength (journal (ed (putBefore ls b) a p) t)) n) (edited (ed (putBefore ls b) a p), t) (halt 26 (ed b a p), t)
+unfolding need act insertLines within
+insert-step n ls b a p t = step-still n (Op.insert none ls) (ed b a p) t refl
 
 -- how long the journal would be
-insert-length : {j : List ℕ} {st : State} (l : Line) (b a : List Record) (p : ℕ) (t : Tape) → Shows j st (ed b a p) t
-    → journalLength (journal (ed (inserted l ∷ b) a p) t) + (st .back - st .front) ≡ 3 + length l + length j
-insert-length l b a p t h =
+insert-length : {j : List ℕ} {st : State} (ls : List Line) (b a : List Record) (p : ℕ) (t : Tape) → Shows j st (ed b a p) t
+    → journalLength (journal (ed (putBefore ls b) a p) t) + (st .back - st .front) ≡ journalLength (map inserted ls) + length j
+insert-length ls b a p t h =
     let U : List Record = a ++ map kept (restLines t) in
-    let new : journalLength (journal (ed (inserted l ∷ b) a p) t) ≡ journalLength (reverseAux (inserted l ∷ b) U) = ap journalLength (sym (journal-is (inserted l ∷ b) a p t)) in
-    omega (arith, inserted-length l b U, held-journal (h .holds))
+    let new : journalLength (journal (ed (putBefore ls b) a p) t) ≡ journalLength (reverseAux (putBefore ls b) U) = ap journalLength (sym (journal-is (putBefore ls b) a p t)) in
+    omega (arith, put-length ls b U, held-journal (h .holds))
 
+pub lines-full : {j : List ℕ} {st : State} (ls : List Line) (e : Ed) (t : Tape) → Shows j st e t → st .back - st .front < journalLength (map inserted ls)
+    → Answered j (Stop 26 st) (step (length j) (Op.insert none ls) e t)
+unfolding Answers
+lines-full {j} ls (ed b a p) t h full =
+    rw (insert-step (length j) ls b a p t, lt-leb (journalLength (journal (ed (putBefore ls b) a p) t)) (length j) (omega (arith, insert-length ls b a p t h)))
+    (refl, leaves-of b a p t (same-here (h .holds)) (shown-reach b a p t h))
+
+pub lines-on : {j k : List ℕ} {st s : State} (ls : List Line) (e : Ed) (t : Tape) → Shows j st e t → journalLength (map inserted ls) ≤ st .back - st .front
+    → ((b : List Record) (a : List Record) → Holds j st b a → Holds k s (putBefore ls b) a) → Stays st s
+    → Answered k (On s) (step (length j) (Op.insert none ls) e t)
+unfolding Answers
+lines-on {j} ls (ed b a p) t h room puts same =
+    rw (insert-step (length j) ls b a p t, le-leb (journalLength (journal (ed (putBefore ls b) a p) t)) (length j) (omega (arith, insert-length ls b a p t h)))
+    (shows-of (putBefore ls b) a p t (puts b (a ++ map kept (restLines t)) (h .holds))
+    (same .furthest ∙ shown-reach b a p t h ∙ ap (λ (m : ℕ). reachOf m t) (sym (same .lines))) (same .p ∙ h .p) (h .grounded))
+
+-- one line
 pub insert-full : {j : List ℕ} {st : State} (l : Line) (e : Ed) (t : Tape) → Shows j st e t → st .back - st .front < length l + 3
     → Answered j (Stop 26 st) (step (length j) (Op.insert none (l ∷ [])) e t)
-unfolding Answers
-insert-full {j} l (ed b a p) t h full =
-    rw (insert-step (length j) l b a p t, lt-leb (journalLength (journal (ed (inserted l ∷ b) a p) t)) (length j) (omega (arith, insert-length l b a p t h)))
-    (refl, leaves-of b a p t (same-here (h .holds)) (shown-reach b a p t h))
+unfolding journalLength recordLength
+insert-full l e t h full = lines-full (l ∷ []) e t h (omega arith)
 
 pub insert-on : {j k : List ℕ} {st s : State} (l : Line) (e : Ed) (t : Tape) → Shows j st e t → length l + 3 ≤ st .back - st .front
     → ((b : List Record) (a : List Record) → Holds j st b a → Holds k s (inserted l ∷ b) a) → Stays st s
     → Answered k (On s) (step (length j) (Op.insert none (l ∷ [])) e t)
-unfolding Answers
-insert-on {j} l (ed b a p) t h room puts same =
-    rw (insert-step (length j) l b a p t, le-leb (journalLength (journal (ed (inserted l ∷ b) a p) t)) (length j) (omega (arith, insert-length l b a p t h)))
-    (shows-of (inserted l ∷ b) a p t (puts b (a ++ map kept (restLines t)) (h .holds))
-    (same .furthest ∙ shown-reach b a p t h ∙ ap (λ (m : ℕ). reachOf m t) (sym (same .lines))) (same .p ∙ h .p) (h .grounded))
+unfolding journalLength recordLength putBefore
+insert-on l e t h room puts same = lines-on (l ∷ []) e t h (omega arith) puts same
 
 -- the text is in the slice
 pub text-fits : (s : List ℕ) (from n : ℕ) → from + n ≤ length s → n ≤ length (drop from s)

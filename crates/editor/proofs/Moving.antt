@@ -17,7 +17,7 @@ use Rattle.editor.specs.Records.{encAll, encBefore, mark}
 use Rattle.editor.specs.Shows.{Holds, Placed, Stays, Shows, Leaves, beforeOf, restOf, Same, AtSource, Answers, Answered}
 use Rattle.editor.specs.declared.State.{State}
 use Rattle.editor.specs.declared.Moved.the-variants.{On, Stop}
-use Rattle.editor.proofs.Records.{sources-nil, sources-append, sources-reverse, sources-kept, all-before, goods-reverse}
+use Rattle.editor.proofs.Records.{sources-nil, sources-append, sources-reverse, sources-kept, old-bytes-nil, old-bytes-reverse, all-before, goods-reverse}
 use Rattle.editor.proofs.Held.{holds-as, holds-lists, held-length, held-first, held-none, held-mark}
 use Rattle.editor.proofs.Reading.{reverse-append, reachOf, raisedBy, rest-few, read-rest, read-reach, read-enough}
 use Rattle.editor.proofs.Reaching.{Reached, locate-reached, locate-from, locate-none, locate-dead, locate-live}
@@ -45,14 +45,14 @@ unfolding step bind readNeed need targetNeed act moveTo seen records
 move-step n m b a p t = refl
 
 -- the furthest line read then
-raise-at : (lines m : ℕ) (b a : List Record) (t : Tape) → lines ≡ sources b + sources (a ++ map kept (restLines t))
-    → min (reachOf lines t + lack m b a) (suc lines) ≡ max (reachOf lines t) (min m (lines + 1))
+pub raise-at : (lines m : ℕ) (b a : List Record) (t : Tape) → lines ≡ sources b + sources (a ++ map kept (restLines t))
+    → min (reachOf lines t + (m - (sources b + sources a))) (suc lines) ≡ max (reachOf lines t) (min m (lines + 1))
 unfolding reachOf restLines
 raise-at lines m b a (unread ls) is = omega (arith, sources-append a (map kept ls), sources-kept ls)
 raise-at lines m b a ended is = omega (arith, sources-append a [], sources-nil)
 
-raise-to : (lines m : ℕ) (b a : List Record) (t : Tape) → lines ≡ sources b + sources (a ++ map kept (restLines t))
-    → reachOf lines (us m b a t) ≡ max (reachOf lines t) (min m (lines + 1))
+pub raise-to : (lines m : ℕ) (b a : List Record) (t : Tape) → lines ≡ sources b + sources (a ++ map kept (restLines t))
+    → reachOf lines ((readNext (m - (sources b + sources a)) t) .1) ≡ max (reachOf lines t) (min m (lines + 1))
 unfolding readNeed raisedBy
 raise-to lines m b a t is = read-reach lines (Need.next (lack m b a)) t (omega (arith, rest-few b a t)) ∙ raise-at lines m b a t is
 
@@ -158,9 +158,9 @@ module _ {j k : List ℕ} {st s : State} (n m : ℕ) (pos : 0 < m) (e : Ed) (t :
 -- all of the records moved down
 pub eof-holds : {j k : List ℕ} {st s : State} (b a : List Record) → Holds j st b a → k ≡ movedDown (st .front) (st .back) (length j - st .back) j
     → s .front ≡ st .front + (length j - st .back) → s .back ≡ st .back + (length j - st .back) → s .past ≡ st .lines → s .lines ≡ st .lines
-    → Holds k s (reverseAux a b) []
+    → s .source ≡ st .size → s .size ≡ st .size → Holds k s (reverseAux a b) []
 unfolding encAll
-eof-holds {j} {k} {st} {s} b a h q f e n l =
+eof-holds {j} {k} {st} {s} b a h q f e n l o z =
     let g : ℕ = st .back - st .front in
     let wide : s .back - s .front ≡ g = omega (arith, h .order) in
     let long : length j - st .back ≡ length (encAll a) = omega (arith, held-length h) in
@@ -175,6 +175,8 @@ eof-holds {j} {k} {st} {s} b a h q f e n l =
       good = tt;
       past = omega (arith, h .lines, sources-reverse a b);
       lines = omega (arith, h .lines, sources-reverse a b, sources-nil);
+      source = omega (arith, h .size, old-bytes-reverse a b);
+      size = omega (arith, h .size, old-bytes-reverse a b, old-bytes-nil);
       few = omega (arith, h .few);
     }
 
@@ -185,11 +187,11 @@ eof-step n b a p t = refl
 
 pub eof-on : {j k : List ℕ} {st s : State} (n : ℕ) (e : Ed) (t : Tape) → Shows j st e t → k ≡ movedDown (st .front) (st .back) (length j - st .back) j
     → s .front ≡ st .front + (length j - st .back) → s .back ≡ st .back + (length j - st .back) → s .past ≡ st .lines → s .lines ≡ st .lines
-    → s .furthest ≡ st .lines + 1 → s .p ≡ 0 → Answered k (On s) (step n (Op.move Target.eof) e t)
+    → s .source ≡ st .size → s .size ≡ st .size → s .furthest ≡ st .lines + 1 → s .p ≡ 0 → Answered k (On s) (step n (Op.move Target.eof) e t)
 unfolding Answers restLines reachOf
-eof-on n (ed b a p) t h q f g c l far z =
+eof-on n (ed b a p) t h q f g c l o y far z =
     rw (eof-step n b a p t)
-    (shows-of (reverseAux (a ++ map kept (restLines t)) b) [] 0 ended (eof-holds b (a ++ map kept (restLines t)) (h .holds) q f g c l) (omega arith) z tt)
+    (shows-of (reverseAux (a ++ map kept (restLines t)) b) [] 0 ended (eof-holds b (a ++ map kept (restLines t)) (h .holds) q f g c l o y) (omega arith) z tt)
 
 -- ---- M .
 

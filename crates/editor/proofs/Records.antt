@@ -1,5 +1,5 @@
 -- The laws of records as they stand in the buffer. Assumes nothing.
-use mathlib.Core.Path.{_≡_, refl, sym, _∙_}
+use mathlib.Core.Path.{_≡_, refl, sym, ap, _∙_}
 use mathlib.Core.Bool.{Bool, true, false, _&&_}
 use Prim.Native.Nat.{ℕ, suc, _+_, _-_, _≤_, _<_}
 use native.Mathlib.Omega.{arith}
@@ -10,11 +10,12 @@ use lib.ListN.{length, length-append}
 use lib.Seq.{getD-at}
 use lib.Dec.{leb}
 use borrow.Author.Tests.{leb-true}
-use Rattle.definitions.specs.Bytes.{Line, isText, allText, isLine}
+use Rattle.definitions.specs.Bytes.{Line, lineBytes, linesBytes, isText, allText, isLine}
 use Rattle.definitions.specs.Journal.{Record, kept, changed, deleted, inserted, oldOf, oldSide, recordLength, journalLength}
 use Rattle.definitions.specs.Editor.{sources}
+use Rattle.theorems.specs.RecordLaws.{old-kept}
 use Rattle.gap.specs.Lines.{lineLength, lineStart}
-use Rattle.editor.specs.Records.{body, enc, encAll, encBefore, mark, Good, Goods}
+use Rattle.editor.specs.Records.{body, enc, encAll, encBefore, mark, Good, Goods, oldBytes}
 use Rattle.editor.proofs.Lines.{NoLF, noLF-append, line-of, back-over}
 
 -- ---- good lines have no line feed and no 0
@@ -123,17 +124,68 @@ pub sources-nil : sources [] ≡ 0
 unfolding sources oldSide
 sources-nil = refl
 
+-- a number that is the sum of what the records have
+module _ (total : List Record → ℕ) (one : Record → ℕ) (none : total [] ≡ 0) (first : (r : Record) (rs : List Record) → total (r ∷ rs) ≡ one r + total rs) where
+  pub sum-append : (a b : List Record) → total (a ++ b) ≡ total a + total b
+  sum-append [] b = omega arith
+  sum-append (r ∷ a) b = omega (arith, first r (a ++ b), first r a, sum-append a b)
+
+  pub sum-reverse : (a b : List Record) → total (reverseAux a b) ≡ total a + total b
+  sum-reverse [] b = omega arith
+  sum-reverse (r ∷ a) b = omega (arith, sum-reverse a (r ∷ b), first r b, first r a)
+
 pub sources-append : (a b : List Record) → sources (a ++ b) ≡ sources a + sources b
-sources-append [] b = rw sources-nil (omega arith)
-sources-append (r ∷ a) b = omega (arith, sources-cons r (a ++ b), sources-cons r a, sources-append a b)
+sources-append = sum-append sources sourced sources-nil sources-cons
 
 pub sources-reverse : (a b : List Record) → sources (reverseAux a b) ≡ sources a + sources b
-sources-reverse [] b = rw sources-nil (omega arith)
-sources-reverse (r ∷ a) b = omega (arith, sources-reverse a (r ∷ b), sources-cons r b, sources-cons r a)
+sources-reverse = sum-reverse sources sourced sources-nil sources-cons
 
 pub sources-kept : (ls : List Line) → sources (map kept ls) ≡ length ls
 sources-kept [] = sources-nil
 sources-kept (l ∷ ls) = omega (arith, sources-cons (kept l) (map kept ls), sources-kept ls)
+
+-- ---- the bytes of source lines
+
+-- how many a record has in the table
+abbrev pub oldSize : Record → ℕ
+oldSize (kept l) = suc (length l)
+oldSize (changed o n) = suc (length o)
+oldSize (deleted l) = suc (length l)
+oldSize (inserted l) = 0
+
+pub old-bytes-cons : (r : Record) (rs : List Record) → oldBytes (r ∷ rs) ≡ oldSize r + oldBytes rs
+unfolding oldBytes oldSide oldOf linesBytes lineBytes
+old-bytes-cons (kept l) rs = simp length-append (omega arith)
+old-bytes-cons (changed o n) rs = simp length-append (omega arith)
+old-bytes-cons (deleted l) rs = simp length-append (omega arith)
+old-bytes-cons (inserted l) rs = omega arith
+
+pub old-bytes-nil : oldBytes [] ≡ 0
+unfolding oldBytes oldSide linesBytes
+old-bytes-nil = refl
+
+pub old-bytes-one : (r : Record) → oldBytes (r ∷ []) ≡ oldSize r
+old-bytes-one r = omega (arith, old-bytes-cons r [], old-bytes-nil)
+
+pub old-bytes-reverse : (a b : List Record) → oldBytes (reverseAux a b) ≡ oldBytes a + oldBytes b
+old-bytes-reverse = sum-reverse oldBytes oldSize old-bytes-nil old-bytes-cons
+
+pub old-bytes-kept : (ls : List Line) → oldBytes (map kept ls) ≡ length (linesBytes ls)
+unfolding oldBytes
+old-bytes-kept ls = ap (λ (z : List Line). length (linesBytes z)) (old-kept ls)
+
+-- a record has a source line where it has bytes of the table
+pub has-source : (r : Record) → 0 < oldSize r → sourced r ≡ 1
+has-source (kept l) h = refl
+has-source (changed o n) h = refl
+has-source (deleted l) h = refl
+has-source (inserted l) h = absurd (omega arith)
+
+pub no-source : (r : Record) → oldSize r ≤ 0 → sourced r ≡ 0
+no-source (kept l) h = absurd (omega arith)
+no-source (changed o n) h = absurd (omega arith)
+no-source (deleted l) h = absurd (omega arith)
+no-source (inserted l) h = refl
 
 -- ---- lengths
 

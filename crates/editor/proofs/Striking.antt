@@ -13,7 +13,7 @@ use Rattle.definitions.specs.Journal.{Record, kept, changed, deleted, inserted,
 use Rattle.editor.specs.Records.{enc, encAll, encBefore, mark, zeroPlace}
 use Rattle.editor.specs.Shows.{Holds, HoldsCut}
 use Rattle.editor.specs.declared.State.{State}
-use Rattle.editor.proofs.Records.{Text, line-text, sources-cons, three-bytes}
+use Rattle.editor.proofs.Records.{Text, line-text, sources-cons, old-bytes-cons, three-bytes}
 use Rattle.editor.proofs.Held.{held-near-mark, held-less, held-length}
 
 -- ---- the place of a 0
@@ -62,9 +62,10 @@ module _ {j : List ℕ} {st : State} {f : ℕ} {o n : List ℕ} {b a : List Reco
       ap-length q = omega (arith, simp (length-append, length-replicate) at q, h .start, h .front, h .order)
 
   pub cut-holds : (k : List ℕ) (s : State) (z : ℕ) → z ≡ f + zeroPlace (drop f j) → k ≡ cleared (z + 1) (st .front - (z + 1)) (set j z 10)
-      → s .front ≡ z + 1 → s .back ≡ st .back → s .past ≡ st .past → s .lines ≡ st .lines → Holds k s (deleted o ∷ b) a
+      → s .front ≡ z + 1 → s .back ≡ st .back → s .past ≡ st .past → s .lines ≡ st .lines
+      → s .source ≡ st .source → s .size ≡ st .size → Holds k s (deleted o ∷ b) a
   unfolding encBefore
-  cut-holds k s z at is sf sb sp sl =
+  cut-holds k s z at is sf sb sp sl so sz =
       let P : List ℕ = encBefore b ++ (45 ∷ 45 ∷ o) in
       let g : ℕ = st .back - st .front in
       let Z : List ℕ = zeros g ++ encAll a in
@@ -86,6 +87,8 @@ module _ {j : List ℕ} {st : State} {f : ℕ} {o n : List ℕ} {b a : List Reco
         good = h .good;
         past = omega (arith, h .past, sources-cons (deleted o) b);
         lines = omega (arith, h .lines, sources-cons (deleted o) b);
+        source = omega (arith, h .source, old-bytes-cons (deleted o) b);
+        size = omega (arith, h .size, old-bytes-cons (deleted o) b);
         few = omega (arith, h .few);
       }
 
@@ -109,13 +112,13 @@ strike-room f w = (omega (arith, held-less (w .3), w .4, three-bytes (w .0)), om
 module _ {j k : List ℕ} {st : State} (f : ℕ) where
   -- an inserted record goes
   pub strike-inserted : (s : State) → getD j f 0 ≡ 43 → k ≡ cleared f (st .front - f) j
-      → s .front ≡ f → s .back ≡ st .back → s .past ≡ st .past → s .lines ≡ st .lines
+      → s .front ≡ f → s .back ≡ st .back → s .past ≡ st .past → s .lines ≡ st .lines → s .source ≡ st .source → s .size ≡ st .size
       → (x : Record) (b a : List Record) → Holds j st (x ∷ b) a → length (encBefore b) ≡ f → Holds k s (erase x ++ b) a
   unfolding erase encBefore
-  strike-inserted s m q sf sb sp sl (kept l) b a h at = absurd (omega (arith, near-mark f (kept l) b a h at))
-  strike-inserted s m q sf sb sp sl (changed o n) b a h at = absurd (omega (arith, near-mark f (changed o n) b a h at))
-  strike-inserted s m q sf sb sp sl (deleted l) b a h at = absurd (omega (arith, near-mark f (deleted l) b a h at))
-  strike-inserted s m q sf sb sp sl (inserted l) b a h at =
+  strike-inserted s m q sf sb sp sl so sz (kept l) b a h at = absurd (omega (arith, near-mark f (kept l) b a h at))
+  strike-inserted s m q sf sb sp sl so sz (changed o n) b a h at = absurd (omega (arith, near-mark f (changed o n) b a h at))
+  strike-inserted s m q sf sb sp sl so sz (deleted l) b a h at = absurd (omega (arith, near-mark f (deleted l) b a h at))
+  strike-inserted s m q sf sb sp sl so sz (inserted l) b a h at =
       let g : ℕ = st .back - st .front in
       let e : List ℕ = enc (inserted l) in
       let size : st .front - f ≡ length e = omega (arith, held-less h) in
@@ -130,6 +133,8 @@ module _ {j k : List ℕ} {st : State} (f : ℕ) where
         good = h .good;
         past = omega (arith, h .past, sources-cons (inserted l) b);
         lines = omega (arith, h .lines, sources-cons (inserted l) b);
+        source = omega (arith, h .source, old-bytes-cons (inserted l) b);
+        size = omega (arith, h .size, old-bytes-cons (inserted l) b);
         few = omega (arith, h .few);
       }
 
@@ -145,6 +150,8 @@ module _ {j k : List ℕ} {st : State} (f : ℕ) where
     good = h .good;
     past = omega (arith, h .past, sources-cons (kept l) b, sources-cons (deleted l) b);
     lines = omega (arith, h .lines, sources-cons (kept l) b, sources-cons (deleted l) b);
+    source = omega (arith, h .source, old-bytes-cons (kept l) b, old-bytes-cons (deleted l) b);
+    size = omega (arith, h .size, old-bytes-cons (kept l) b, old-bytes-cons (deleted l) b);
     few = h .few;
   }
   strike-kept m n q (changed o p) b a h at = absurd (n (near-mark f (changed o p) b a h at))
@@ -156,6 +163,8 @@ module _ {j k : List ℕ} {st : State} (f : ℕ) where
     good = h .good;
     past = h .past;
     lines = h .lines;
+    source = h .source;
+    size = h .size;
     few = h .few;
   }
   strike-kept m n q (inserted l) b a h at = absurd (m (near-mark f (inserted l) b a h at))
@@ -173,6 +182,8 @@ module _ {j k : List ℕ} {st : State} (f : ℕ) where
     good = h .good;
     past = h .past ∙ sources-cons (changed o n) b;
     lines = omega (arith, h .lines, sources-cons (changed o n) b);
+    source = omega (arith, h .source, old-bytes-cons (changed o n) b);
+    size = omega (arith, h .size, old-bytes-cons (changed o n) b);
     few = h .few;
   }
 

@@ -17,10 +17,10 @@ use Rattle.editor.specs.Records.{enc, encAll, Good, zeroPlace}
 use Rattle.editor.specs.Shows.{Holds, Shows, Stays, TextAt, Answers, Answered}
 use Rattle.editor.specs.declared.State.{State}
 use Rattle.editor.specs.declared.Moved.the-variants.{On, Stop}
-use Rattle.editor.proofs.Records.{line-text, line-short}
+use Rattle.editor.proofs.Records.{line-short}
 use Rattle.editor.proofs.Held.{held-drop, held-record, held-mark, held-more, held-first, held-none}
 use Rattle.editor.proofs.Answers.{step-still, shown-reach, leaves-of, same-here, current-is, unread-none}
-use Rattle.editor.proofs.Striking.{zero-of}
+use Rattle.editor.proofs.Sizes.{zero-place}
 use Rattle.editor.proofs.Inserting.{put-holds, insert-full, insert-on}
 
 -- ---- where it stands
@@ -42,6 +42,7 @@ module _ {j : List ℕ} {st : State} {b : List Record} {a : List Record} where
       record {
         text = rw n (text-from j (x ∷ y ∷ []) l ((10 ∷ []) ++ encAll a) (st .back) q ∙ sym c);
         after = omega arith;
+        ends = omega arith;
         within = omega (arith, held-more h);
       }
 
@@ -55,13 +56,12 @@ module _ {j : List ℕ} {st : State} {b : List Record} {a : List Record} where
 
   new-at : (o n : Line) → Holds j st b (changed o n ∷ a) → (end z : ℕ) → end ≡ st .back + lineLength (drop (st .back) j) - 1
       → z ≡ st .back + zeroPlace (drop (st .back) j) → TextAt j (st .back) (z + 1) (end - (z + 1)) (changed o n)
-  unfolding encAll current zeroPlace
+  unfolding encAll current
   new-at o n h end z at place =
       let m : List ℕ = (60 ∷ 62 ∷ o) ++ (0 ∷ []) in
       let R : List ℕ = (10 ∷ []) ++ encAll a in
       let q : drop (st .back) j ≡ m ++ (n ++ R) = held-drop h ∙ simp append-assoc in
-      let q₂ : drop (st .back) j ≡ 60 ∷ 62 ∷ (o ++ (0 ∷ (n ++ R))) = held-drop h ∙ simp append-assoc in
-      let zp : zeroPlace (drop (st .back) j) ≡ 2 + length o = rw (q₂, zero-of o (n ++ R) (line-text o (h .good .0 .0))) (omega arith) in
+      let zp : zeroPlace (drop (st .back) j) ≡ 2 + length o = zero-place j (st .back) o n (encAll a) (h .good .0) (held-drop h) in
       let size : length (enc (changed o n)) ≡ 4 + (length o + length n) = simp length-append (omega arith) in
       let lm : length m ≡ length o + 3 = simp length-append (omega arith) in
       let from : z + 1 ≡ st .back + length m = omega arith in
@@ -69,6 +69,7 @@ module _ {j : List ℕ} {st : State} {b : List Record} {a : List Record} where
       record {
         text = rw (len, from) (text-from j m n R (st .back) q);
         after = omega arith;
+        ends = omega arith;
         within = omega (arith, held-more h, held-record h);
       }
 
@@ -81,12 +82,10 @@ module _ {j : List ℕ} {st : State} {b : List Record} {a : List Record} where
 
   -- a place inside the record
   pub zero-inside : getD j (st .back) 0 ≡ 60 → (r : Record) → Holds j st b (r ∷ a) → zeroPlace (drop (st .back) j) + 2 ≤ length (enc r)
-  unfolding encAll zeroPlace
+  unfolding encAll
   zero-inside m (kept l) h = absurd (omega (arith, held-mark h))
   zero-inside m (changed o n) h =
-      let R : List ℕ = n ++ ((10 ∷ []) ++ encAll a) in
-      let q : drop (st .back) j ≡ 60 ∷ 62 ∷ (o ++ (0 ∷ R)) = held-drop h ∙ simp append-assoc in
-      let zp : zeroPlace (drop (st .back) j) ≡ 2 + length o = rw (q, zero-of o R (line-text o (h .good .0 .0))) (omega arith) in
+      let zp : zeroPlace (drop (st .back) j) ≡ 2 + length o = zero-place j (st .back) o n (encAll a) (h .good .0) (held-drop h) in
       let size : length (enc (changed o n)) ≡ 4 + (length o + length n) = simp length-append (omega arith) in
       omega arith
   zero-inside m (deleted l) h = absurd (omega (arith, held-mark h))
@@ -119,7 +118,7 @@ unfolding need act withLine insertLines
 copy-step n b r a p t = step-still n Op.copy (ed b (r ∷ a) p) t refl ∙ sym (step-still n (Op.insert none (current r ∷ [])) (ed b (r ∷ a) p) t refl)
 
 -- the text's length
-text-size : {j : List ℕ} {b from n : ℕ} {r : Record} → TextAt j b from n r → length (current r) ≡ n
+pub text-size : {j : List ℕ} {b from n : ℕ} {r : Record} → TextAt j b from n r → length (current r) ≡ n
 text-size {j} {b} {from} {n} x = ap length (sym (x .text)) ∙ length-take-le n (drop from j) (simp length-drop (omega (arith, x .within)))
 
 module _ {j : List ℕ} {st : State} (from n : ℕ) (e : Ed) (t : Tape) (more : st .back < length j)
@@ -159,13 +158,13 @@ module _ {j : List ℕ} {st : State} (from n : ℕ) (e : Ed) (t : Tape) (more : 
 -- what `put_copy` makes of a buffer
 pub put-copy-holds : (j k : List ℕ) (st s : State) (from n : ℕ) → st .back ≤ from → from + n ≤ length j → isLine (take n (drop from j)) ≡ true → st .front + (n + 3) ≤ st .back
     → k ≡ set (paste (set (set j (st .front) 43) (st .front + 1) 43) (st .front + 2) (drop from (set (set j (st .front) 43) (st .front + 1) 43)) n) (st .front + 2 + n) 10
-    → s .front ≡ st .front + 2 + n + 1 → s .back ≡ st .back → s .past ≡ st .past → s .lines ≡ st .lines
+    → s .front ≡ st .front + 2 + n + 1 → s .back ≡ st .back → s .past ≡ st .past → s .lines ≡ st .lines → s .source ≡ st .source → s .size ≡ st .size
     → (b a : List Record) → Holds j st b a → Holds k s (inserted (take n (drop from j)) ∷ b) a
-put-copy-holds j k st s from n far fits good room is f e c l =
+put-copy-holds j k st s from n far fits good room is f e c l o z =
     let f₀ : ℕ = st .front in
     let same : drop from (set (set j f₀ 43) (f₀ + 1) 43) ≡ drop from j = drop-set-lt from (set j f₀ 43) (f₀ + 1) 43 (omega arith) ∙ drop-set-lt from j f₀ 43 (omega arith) in
     let is₂ : k ≡ set (paste (set (set j f₀ 43) (f₀ + 1) 43) (f₀ + 2) (drop from j) n) (f₀ + 2 + n) 10 = rw same at is in
-    put-holds j k st s (drop from j) n (simp length-drop (omega arith)) good room is₂ f e c l
+    put-holds j k st s (drop from j) n (simp length-drop (omega arith)) good room is₂ f e c l o z
 
 pub copied-good : {j : List ℕ} {b from n : ℕ} {r : Record} → Good r → TextAt j b from n r → isLine (take n (drop from j)) ≡ true
 copied-good {r = r} g x = rw (x .text) (current-good r g)

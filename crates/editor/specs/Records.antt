@@ -2,11 +2,11 @@
 use mathlib.Core.Path.{_≡_}
 use mathlib.Core.Bool.{true, cond}
 use mathlib.Core.List.{List, [], _∷_, _++_}
-use Prim.Native.Nat.{ℕ, suc, _+_, _-_}
-use lib.ListN.{length, take}
+use Prim.Native.Nat.{ℕ, suc}
+use lib.ListN.{length}
 use lib.Dec.{eqb}
-use Rattle.definitions.specs.Bytes.{isLine}
-use Rattle.definitions.specs.Journal.{Record, kept, changed, deleted, inserted}
+use Rattle.definitions.specs.Bytes.{linesBytes, isLine}
+use Rattle.definitions.specs.Journal.{Record, kept, changed, deleted, inserted, oldSide}
 
 -- a record without the line feed that ends it; a 0 stands between the two lines of a changed one
 abbrev pub body : Record → List ℕ
@@ -53,6 +53,10 @@ Live (changed o n) = Unit {0}
 Live (deleted l) = ⊥
 Live (inserted l) = Unit {0}
 
+-- the bytes of the table that records have: their source lines, each with its line feed
+unfoldable pub oldBytes : List Record → ℕ
+oldBytes rs = length (linesBytes (oldSide rs))
+
 -- ---- walking bytes
 
 -- the place of the first 0; the length where there is none
@@ -60,23 +64,7 @@ unfoldable pub zeroPlace : List ℕ → ℕ
 zeroPlace [] = 0
 zeroPlace (x ∷ l) = cond (eqb x 0) 0 (suc (zeroPlace l))
 
--- ---- the opening and the end
-
--- what a byte of a table becomes in the opening journal: the next line's mark stands after a line feed
-abbrev pub piece : ℕ → List ℕ
-piece x = cond (eqb x 10) (10 ∷ 61 ∷ 61 ∷ []) (x ∷ [])
-
-abbrev pub pieces : List ℕ → List ℕ
-pieces [] = []
-pieces (x ∷ t) = piece x ++ pieces t
-
--- the opening journal of a table that has lines, without its first mark: no mark stands after the last line feed
-abbrev pub unmarkedOpening : List ℕ → List ℕ
-unmarkedOpening t = pieces (take (length t - 1) t) ++ (10 ∷ [])
-
-abbrev pub lineFeeds : List ℕ → ℕ
-lineFeeds [] = 0
-lineFeeds (x ∷ t) = cond (eqb x 10) 1 0 + lineFeeds t
+-- ---- the end
 
 -- the byte that a 0 between two lines becomes
 abbrev pub lineEnd : ℕ → ℕ

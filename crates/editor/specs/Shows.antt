@@ -12,7 +12,7 @@ use Rattle.gap.specs.Gap.{zeros}
 use Rattle.editor.specs.declared.State.{State}
 use Rattle.editor.specs.declared.Moved.{Moved}
 use Rattle.editor.specs.declared.Moved.the-variants.{On, Stop}
-use Rattle.editor.specs.Records.{encAll, encBefore, Good, Goods, Live}
+use Rattle.editor.specs.Records.{enc, encAll, encBefore, Good, Goods, Live, oldBytes}
 
 -- The buffer has the records `before` (nearest first) at the front and the records `rest` at the back, and zeros between.
 -- `rest` are the records from the current one on, read or not.
@@ -24,6 +24,8 @@ pub record Holds (j : List ℕ) (st : State) (before rest : List Record) : Type 
   pub good : Goods rest
   pub past : st .past ≡ sources before
   pub lines : st .lines ≡ sources before + sources rest
+  pub source : st .source ≡ oldBytes before
+  pub size : st .size ≡ oldBytes before + oldBytes rest
   pub few : st .lines ≤ 65535
 
 -- As `Holds` of a changed record before `before`, from f on, where that record has the mark of a deleted one.
@@ -37,12 +39,15 @@ pub record HoldsCut (j : List ℕ) (st : State) (f : ℕ) (old new : List ℕ) (
   pub good : Goods rest
   pub past : st .past ≡ 1 + sources before
   pub lines : st .lines ≡ 1 + sources before + sources rest
+  pub source : st .source ≡ 1 + length old + oldBytes before
+  pub size : st .size ≡ 1 + length old + oldBytes before + oldBytes rest
   pub few : st .lines ≤ 65535
 
--- the text of the line of `r`, whose record starts at b, is the n bytes from `from` on
+-- the text of the line of `r`, whose record starts at b, is the n bytes from `from` on, and the record's line feed follows it
 pub record TextAt (j : List ℕ) (b from n : ℕ) (r : Record) : Type 0 where
   pub text : take n (drop from j) ≡ current r
   pub after : b + 2 ≤ from
+  pub ends : from + n + 1 ≡ b + length (enc r)
   pub within : from + n < length j
 
 -- the numbers that the buffer's bytes go with
@@ -51,6 +56,8 @@ pub record Placed (st s : State) : Type 0 where
   pub back : s .back ≡ st .back
   pub past : s .past ≡ st .past
   pub lines : s .lines ≡ st .lines
+  pub source : s .source ≡ st .source
+  pub size : s .size ≡ st .size
 
 -- the numbers that a move of the gap leaves
 pub record Stays (st s : State) : Type 0 where

@@ -1,4 +1,4 @@
-// Insertion before the current line, and deletion of the current line: IS, IC and D.
+// Insertion before the current line: IS and IC; and the line of a record deleted.
 use crate::Moved;
 use crate::State;
 ghost use mathlib.Core.Path.{_≡_};
@@ -10,7 +10,7 @@ ghost use lib.ListN.{length, take, drop};
 ghost use Rattle.definitions.specs.Journal.{Record, deleted, inserted, erase};
 ghost use Rattle.definitions.specs.Bytes.{isLine};
 ghost use Rattle.definitions.specs.Tape.{Tape};
-ghost use Rattle.definitions.specs.Editor.{Ed, Target, Through};
+ghost use Rattle.definitions.specs.Editor.{Ed};
 ghost use Rattle.definitions.specs.Edit.{Op, step};
 ghost use Rattle.editor.specs.Records.{encBefore};
 ghost use Rattle.editor.specs.Shows.{Holds, Stays, Shows, Answered, HoldsCut};
@@ -79,22 +79,6 @@ pub fn strike_record(j: &mut [u8], st: State, f: usize) -> State
         return cut_new(j, st, f);
     }
     st
-}
-
-// D: the current line is deleted, and the next live line is current.
-pub fn delete_line(j: &mut [u8], st: State) -> Moved
-    requires { ⌜ ((e : Ed) × (t : Tape) × Shows (now j) st e t) ⌝ }
-    ensures { λ r. ⌜ ((e : Ed) (t : Tape) → Shows (now (j .entry)) st e t → Answered (now (j .exit)) r (step (length (now (j .entry))) (Op.delete Target.here Through.alone) e t)) ⌝ }
-{
-    let at = st.back;
-    if at >= j.len() {
-        return Moved::Stop(20, st);
-    }
-    let f = st.front;
-    let s = crate::walk::pass_record(j, st);
-    let d = strike_record(j, s, f);
-    let l = crate::walk::land_live(j, d);
-    Moved::On(crate::walk::read_current(j, l))
 }
 
 // The n bytes from `from` on, which stand behind the gap, become an inserted record before the current one. There is room for it.

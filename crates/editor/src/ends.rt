@@ -2,58 +2,52 @@
 use crate::State;
 ghost use mathlib.Core.Path.{_≡_};
 ghost use mathlib.Core.Bool.{true};
-ghost use mathlib.Core.List.{List, _++_, map, reverseAux};
-ghost use Prim.Native.Nat.{_+_, _-_, _≤_, _<_};
+ghost use mathlib.Core.List.{List, _∷_, _++_, map, reverseAux};
+ghost use Prim.Native.Nat.{_+_, _-_, _≤_};
 ghost use lib.ListN.{length, take, drop};
 ghost use Rattle.gap.specs.Gap.{zeros};
-ghost use Rattle.definitions.specs.Journal.{Record, journalBytes, journalLength};
+ghost use Rattle.definitions.specs.Journal.{Record, kept, journalBytes, journalLength};
 ghost use Rattle.definitions.specs.Bytes.{linesOf};
 ghost use Rattle.definitions.specs.Table.{isTable};
 ghost use Rattle.definitions.specs.Run.{openingLength};
 ghost use Rattle.definitions.specs.Tape.{unread};
 ghost use Rattle.definitions.specs.Editor.{opening};
-ghost use Rattle.editor.specs.Records.{lineEnd, piece, unmarkedOpening, lineFeeds};
+ghost use Rattle.editor.specs.Records.{encAll, lineEnd};
 ghost use Rattle.editor.specs.Shows.{Holds, Opens};
 
-// Writes what the byte x of a table becomes so that it ends at o, and hands its start back.
-fn put_piece(j: &mut [u8], o: usize, x: u8) -> usize
-    requires { ⌜ (length (piece x) ≤ o) × (o ≤ length (now j)) ⌝ }
-    ensures { λ r. ⌜ (now (j .exit) ≡ take r (now (j .entry)) ++ (piece x ++ drop o (now (j .entry)))) × (r + length (piece x) ≡ o) ⌝ }
+// Writes the n bytes of the table t from `from` on, a line with its line feed, as a kept record that ends at o, and hands its start back.
+fn put_kept(j: &mut [u8], o: usize, t: &[u8], from: usize, n: usize) -> usize
+    requires { ⌜ (n + 2 ≤ o) × (o ≤ length (now j)) × (from + n ≤ length (now t)) ⌝ }
+    ensures { λ r. ⌜ (now (j .exit) ≡ take r (now (j .entry)) ++ (61 ∷ 61 ∷ (take n (drop from (now (t .entry))) ++ drop o (now (j .entry))))) × (r + (n + 2) ≡ o) ⌝ }
 {
-    if x == 10 {
-        let a = o - 3;
-        j[a] = 10;
-        j[a + 1] = 61;
-        j[a + 2] = 61;
-        return a;
-    }
-    let a = o - 1;
-    j[a] = x;
+    let at = o - n;
+    gap::copy_in(j, at, t, from, n);
+    let a = at - 2;
+    j[a] = 61;
+    j[a + 1] = 61;
     a
 }
 
-// The start of the opening journal without its first mark, and the lines of the table.
+// The start of the opening journal, and the lines of the table.
 struct Opened {
     at: usize,
     lines: usize,
 }
 
-// Writes the opening journal of the table t, but for its first mark, so that it ends at the buffer's end.
+// Writes the opening journal of the table t so that it ends at the buffer's end, the last line first: its start need not be known.
 fn write_opening(t: &[u8], j: &mut [u8]) -> Opened
-    requires { ⌜ (0 < length (now t)) × (2 + length (unmarkedOpening (now t)) ≤ length (now j)) ⌝ }
-    ensures { λ r. ⌜ (now (j .exit) ≡ take (r .at) (now (j .entry)) ++ unmarkedOpening (now (t .entry))) × (r .at + length (unmarkedOpening (now (t .entry))) ≡ length (now (j .entry))) × (r .lines ≡ 1 + lineFeeds (take (length (now (t .entry)) - 1) (now (t .entry)))) ⌝ }
+    requires { ⌜ (isTable (now t) ≡ true) × (openingLength (linesOf (now t)) ≤ length (now j)) ⌝ }
+    ensures { λ r. ⌜ (now (j .exit) ≡ take (r .at) (now (j .entry)) ++ encAll (map kept (linesOf (now (t .entry))))) × (r .at + openingLength (linesOf (now (t .entry))) ≡ length (now (j .entry))) × (r .lines ≡ length (linesOf (now (t .entry)))) ⌝ }
 {
-    let mut i = t.len() - 1;
-    let mut o = j.len() - 1;
-    let mut lines: usize = 1;
-    j[o] = 10;
+    let mut i = t.len();
+    let mut o = j.len();
+    let mut lines: usize = 0;
     while 0 < i {
-        i -= 1;
-        let x = t[i];
-        o = put_piece(j, o, x);
-        if x == 10 {
-            lines += 1;
-        }
+        let from = crate::walk::record_start(t, i);
+        let n = i - from;
+        o = put_kept(j, o, t, from, n);
+        i = from;
+        lines += 1;
     }
     Opened {
         at: o,
@@ -66,22 +60,8 @@ pub fn open_journal(t: &[u8], j: &mut [u8]) -> State
     requires { ⌜ (isTable (now t) ≡ true) × (openingLength (linesOf (now t)) ≤ length (now j)) ⌝ }
     ensures { λ r. ⌜ Opens (now (j .exit)) r (opening (unread (linesOf (now (t .entry))))) ⌝ }
 {
-    if t.len() == 0 {
-        let all = j.len();
-        gap::clear(j, 0, all);
-        return State {
-            front: 0,
-            back: all,
-            past: 0,
-            furthest: 1,
-            lines: 0,
-            p: 0,
-        };
-    }
     let w = write_opening(t, j);
-    let b = w.at - 2;
-    j[b] = 61;
-    j[b + 1] = 61;
+    let b = w.at;
     gap::clear(j, 0, b);
     State {
         front: 0,
@@ -89,8 +69,20 @@ pub fn open_journal(t: &[u8], j: &mut [u8]) -> State
         past: 0,
         furthest: 1,
         lines: w.lines,
+        source: 0,
+        size: t.len(),
         p: 0,
     }
+}
+
+// A 0, which stands between the two lines of a changed record, becomes a line feed; every other byte stays.
+fn ended(x: u8) -> u8
+    ensures { λ r. ⌜ r ≡ lineEnd x ⌝ }
+{
+    if x == 0 {
+        return 10;
+    }
+    x
 }
 
 // Each 0 of the first n bytes becomes a line feed.
@@ -100,9 +92,8 @@ fn end_lines(j: &mut [u8], n: usize)
 {
     let mut i: usize = 0;
     while i < n {
-        if j[i] == 0 {
-            j[i] = 10;
-        }
+        // Every byte is stored: without a branch many bytes are done at a time.
+        j[i] = ended(j[i]);
         i += 1;
     }
 }

@@ -1,4 +1,5 @@
 // The journal buffer during a run, and the commands on it.
+pub mod current;
 pub mod edits;
 pub mod ends;
 pub mod moves;
@@ -15,6 +16,10 @@ pub struct State {
     pub furthest: usize,
     // The source lines of the table.
     pub lines: usize,
+    // The bytes of the table before the current record's source line.
+    pub source: usize,
+    // The bytes of the table.
+    pub size: usize,
     pub p: usize,
 }
 

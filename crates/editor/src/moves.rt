@@ -123,6 +123,7 @@ pub fn move_to_eof(j: &mut [u8], st: State) -> Moved
     s.front = f + n;
     s.back = b + n;
     s.past = st.lines;
+    s.source = st.size;
     s.furthest = st.lines + 1;
     s.p = 0;
     Moved::On(s)

@@ -1,13 +1,13 @@
 // Walking the records of the journal buffer: over the gap and back, and to the next live line.
 use crate::State;
 ghost use mathlib.Core.Path.{_≡_};
-ghost use mathlib.Core.List.{List, _∷_};
-ghost use Prim.Native.Nat.{_+_, _-_, _≤_, _<_};
+ghost use mathlib.Core.List.{List, [], _∷_, _++_};
+ghost use Prim.Native.Nat.{ℕ, _+_, _-_, _≤_, _<_};
 ghost use lib.ListN.{length, drop};
 ghost use Rattle.definitions.specs.Journal.{Record};
 ghost use Rattle.definitions.specs.Editor.{land};
 ghost use Rattle.gap.specs.Lines.{lineLength, lineStart};
-ghost use Rattle.editor.specs.Records.{zeroPlace};
+ghost use Rattle.editor.specs.Records.{enc, Good, oldBytes, zeroPlace};
 ghost use Rattle.editor.specs.Shows.{Holds, Placed, Stays, beforeOf, afterOf, reachedBy, TextAt};
 
 // The place after the next line feed from `at` on, or the end.
@@ -82,6 +82,22 @@ pub fn line_text(j: &[u8], st: State) -> Text
     }
 }
 
+// The bytes that the record of n bytes from `at` on has in the table: its source line with the line feed, none where it is inserted.
+fn source_bytes(j: &[u8], at: usize, n: usize) -> usize
+    requires { ⌜ ((r : Record) × (z : List ℕ) × Good r × (drop at (now j) ≡ enc r ++ z) × (n ≡ length (enc r))) ⌝ }
+    ensures { λ k. ⌜ ((r : Record) (z : List ℕ) → Good r → drop at (now (j .entry)) ≡ enc r ++ z → n ≡ length (enc r) → k ≡ oldBytes (r ∷ [])) ⌝ }
+{
+    let m = j[at];
+    if m == 43 {
+        return 0;
+    }
+    if m == 60 {
+        let z = zero_after(j, at);
+        return z - at - 1;
+    }
+    n - 2
+}
+
 // Over the current record: it then stands before the gap.
 pub fn pass_record(j: &mut [u8], st: State) -> State
     requires { ⌜ ((b : List Record) × (x : Record) × (a : List Record) × Holds (now j) st b (x ∷ a)) ⌝ }
@@ -89,12 +105,13 @@ pub fn pass_record(j: &mut [u8], st: State) -> State
 {
     let f = st.front;
     let b = st.back;
-    let m = j[b];
     let n = gap::shift_line_down(j, f, b);
+    let old = source_bytes(j, f, n);
     let mut s = st;
     s.front = f + n;
     s.back = b + n;
-    if m != 43 {
+    s.source = st.source + old;
+    if 0 < old {
         s.past = st.past + 1;
     }
     s
@@ -108,11 +125,14 @@ pub fn unpass_record(j: &mut [u8], st: State) -> State
     let f = st.front;
     let b = st.back;
     let lo = gap::shift_line_up(j, f, b);
-    let at = b - (f - lo);
+    let n = f - lo;
+    let at = b - n;
+    let old = source_bytes(j, at, n);
     let mut s = st;
     s.front = lo;
     s.back = at;
-    if j[at] != 43 {
+    s.source = st.source - old;
+    if 0 < old {
         s.past = st.past - 1;
     }
     s

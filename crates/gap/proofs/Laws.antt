@@ -156,14 +156,3 @@ up-move j x m f b g is some low order fits wide =
     let up : m ≡ n + 1 = omega arith in
     let now : j ≡ movedUp (n + 1) f b x = is ∙ ap (λ (i : ℕ). movedUp i f b x) up in
     rw (wide, now) (up-step n f b x (omega arith) order fits)
-
--- the first byte that is moved up
-pub up-first : (m f b : ℕ) (x : List ℕ) → m < f → f ≤ length x → getD (movedUp m f b x) (m + (b - f)) 0 ≡ getD x m 0
-unfolding movedUp
-up-first m f b x h l =
-    let A : List ℕ = take f x in
-    let la : length A ≡ f = length-take-le f x l in
-    let p : List ℕ = take m A ++ zeros (b - f) in
-    let lp : length p ≡ m + (b - f) = simp (length-append, length-replicate) (rw (length-take-le m A (omega arith))) in
-    let is : take m A ++ (zeros (b - f) ++ (drop m A ++ drop b x)) ≡ p ++ (getD A m 0 ∷ (drop (suc m) A ++ drop b x)) = rw (drop-cons A m 0 (omega arith)) (simp append-assoc) in
-    rw is (getD-at p (getD A m 0) (drop (suc m) A ++ drop b x) 0 (m + (b - f)) lp ∙ getD-take f x m 0 h)

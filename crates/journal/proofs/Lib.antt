@@ -1,6 +1,6 @@
 -- `Places`: the ways out of finding a record. `Walk`: what the bytes at the front do to a journal's records. `Here`: a record found at a place.
 -- `Measures`: the check. `Columns`: a number in five columns. `Views`: what a view writes. `Writing`, `Going`: writing one record, and all.
--- `Answers`: the readers' answers. `Written`: a journal's bytes read back.
+-- `Answers`: the readers' answers.
 pub mod Places
 pub mod Walk
 pub mod Here
@@ -10,4 +10,3 @@ pub mod Views
 pub mod Writing
 pub mod Going
 pub mod Answers
-pub mod Written

@@ -17,18 +17,6 @@ or-false true = refl
 or-false false = refl
 
 module _ (b : ℕ) where
-  pub upper-low : b < 97 → upper b ≡ b
-  unfolding upper isSmall
-  upper-low h = rw (lt-leb 97 b h)
-
-  pub upper-high : 122 < b → upper b ≡ b
-  unfolding upper isSmall
-  upper-high h = rw (le-leb 97 b (omega arith), lt-leb b 122 h)
-
-  pub upper-small : 97 ≤ b → b ≤ 122 → upper b ≡ b - 32
-  unfolding upper isSmall
-  upper-small h k = rw (le-leb 97 b h, le-leb b 122 k)
-
   pub word-low : b < 48 → isWordByte b ≡ false
   unfolding isWordByte isLetter isCapital isSmall isDigit
   word-low h = rw (lt-leb 65 b (omega arith), lt-leb 97 b (omega arith), lt-leb 48 b h)

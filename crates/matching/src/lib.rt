@@ -2,18 +2,17 @@
 mod place;
 mod scan;
 pub mod search;
-mod text;
+mod window;
 
 ghost use mathlib.Core.Path.{_≡_};
 ghost use Prim.Native.Nat.{_+_, _≤_};
 ghost use lib.ListN.{length};
-ghost use Rattle.definitions.specs.Bytes.{upper as «upper-of»};
 ghost use Rattle.definitions.specs.Matching.{qualified, standsAt, onlyAt, placeOf, matches};
 ghost use Rattle.matching.specs.Quals.{qualifiersOf, foundOf};
 use place::stands;
 use scan::from_left;
 use scan::from_right;
-use text::text_of;
+use window::text_of;
 
 // The qualifiers of a string. anchor: 0 none, 1 for B, 2 for E, 3 for P. count: 0 for none. from: 0 for all columns.
 pub struct Quals {
@@ -38,19 +37,6 @@ pub struct Span {
 pub enum Found {
     At(usize),
     Nothing,
-}
-
-// a to z become A to Z.
-pub fn upper(b: u8) -> u8
-    ensures { λ r. ⌜ r ≡ «upper-of» b ⌝ }
-{
-    if b < 97 {
-        return b;
-    }
-    if b > 122 {
-        return b;
-    }
-    b - 32
 }
 
 // The occurrence at one place only.

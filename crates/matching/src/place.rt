@@ -4,7 +4,7 @@ ghost use mathlib.Core.Bool.{true, false};
 ghost use Prim.Native.Nat.{_+_, _≤_};
 ghost use lib.ListN.{length, drop, getD};
 ghost use Rattle.definitions.specs.Matching.{standsFirst, isWordByte, byteBefore, isApart, standsAt};
-use super::upper;
+use text::upper;
 
 // A letter or a digit.
 fn is_word(b: u8) -> bool

@@ -8,7 +8,7 @@ ghost use Rattle.matching.specs.Quals.{foundOf};
 ghost use Rattle.matching.specs.Scan.{otherBytes, otherPlaces};
 use super::Found;
 use super::place::stands;
-use super::upper;
+use text::upper;
 
 // The first place before `top` that has the byte b; `top` where none has it.
 fn next_byte(line: &[u8], at: usize, top: usize, b: u8) -> usize

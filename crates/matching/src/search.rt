@@ -24,7 +24,7 @@ fn columns_at(words: &[u32], k: usize, flags: u32) -> u32
 }
 
 // The qualifiers of the string at k.
-fn quals_at(words: &[u32], k: usize) -> Quals
+pub fn quals_at(words: &[u32], k: usize) -> Quals
     requires { ⌜ (k + 1 < length (now words)) × (128 ≤ flagsAt (now words) k → k + 2 < length (now words)) ⌝ }
     ensures { λ r. ⌜ r ≡ qualsAt (now (words .entry)) k ⌝ }
 {
@@ -44,8 +44,8 @@ fn quals_at(words: &[u32], k: usize) -> Quals
 }
 
 // Where the words of the string at k end.
-fn end_at(words: &[u32], k: usize) -> usize
-    requires { ⌜ (k + 1 < length (now words)) × (128 ≤ flagsAt (now words) k → k + 2 < length (now words)) ⌝ }
+pub fn end_at(words: &[u32], k: usize) -> usize
+    requires { ⌜ k < length (now words) ⌝ }
     ensures { λ r. ⌜ r ≡ endAt (now (words .entry)) k ⌝ }
 {
     if words[k] / 4 % 256 < 128 {
@@ -55,7 +55,7 @@ fn end_at(words: &[u32], k: usize) -> usize
 }
 
 // Where the string at k starts in the script.
-fn start_at(words: &[u32], k: usize) -> usize
+pub fn start_at(words: &[u32], k: usize) -> usize
     requires { ⌜ k < length (now words) ⌝ }
     ensures { λ r. ⌜ r ≡ startAt (now (words .entry)) k ⌝ }
 {

@@ -1,26 +1,27 @@
 -- A search on one line, and over lines. Assumes nothing.
-use mathlib.Core.Path.{_≡_, refl, sym, ap, _∙_}
-use mathlib.Core.Bool.{Bool, true, false, cond}
-use Prim.Native.Nat.{ℕ, zero, suc, _+_, _-_, _≤_, _<_}
+use mathlib.Core.Path.{_≡_, refl, sym, _∙_}
+use mathlib.Core.Bool.{Bool, true, false}
+use Prim.Native.Nat.{ℕ, _+_, _-_, _≤_, _<_}
 use native.Mathlib.Omega.{arith}
 use mathlib.Core.List.{List, [], _∷_, _++_, map}
 use lib.ListN.{length}
 use Rattle.definitions.specs.Journal.{Record, kept}
-use Rattle.definitions.specs.Tape.{Tape, Need, bind, readNeed}
-use Rattle.definitions.specs.Editor.{Ed, ed, Out, on, edited, halt, current, seen, land, landNeed, goBack}
+use Rattle.definitions.specs.Tape.{Tape, bind}
+use Rattle.definitions.specs.Editor.{Ed, ed, on, current, seen, goBack}
 use Rattle.definitions.specs.Search.{Search, holds}
 use Rattle.definitions.specs.Edit.{Op, need, nextNeed, findNeed, act, withLine, within, step, searchHolds, reached, looked, lookedBack, lookedDelete, notYet}
-use Rattle.editor.specs.Shows.{Shows, Leaves, Answers, Answered, beforeOf, afterOf, pointOf}
+use Rattle.editor.specs.Shows.{Shows, Answers, Answered, pointOf}
+use Rattle.editor.specs.Current.{PointIn}
 use Rattle.editor.specs.declared.State.{State}
 use Rattle.editor.specs.declared.Moved.{Moved}
 use Rattle.editor.specs.declared.Moved.the-variants.{On, Stop as Stopped}
-use Rattle.editor.proofs.Answers.{step-still}
+use Rattle.editor.proofs.Answers.{step-still, shows-leaves}
 use Rattle.editor.proofs.Reaching.{landRead, landing, lands, back-reached}
 use Rattle.seeks.specs.declared.Looked.{Looked}
 use Rattle.seeks.specs.declared.Looked.the-variants.{Yes, No, Stop}
-use Rattle.seeks.specs.Looks.{PointIn, Looks, LooksAs, passing, Passes}
+use Rattle.seeks.specs.Looks.{Looks, LooksAs, passing, Passes}
 use Rattle.seeks.proofs.Texts.{shown-record, shown-eof}
-use Rattle.seeks.proofs.Tests.{left-alone, says-yes, says-stop, previous-step, back-no, back-not}
+use Rattle.seeks.proofs.Tests.{says-yes, says-stop, previous-step, back-no, back-not}
 
 -- ---- on to the next live line
 
@@ -32,7 +33,7 @@ next-step n b r a p t = refl
 -- what is reached: EOF, or a line
 reached-stop : {k : List ℕ} {s : State} (e : Ed) (t : Tape) → Shows k s e t → length k ≤ s .back → Looks k (Stop 21 s) (reached e) t
 unfolding Looks reached
-reached-stop (ed b [] p) t h end = (refl, left-alone (ed b [] p) t h)
+reached-stop (ed b [] p) t h end = (refl, shows-leaves (ed b [] p) t h)
 reached-stop (ed b (r ∷ a) p) t h end = absurd (shown-eof b r a p t h end)
 
 reached-no : {k : List ℕ} {s : State} (e : Ed) (t : Tape) → pointOf e ≡ 0 → Shows k s e t → s .back < length k → Looks k (No s) (reached e) t

@@ -3,3 +3,4 @@ pub mod Tests
 pub mod Finding
 pub mod Deleting
 pub mod Seeking
+pub mod Runs

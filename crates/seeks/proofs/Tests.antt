@@ -7,22 +7,19 @@ use mathlib.Core.List.{List, [], _∷_}
 use lib.ListN.{length}
 use Rattle.definitions.specs.Journal.{Record}
 use Rattle.definitions.specs.Tape.{Tape, Need}
-use Rattle.definitions.specs.Editor.{Ed, ed, Out, on, edited, halt, current, goBack}
+use Rattle.definitions.specs.Editor.{Ed, ed, Out, on, halt, goBack}
 use Rattle.definitions.specs.Search.{Search}
 use Rattle.definitions.specs.Edit.{Op, Test, need, act, within, step, passes, isAtEof, searchHolds, notYet}
-use Rattle.editor.specs.Shows.{Shows, Leaves, Answers, Answered}
+use Rattle.editor.specs.Shows.{Shows, Answers, Answered}
+use Rattle.editor.specs.Current.{PointIn}
 use Rattle.editor.specs.declared.State.{State}
 use Rattle.editor.specs.declared.Moved.{Moved}
 use Rattle.editor.specs.declared.Moved.the-variants.{On, Stop as Stopped}
-use Rattle.editor.proofs.Answers.{step-still, shown-reach, leaves-of, same-here}
+use Rattle.editor.proofs.Answers.{step-still, shows-leaves}
 use Rattle.editor.proofs.Reaching.{Reached, stops, lands-on, back-reached}
 use Rattle.seeks.specs.declared.Looked.the-variants.{Yes, No, Stop}
-use Rattle.seeks.specs.Looks.{PointIn, Looks, LooksAs}
+use Rattle.seeks.specs.Looks.{Looks, LooksAs}
 use Rattle.seeks.proofs.Texts.{shown-record, shown-eof}
-
--- a buffer that is left alone
-pub left-alone : {j : List ℕ} {st : State} (e : Ed) (t : Tape) → Shows j st e t → Leaves j st e t
-left-alone (ed b a p) t h = leaves-of b a p t (same-here (h .holds)) (shown-reach b a p t h)
 
 -- ---- a step that reads and changes nothing
 
@@ -37,7 +34,7 @@ module _ {j : List ℕ} {st : State} (n : ℕ) (op : Op) (e : Ed) (t : Tape) (st
 
   pub says-stop : (m : ℕ) → act op e ≡ halt m e → LooksAs j (Stop m st) (step n op e t)
   unfolding Looks within
-  says-stop m q = rw (step-still n op e t still, q) (refl, left-alone e t h)
+  says-stop m q = rw (step-still n op e t still, q) (refl, shows-leaves e t h)
 
 -- ---- tests
 

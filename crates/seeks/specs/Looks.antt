@@ -1,29 +1,23 @@
--- What a test and a line's search answer, and F's steps one after another. Assumes nothing.
+-- What a test and a line's search answer, and a search's steps one after another. Assumes nothing.
 use mathlib.Core.Path.{_≡_}
 use mathlib.Core.Bool.{true, false}
 use mathlib.Core.List.{List, [], _∷_, _++_, map}
-use Prim.Native.Nat.{ℕ, zero, suc, _≤_}
-use lib.ListN.{length}
+use Prim.Native.Nat.{ℕ, zero, suc}
 use Rattle.definitions.specs.Journal.{Record, kept}
 use Rattle.definitions.specs.Tape.{Tape, Reads, readNeed}
-use Rattle.definitions.specs.Editor.{Ed, ed, Out, on, edited, halt, current, land, landNeed}
-use Rattle.definitions.specs.Search.{Search}
-use Rattle.definitions.specs.Edit.{Op, searchHolds, reached, step}
-use Rattle.editor.specs.declared.State.{State}
+use Rattle.definitions.specs.Editor.{Ed, ed, Out, on, edited, halt, land, landNeed}
+use Rattle.definitions.specs.Edit.{Op, reached, step}
 use Rattle.editor.specs.Shows.{Shows, Leaves}
+use Rattle.editor.specs.Current.{PointIn}
 use Rattle.seeks.specs.declared.Looked.{Looked}
 use Rattle.seeks.specs.declared.Looked.the-variants.{Yes, No, Stop}
+use Rattle.seeks.specs.declared.Sought.{Sought}
 
--- p is within the current line
-abbrev pub PointIn : Ed → Type 0
-PointIn (ed before [] p) = Unit {0}
-PointIn (ed before (r ∷ after) p) = p ≤ length (current r)
-
--- what a function answers, and what the step comes to
+-- what a function answers, and what the step comes to: the run goes on after `edited` as after `on true`
 unfoldable pub Looks : List ℕ → Looked → Out → Tape → Type 0
 Looks j (Yes s) (on true e) t = Shows j s e t × PointIn e
 Looks j (Yes s) (on false e) t = ⊥
-Looks j (Yes s) (edited e) t = ⊥
+Looks j (Yes s) (edited e) t = Shows j s e t × PointIn e
 Looks j (Yes s) (halt n e) t = ⊥
 Looks j (No s) (on true e) t = ⊥
 Looks j (No s) (on false e) t = Shows j s e t × PointIn e
@@ -45,12 +39,6 @@ abbrev pub Passes : List ℕ → Looked → Ed → Tape → Type 0
 Passes j x (ed before [] p) t = ⊥
 Passes j x (ed before (r ∷ after) p) t = LooksAs j x (passing before r after t)
 
--- DF on one line. Yes: the line is found, and the lines passed are not deleted yet.
-unfoldable pub LooksDelete : List ℕ → Looked → Search → Ed → Tape → Out × Tape → Type 0
-LooksDelete j (Yes s) se e t x = Shows j s e t × PointIn e × (searchHolds se e ≡ true)
-LooksDelete j (No s) se e t x = LooksAs j (No s) x
-LooksDelete j (Stop m s) se e t x = LooksAs j (Stop m s) x
-
 -- what steps one after another come to: the last one's outcome, what is then unread, and how many steps were made
 abbrev pub Steps : Type 0
 Steps = (Out × Tape) × ℕ
@@ -62,7 +50,11 @@ goesOn f (on false e) t = ((f e t) .0, suc ((f e t) .1))
 goesOn f (edited e) t = ((edited e, t), 1)
 goesOn f (halt n e) t = ((halt n e, t), 1)
 
--- a search's steps from the current line on, at most n of them: up to the one that finds its line, or stops
-unfoldable pub stepsOf : ℕ → Op → ℕ → Ed → Tape → Steps
-stepsOf size op zero e t = ((on false e, t), 0)
-stepsOf size op (suc n) e t = goesOn (stepsOf size op n) ((step size op e t) .0) ((step size op e t) .1)
+-- a search's steps from the current line on, i lines being passed, at most n of them: up to the one that finds its line, or stops
+unfoldable pub stepsOf : ℕ → (ℕ → Op) → ℕ → ℕ → Ed → Tape → Steps
+stepsOf size op i zero e t = ((on false e, t), 0)
+stepsOf size op i (suc n) e t = goesOn (stepsOf size op (suc i) n) ((step size (op i) e t) .0) ((step size (op i) e t) .1)
+
+-- what a search over lines answers, and what its steps come to
+abbrev pub Seeks : List ℕ → Sought → Steps → Type 0
+Seeks j r x = LooksAs j (r .looked) (x .0) × (r .made ≡ x .1)

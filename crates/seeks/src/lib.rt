@@ -1,14 +1,16 @@
 // Tests and searches on the journal buffer: IF, WH, UL, UT, IFEOF, F, BF and DF.
 ghost use mathlib.Core.Path.{_≡_};
-ghost use Prim.Native.Nat.{ℕ, _≤_, _<_};
+ghost use Prim.Native.Nat.{ℕ, _+_, _≤_, _<_};
 ghost use lib.ListN.{length};
 ghost use Rattle.definitions.specs.Tape.{Tape};
 ghost use Rattle.definitions.specs.Search.{Search};
 ghost use Rattle.definitions.specs.Editor.{Ed};
 ghost use Rattle.definitions.specs.Edit.{Op, Test, step, searchHolds};
+ghost use Rattle.definitions.specs.Control.{forward, backward, deleting, lookOp};
 ghost use Rattle.matching.specs.Words.{Encodes};
 ghost use Rattle.editor.specs.Shows.{Shows};
-ghost use Rattle.seeks.specs.Looks.{PointIn, LooksAs, LooksDelete, Passes, stepsOf};
+ghost use Rattle.editor.specs.Current.{PointIn, TableOf};
+ghost use Rattle.seeks.specs.Looks.{LooksAs, Passes, stepsOf, Seeks};
 use editor::Moved;
 use editor::State;
 
@@ -26,37 +28,59 @@ pub struct Sought {
 }
 
 // Does the search in the words from k to m hold on the current line, with the window from p. At EOF it does not.
-pub fn holds_here(script: &[u8], words: &[u32], k: usize, m: usize, j: &[u8], st: State) -> bool
-    requires { ⌜ ((se : Search) × Encodes (now script) (now words) k m se) × ((e : Ed) × (t : Tape) × Shows (now j) st e t × PointIn e) ⌝ }
-    ensures { λ r. ⌜ ((se : Search) (e : Ed) (t : Tape) → Encodes (now (script .entry)) (now (words .entry)) k m se → Shows (now (j .entry)) st e t → PointIn e → r ≡ searchHolds se e) ⌝ }
+pub fn holds_here<'a>(
+    script: &[u8],
+    words: &[u32],
+    k: usize,
+    m: usize,
+    table: &'a [u8],
+    j: &'a [u8],
+    st: State,
+) -> bool
+    requires { ⌜ ((se : Search) × Encodes (now script) (now words) k m se) × ((e : Ed) × (t : Tape) × Shows (now j) st e t × PointIn e × TableOf (now table) e t) ⌝ }
+    ensures { λ r. ⌜ ((se : Search) (e : Ed) (t : Tape) → Encodes (now (script .entry)) (now (words .entry)) k m se → Shows (now (j .entry)) st e t → PointIn e → TableOf (now (table .entry)) e t → r ≡ searchHolds se e) ⌝ }
 {
     let at = st.back;
     if at >= j.len() {
         return false;
     }
-    let x = editor::walk::line_text(j, st);
-    let from = x.from;
-    let to = from + x.n;
-    matching::search::holds(script, words, k, m, &j[from..to], st.p)
+    let line = editor::current::current_line(table, j, st);
+    matching::search::holds(script, words, k, m, line, st.p)
 }
 
 // IF and WH.
-pub fn test_is(script: &[u8], words: &[u32], k: usize, m: usize, j: &[u8], st: State) -> Looked
-    requires { ⌜ ((se : Search) × Encodes (now script) (now words) k m se) × ((e : Ed) × (t : Tape) × Shows (now j) st e t × PointIn e) ⌝ }
-    ensures { λ r. ⌜ ((se : Search) (e : Ed) (t : Tape) → Encodes (now (script .entry)) (now (words .entry)) k m se → Shows (now (j .entry)) st e t → PointIn e → LooksAs (now (j .entry)) r (step (length (now (j .entry))) (Op.test (Test.is se)) e t)) ⌝ }
+pub fn test_is<'a>(
+    script: &[u8],
+    words: &[u32],
+    k: usize,
+    m: usize,
+    table: &'a [u8],
+    j: &'a [u8],
+    st: State,
+) -> Looked
+    requires { ⌜ ((se : Search) × Encodes (now script) (now words) k m se) × ((e : Ed) × (t : Tape) × Shows (now j) st e t × PointIn e × TableOf (now table) e t) ⌝ }
+    ensures { λ r. ⌜ ((se : Search) (e : Ed) (t : Tape) → Encodes (now (script .entry)) (now (words .entry)) k m se → Shows (now (j .entry)) st e t → PointIn e → TableOf (now (table .entry)) e t → LooksAs (now (j .entry)) r (step (length (now (j .entry))) (Op.test (Test.is se)) e t)) ⌝ }
 {
-    if holds_here(script, words, k, m, j, st) {
+    if holds_here(script, words, k, m, table, j, st) {
         return Looked::Yes(st);
     }
     Looked::No(st)
 }
 
 // UL and UT.
-pub fn test_is_not(script: &[u8], words: &[u32], k: usize, m: usize, j: &[u8], st: State) -> Looked
-    requires { ⌜ ((se : Search) × Encodes (now script) (now words) k m se) × ((e : Ed) × (t : Tape) × Shows (now j) st e t × PointIn e) ⌝ }
-    ensures { λ r. ⌜ ((se : Search) (e : Ed) (t : Tape) → Encodes (now (script .entry)) (now (words .entry)) k m se → Shows (now (j .entry)) st e t → PointIn e → LooksAs (now (j .entry)) r (step (length (now (j .entry))) (Op.test (Test.isNot se)) e t)) ⌝ }
+pub fn test_is_not<'a>(
+    script: &[u8],
+    words: &[u32],
+    k: usize,
+    m: usize,
+    table: &'a [u8],
+    j: &'a [u8],
+    st: State,
+) -> Looked
+    requires { ⌜ ((se : Search) × Encodes (now script) (now words) k m se) × ((e : Ed) × (t : Tape) × Shows (now j) st e t × PointIn e × TableOf (now table) e t) ⌝ }
+    ensures { λ r. ⌜ ((se : Search) (e : Ed) (t : Tape) → Encodes (now (script .entry)) (now (words .entry)) k m se → Shows (now (j .entry)) st e t → PointIn e → TableOf (now (table .entry)) e t → LooksAs (now (j .entry)) r (step (length (now (j .entry))) (Op.test (Test.isNot se)) e t)) ⌝ }
 {
-    if holds_here(script, words, k, m, j, st) {
+    if holds_here(script, words, k, m, table, j, st) {
         return Looked::No(st);
     }
     Looked::Yes(st)
@@ -124,35 +148,42 @@ pub fn find_here(
     words: &[u32],
     k: usize,
     m: usize,
+    table: &[u8],
     j: &mut [u8],
     st: State,
 ) -> Looked
-    requires { ⌜ ((se : Search) × Encodes (now script) (now words) k m se) × ((e : Ed) × (t : Tape) × Shows (now j) st e t × PointIn e) ⌝ }
-    ensures { λ r. ⌜ ((se : Search) (e : Ed) (t : Tape) → Encodes (now (script .entry)) (now (words .entry)) k m se → Shows (now (j .entry)) st e t → PointIn e → LooksAs (now (j .exit)) r (step (length (now (j .entry))) (Op.find se) e t)) ⌝ }
+    requires { ⌜ ((se : Search) × Encodes (now script) (now words) k m se) × ((e : Ed) × (t : Tape) × Shows (now j) st e t × PointIn e × TableOf (now table) e t) ⌝ }
+    ensures { λ r. ⌜ ((se : Search) (e : Ed) (t : Tape) → Encodes (now (script .entry)) (now (words .entry)) k m se → Shows (now (j .entry)) st e t → PointIn e → TableOf (now (table .entry)) e t → LooksAs (now (j .exit)) r (step (length (now (j .entry))) (Op.find se) e t)) ⌝ }
 {
     let at = st.back;
     if at >= j.len() {
         return Looked::Stop(21, st);
     }
-    if holds_here(script, words, k, m, j, st) {
+    if holds_here(script, words, k, m, table, j, st) {
         return Looked::Yes(st);
     }
     pass_line(j, st)
 }
 
-// DF on one line: found here, or on to the next live line. The lines passed are deleted elsewhere.
+// DF on one line, `lines` lines being passed: found here, these are deleted; or on to the next live line.
 pub fn find_delete(
     script: &[u8],
     words: &[u32],
     k: usize,
     m: usize,
+    table: &[u8],
     j: &mut [u8],
     st: State,
+    lines: usize,
 ) -> Looked
-    requires { ⌜ ((se : Search) × Encodes (now script) (now words) k m se) × ((e : Ed) × (t : Tape) × Shows (now j) st e t × PointIn e) ⌝ }
-    ensures { λ r. ⌜ ((se : Search) (i : ℕ) (e : Ed) (t : Tape) → Encodes (now (script .entry)) (now (words .entry)) k m se → Shows (now (j .entry)) st e t → PointIn e → LooksDelete (now (j .exit)) r se e t (step (length (now (j .entry))) (Op.findDelete se i) e t)) ⌝ }
+    requires { ⌜ ((se : Search) × Encodes (now script) (now words) k m se) × ((e : Ed) × (t : Tape) × Shows (now j) st e t × PointIn e × TableOf (now table) e t) ⌝ }
+    ensures { λ r. ⌜ ((se : Search) (e : Ed) (t : Tape) → Encodes (now (script .entry)) (now (words .entry)) k m se → Shows (now (j .entry)) st e t → PointIn e → TableOf (now (table .entry)) e t → LooksAs (now (j .exit)) r (step (length (now (j .entry))) (Op.findDelete se lines) e t)) ⌝ }
 {
-    find_here(script, words, k, m, j, st)
+    let r = find_here(script, words, k, m, table, j, st);
+    let Looked::Yes(s) = r else {
+        return r;
+    };
+    Looked::Yes(spans::striking::strike_back(j, s, lines))
 }
 
 // BF on one line: found here, or back to the previous live line.
@@ -161,17 +192,18 @@ pub fn find_back(
     words: &[u32],
     k: usize,
     m: usize,
+    table: &[u8],
     j: &mut [u8],
     st: State,
 ) -> Looked
-    requires { ⌜ ((se : Search) × Encodes (now script) (now words) k m se) × ((e : Ed) × (t : Tape) × Shows (now j) st e t × PointIn e) ⌝ }
-    ensures { λ r. ⌜ ((se : Search) (e : Ed) (t : Tape) → Encodes (now (script .entry)) (now (words .entry)) k m se → Shows (now (j .entry)) st e t → PointIn e → LooksAs (now (j .exit)) r (step (length (now (j .entry))) (Op.findBack se) e t)) ⌝ }
+    requires { ⌜ ((se : Search) × Encodes (now script) (now words) k m se) × ((e : Ed) × (t : Tape) × Shows (now j) st e t × PointIn e × TableOf (now table) e t) ⌝ }
+    ensures { λ r. ⌜ ((se : Search) (e : Ed) (t : Tape) → Encodes (now (script .entry)) (now (words .entry)) k m se → Shows (now (j .entry)) st e t → PointIn e → TableOf (now (table .entry)) e t → LooksAs (now (j .exit)) r (step (length (now (j .entry))) (Op.findBack se) e t)) ⌝ }
 {
     let at = st.back;
     if at >= j.len() {
         return Looked::Stop(22, st);
     }
-    if holds_here(script, words, k, m, j, st) {
+    if holds_here(script, words, k, m, table, j, st) {
         return Looked::Yes(st);
     }
     let r = editor::moves::previous_line(j, st);
@@ -187,12 +219,13 @@ pub fn seek_forward(
     words: &[u32],
     k: usize,
     m: usize,
+    table: &[u8],
     j: &mut [u8],
     st: State,
     left: usize,
 ) -> Sought
-    requires { ⌜ ((se : Search) × Encodes (now script) (now words) k m se) × ((e : Ed) × (t : Tape) × Shows (now j) st e t × PointIn e) ⌝ }
-    ensures { λ r. ⌜ ((se : Search) (e : Ed) (t : Tape) → Encodes (now (script .entry)) (now (words .entry)) k m se → Shows (now (j .entry)) st e t → PointIn e → LooksAs (now (j .exit)) (r .looked) (stepsOf (length (now (j .entry))) (Op.find se) left e t .0) × (r .made ≡ stepsOf (length (now (j .entry))) (Op.find se) left e t .1)) ⌝ }
+    requires { ⌜ ((se : Search) × Encodes (now script) (now words) k m se) × ((e : Ed) × (t : Tape) × Shows (now j) st e t × PointIn e × TableOf (now table) e t) ⌝ }
+    ensures { λ r. ⌜ ((se : Search) (i : ℕ) (e : Ed) (t : Tape) → Encodes (now (script .entry)) (now (words .entry)) k m se → Shows (now (j .entry)) st e t → PointIn e → TableOf (now (table .entry)) e t → Seeks (now (j .exit)) r (stepsOf (length (now (j .entry))) (lookOp forward se) i left e t)) ⌝ }
 {
     let mut s = st;
     let mut made: usize = 0;
@@ -201,7 +234,7 @@ pub fn seek_forward(
             break Looked::No(s);
         }
         made += 1;
-        let r = find_here(script, words, k, m, j, s);
+        let r = find_here(script, words, k, m, table, j, s);
         let Looked::No(next) = r else {
             break r;
         };
@@ -216,12 +249,13 @@ pub fn seek_backward(
     words: &[u32],
     k: usize,
     m: usize,
+    table: &[u8],
     j: &mut [u8],
     st: State,
     left: usize,
 ) -> Sought
-    requires { ⌜ ((se : Search) × Encodes (now script) (now words) k m se) × ((e : Ed) × (t : Tape) × Shows (now j) st e t × PointIn e) ⌝ }
-    ensures { λ r. ⌜ ((se : Search) (e : Ed) (t : Tape) → Encodes (now (script .entry)) (now (words .entry)) k m se → Shows (now (j .entry)) st e t → PointIn e → LooksAs (now (j .exit)) (r .looked) (stepsOf (length (now (j .entry))) (Op.findBack se) left e t .0) × (r .made ≡ stepsOf (length (now (j .entry))) (Op.findBack se) left e t .1)) ⌝ }
+    requires { ⌜ ((se : Search) × Encodes (now script) (now words) k m se) × ((e : Ed) × (t : Tape) × Shows (now j) st e t × PointIn e × TableOf (now table) e t) ⌝ }
+    ensures { λ r. ⌜ ((se : Search) (i : ℕ) (e : Ed) (t : Tape) → Encodes (now (script .entry)) (now (words .entry)) k m se → Shows (now (j .entry)) st e t → PointIn e → TableOf (now (table .entry)) e t → Seeks (now (j .exit)) r (stepsOf (length (now (j .entry))) (lookOp backward se) i left e t)) ⌝ }
 {
     let mut s = st;
     let mut made: usize = 0;
@@ -230,11 +264,43 @@ pub fn seek_backward(
             break Looked::No(s);
         }
         made += 1;
-        let r = find_back(script, words, k, m, j, s);
+        let r = find_back(script, words, k, m, table, j, s);
         let Looked::No(previous) = r else {
             break r;
         };
         s = previous;
+    };
+    Sought { looked, made }
+}
+
+// DF: live lines are tested forward as F does, at most `left` of them, `lines` being passed before. Those passed are deleted where one matches.
+pub fn seek_delete(
+    script: &[u8],
+    words: &[u32],
+    k: usize,
+    m: usize,
+    table: &[u8],
+    j: &mut [u8],
+    st: State,
+    lines: usize,
+    left: usize,
+) -> Sought
+    requires { ⌜ ((se : Search) × Encodes (now script) (now words) k m se) × ((e : Ed) × (t : Tape) × Shows (now j) st e t × PointIn e × TableOf (now table) e t) × (lines + left ≤ 18446744073709551615) ⌝ }
+    ensures { λ r. ⌜ ((se : Search) (e : Ed) (t : Tape) → Encodes (now (script .entry)) (now (words .entry)) k m se → Shows (now (j .entry)) st e t → PointIn e → TableOf (now (table .entry)) e t → Seeks (now (j .exit)) r (stepsOf (length (now (j .entry))) (lookOp deleting se) lines left e t)) ⌝ }
+{
+    let mut s = st;
+    let mut made: usize = 0;
+    let looked = loop {
+        if made >= left {
+            break Looked::No(s);
+        }
+        let passed = lines + made;
+        made += 1;
+        let r = find_delete(script, words, k, m, table, j, s, passed);
+        let Looked::No(next) = r else {
+            break r;
+        };
+        s = next;
     };
     Sought { looked, made }
 }

@@ -5,13 +5,13 @@ use native.Mathlib.Omega.{arith}
 use mathlib.Core.List.{List, [], _∷_, _++_, reverseAux}
 use lib.ListN.{length, getD, length-append}
 use Rattle.definitions.specs.Journal.{Record, kept, changed, deleted, inserted, erase}
-use Rattle.definitions.specs.Editor.{eraseBack}
-use Rattle.editor.specs.Records.{enc, encAll, encBefore, mark}
-use Rattle.editor.specs.Shows.{Holds, Stays}
+use Rattle.definitions.specs.Editor.{land, eraseBack}
+use Rattle.editor.specs.Records.{enc, encAll, mark}
+use Rattle.editor.specs.Shows.{Holds, Placed, beforeOf, afterOf, reachedBy}
 use Rattle.editor.specs.declared.State.{State}
 use Rattle.editor.proofs.Records.{some-bytes}
-use Rattle.editor.proofs.Held.{holds-lists, held-length, held-nearest, held-start, held-mark, held-more}
-use Rattle.spans.specs.Spans.{struck, strikeOver, Withdrawn}
+use Rattle.editor.proofs.Held.{holds-as, holds-lists, held-length, held-nearest, held-start, held-mark, held-more}
+use Rattle.spans.specs.Spans.{struck, strikeOver, Withdrawn, Landed}
 
 pub all-append : (a b : List Record) → length (encAll (a ++ b)) ≡ length (encAll a) + length (encAll b)
 unfolding encAll
@@ -30,64 +30,55 @@ pub strike-none : (c : List Record) → strikeOver [] c ≡ c
 unfolding struck
 strike-none c = refl
 
--- where the walk has come to
-pub record Striking (j : List ℕ) (s : State) (c m d : List Record) : Type 0 where
+-- ---- a walk over the records `m`
+
+-- Where it has come to: `left` of them are left. `over` says what stands before the gap once records are passed.
+pub record Going (over : List Record → List Record → List Record) (j : List ℕ) (s : State) (c m d : List Record) : Type 0 where
   pub front : List Record
   pub left : List Record
   pub holds : Holds j s front (left ++ d)
-  pub same : strikeOver left front ≡ strikeOver m c
+  pub same : over left front ≡ over m c
 
-pub striking-start : {j : List ℕ} {s : State} (c m d : List Record) → Holds j s c (m ++ d) → Striking j s c m d
-striking-start c m d h = record { front = c; left = m; holds = h; same = refl }
+pub going-start : {over : List Record → List Record → List Record} {j : List ℕ} {s : State} (c m d : List Record) → Holds j s c (m ++ d) → Going over j s c m d
+going-start c m d h = record { front = c; left = m; holds = h; same = refl }
 
-module _ {j : List ℕ} {s : State} {c m d : List Record} (w : Striking j s c m d) (end : ℕ) (at : end + length (encAll d) ≡ length j) where
-  striking-left : s .back < end → (r : Record) × (rs : List Record) × (w .left ≡ r ∷ rs)
+module _ {over : List Record → List Record → List Record} {j : List ℕ} {s : State} {c m d : List Record} (w : Going over j s c m d) (end : ℕ) (at : end + length (encAll d) ≡ length j) where
+  going-left : s .back < end → (r : Record) × (rs : List Record) × (w .left ≡ r ∷ rs)
   unfolding encAll
-  striking-left less = go (w .left) refl
+  going-left less = go (w .left) refl
     where
       go : (l : List Record) → w .left ≡ l → (r : Record) × (rs : List Record) × (w .left ≡ r ∷ rs)
       go [] q = absurd (omega (arith, held-length (w .holds), all-append (w .left) d, ap (λ (z : List Record). length (encAll z)) q))
       go (r ∷ rs) q = (r, rs, q)
 
-  pub striking-first : s .back < end → (b : List Record) × (r : Record) × (a : List Record) × Holds j s b (r ∷ a)
-  striking-first less =
-      let f : (r : Record) × (rs : List Record) × (w .left ≡ r ∷ rs) = striking-left less in
+  pub going-first : s .back < end → (b : List Record) × (r : Record) × (a : List Record) × Holds j s b (r ∷ a)
+  going-first less =
+      let f : (r : Record) × (rs : List Record) × (w .left ≡ r ∷ rs) = going-left less in
       (w .front, f .0, f .1 ++ d, holds-lists refl (ap (λ (z : List Record). z ++ d) (f .2)) (w .holds))
 
-  pub striking-done : (s .back < end → ⊥) → Holds j s (strikeOver m c) d
+  pub going-done : ((x : List Record) → over [] x ≡ x) → (s .back < end → ⊥) → Holds j s (over m c) d
   unfolding encAll
-  striking-done stop = go (w .left) refl
+  going-done none stop = go (w .left) refl
     where
-      go : (l : List Record) → w .left ≡ l → Holds j s (strikeOver m c) d
-      go [] q = holds-lists (sym (strike-none (w .front)) ∙ ap (λ (z : List Record). strikeOver z (w .front)) (sym q) ∙ w .same) (ap (λ (z : List Record). z ++ d) q) (w .holds)
+      go : (l : List Record) → w .left ≡ l → Holds j s (over m c) d
+      go [] q = holds-lists (sym (none (w .front)) ∙ ap (λ (z : List Record). over z (w .front)) (sym q) ∙ w .same) (ap (λ (z : List Record). z ++ d) q) (w .holds)
       go (r ∷ rs) q = absurd (stop (omega (arith, held-length (w .holds), all-append (w .left) d, ap (λ (z : List Record). length (encAll z)) q, length-append (enc r) (encAll rs), some-bytes r)))
 
-  pub striking-on : s .back < end → {k g : List ℕ} {u v : State} {f : ℕ} → f ≡ s .front
-      → ((b : List Record) (r : Record) (a : List Record) → Holds j s b (r ∷ a) → Holds k u (r ∷ b) a)
-      → ((r : Record) (b : List Record) (a : List Record) → Holds k u (r ∷ b) a → length (encBefore b) ≡ f → Holds g v (erase r ++ b) a)
-      → Striking g v c m d
-  striking-on less is passes strikes =
-      let f : (r : Record) × (rs : List Record) × (w .left ≡ r ∷ rs) = striking-left less in
+  -- one record is passed: it becomes `one` of it
+  pub going-on : (one : Record → List Record → List Record) → ((r : Record) (rs x : List Record) → over rs (one r x) ≡ over (r ∷ rs) x) → s .back < end → {g : List ℕ} {v : State}
+      → ((b : List Record) (r : Record) (a : List Record) → Holds j s b (r ∷ a) → Holds g v (one r b) a) → Going over g v c m d
+  going-on one law less moves =
+      let f : (r : Record) × (rs : List Record) × (w .left ≡ r ∷ rs) = going-left less in
       record {
-        front = erase (f .0) ++ w .front;
+        front = one (f .0) (w .front);
         left = f .1;
-        holds = strikes (f .0) (w .front) (f .1 ++ d) (passes (w .front) (f .0) (f .1 ++ d) (holds-lists refl (ap (λ (z : List Record). z ++ d) (f .2)) (w .holds))) (w .holds .front ∙ sym is);
-        same = strike-one (f .0) (f .1) (w .front) ∙ ap (λ (z : List Record). strikeOver z (w .front)) (sym (f .2)) ∙ w .same;
+        holds = moves (w .front) (f .0) (f .1 ++ d) (holds-lists refl (ap (λ (z : List Record). z ++ d) (f .2)) (w .holds));
+        same = law (f .0) (f .1) (w .front) ∙ ap (λ (z : List Record). over z (w .front)) (sym (f .2)) ∙ w .same;
       }
 
 -- the gap's end stays where the line before it is deleted
 pub strike-still : {k g : List ℕ} {u v : State} {r : Record} {b a : List Record} → Holds k u (r ∷ b) a → Holds g v (erase r ++ b) a → length g ≡ length k → v .back ≡ u .back
 strike-still h i q = omega (arith, held-length h, held-length i)
-
-pub stays-still : {s : State} → Stays s s
-stays-still = record { furthest = refl; lines = refl; p = refl }
-
-pub stays-on : {s u v : State} → Stays s u → Stays u v → Stays s v
-stays-on x y = record {
-  furthest = y .furthest ∙ x .furthest;
-  lines = y .lines ∙ x .lines;
-  p = y .p ∙ x .p;
-}
 
 -- ---- back over live records
 
@@ -179,3 +170,16 @@ module _ {j : List ℕ} {s : State} {left k : ℕ} {b a : List Record} (w : With
           holds = gone-back;
           same = was ∙ erase-dead (left - 1) (nearest .0) (nearest .1) (struck (w .passed)) (sym (held-mark gone-back) ∙ m) ∙ ap (λ (i : ℕ). eraseBack i (nearest .1) (struck (nearest .0 ∷ w .passed))) n;
         }
+
+-- ---- the line that is current then
+
+pub landed-by : {g k : List ℕ} {gone l s : State} {lines f : ℕ} (o d : List Record) → Holds g gone o d
+    → ((b : List Record) (a : List Record) → Holds g gone b a → Holds k l (beforeOf (land b a)) (afterOf (land b a)))
+    → ((b : List Record) (a : List Record) → Holds k l b a → s .furthest ≡ reachedBy (l .lines) (l .furthest) b a)
+    → l .furthest ≡ f → l .lines ≡ lines → Placed l s → Landed k s lines f o d
+landed-by o d h lands reads lf ll pl =
+    let x = lands o d h in
+    record {
+      holds = holds-as pl x;
+      reach = rw (ll, lf) at (reads (beforeOf (land o d)) (afterOf (land o d)) x);
+    }

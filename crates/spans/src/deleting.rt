@@ -1,52 +1,38 @@
-// D from the current line on.
+// D: the lines from one through another are deleted, and the next live line is current.
+use crate::Found;
 use editor::Moved;
 use editor::State;
-ghost use Prim.Native.Nat.{_<_};
-ghost use Rattle.definitions.specs.Tape.{Tape};
 ghost use lib.ListN.{length};
+ghost use Rattle.definitions.specs.Tape.{Tape};
 ghost use Rattle.definitions.specs.Editor.{Ed, Target, Through};
 ghost use Rattle.definitions.specs.Edit.{Op, step};
 ghost use Rattle.editor.specs.Shows.{Shows, Answered};
+ghost use Rattle.spans.specs.Spans.{GoesTo, Spans};
 
-// D .,*: the lines from the current one on are deleted, and EOF is current.
-pub fn delete_rest(j: &mut [u8], st: State) -> Moved
+// D from the current line on.
+fn delete_here(j: &mut [u8], st: State, through: usize) -> Moved
     requires { ⌜ ((e : Ed) × (t : Tape) × Shows (now j) st e t) ⌝ }
-    ensures { λ r. ⌜ ((e : Ed) (t : Tape) → Shows (now (j .entry)) st e t → Answered (now (j .exit)) r (step (length (now (j .entry))) (Op.delete Target.here Through.toEof) e t)) ⌝ }
+    ensures { λ r. ⌜ ((e : Ed) (t : Tape) (b : Through) → Shows (now (j .entry)) st e t → GoesTo through b → Answered (now (j .exit)) r (step (length (now (j .entry))) (Op.delete Target.here b) e t)) ⌝ }
 {
-    let at = st.back;
-    let end = j.len();
-    if at >= end {
-        return Moved::Stop(20, st);
+    let found = crate::finding::span_end(j, st, through);
+    match found {
+        Found::Stop(n, s) => Moved::Stop(n, s),
+        Found::To(end) => Moved::On(crate::striking::strike_span(j, st, end)),
     }
-    let mut s = crate::striking::strike_to(j, st, end);
-    s.p = 0;
-    s.furthest = st.lines + 1;
-    Moved::On(s)
 }
 
-// D .,b: the lines from the current one through source line b are deleted, and the next live line is current.
-pub fn delete_through(j: &mut [u8], st: State, b: usize) -> Moved
-    requires { ⌜ ((e : Ed) × (t : Tape) × Shows (now j) st e t) × (0 < b) ⌝ }
-    ensures { λ r. ⌜ ((e : Ed) (t : Tape) → Shows (now (j .entry)) st e t → Answered (now (j .exit)) r (step (length (now (j .entry))) (Op.delete Target.here (Through.upTo b)) e t)) ⌝ }
+// D: `from` is 0 for the current line, else a source line.
+// `through` is 0 for one line, 65,536 for `*`, else a source line.
+pub fn delete_span(j: &mut [u8], st: State, from: usize, through: usize) -> Moved
+    requires { ⌜ ((e : Ed) × (t : Tape) × Shows (now j) st e t) ⌝ }
+    ensures { λ r. ⌜ ((e : Ed) (t : Tape) (a : Target) (b : Through) → Shows (now (j .entry)) st e t → Spans from through a b → Answered (now (j .exit)) r (step (length (now (j .entry))) (Op.delete a b) e t)) ⌝ }
 {
-    let f = st.front;
-    let first = st.back;
-    if first >= j.len() {
-        return Moved::Stop(20, st);
+    if from == 0 {
+        return delete_here(j, st, through);
     }
-    if b <= st.past {
-        return Moved::Stop(28, st);
+    let moved = editor::moves::move_to(j, st, from);
+    match moved {
+        Moved::Stop(n, s) => Moved::Stop(n, s),
+        Moved::On(s) => delete_here(j, s, through),
     }
-    let there = crate::striking::advance_to(j, st, b - 1);
-    let at = there.back;
-    if at >= j.len() {
-        let mut s = there;
-        s.furthest = st.lines + 1;
-        return Moved::Stop(21, s);
-    }
-    if j[at] == 45 {
-        return Moved::Stop(23, there);
-    }
-    let past = editor::walk::pass_record(j, editor::moves::read_to(there, b));
-    Moved::On(crate::striking::strike_passed(j, past, f))
 }

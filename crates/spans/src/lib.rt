@@ -1,3 +1,12 @@
 // The commands over several lines of the journal buffer.
+use editor::State;
+
 pub mod deleting;
+pub mod finding;
 pub mod striking;
+
+// How far D or R goes: up to a place of the buffer, or the run stops with a number.
+pub enum Found {
+    To(usize),
+    Stop(usize, State),
+}

@@ -1,14 +1,14 @@
 // Records passed over the gap one after the other, and their lines deleted.
 use editor::State;
 ghost use mathlib.Core.Path.{_≡_};
-ghost use mathlib.Core.List.{List, [], _++_, reverseAux};
-ghost use Prim.Native.Nat.{_+_, _≤_};
+ghost use mathlib.Core.List.{List, [], _++_};
+ghost use Prim.Native.Nat.{_+_};
 ghost use lib.ListN.{length};
 ghost use Rattle.definitions.specs.Journal.{Record};
 ghost use Rattle.definitions.specs.Editor.{eraseBack};
-ghost use Rattle.editor.specs.Records.{encAll, encBefore};
-ghost use Rattle.editor.specs.Shows.{Holds, Stays, AtSource};
-ghost use Rattle.spans.specs.Spans.{strikeOver, Withdrawn, Advanced, Landed};
+ghost use Rattle.editor.specs.Records.{encAll};
+ghost use Rattle.editor.specs.Shows.{Holds, Stays};
+ghost use Rattle.spans.specs.Spans.{strikeOver, Withdrawn, Landed};
 
 // The records up to the place `end` are passed, and their lines are deleted.
 pub fn strike_to(j: &mut [u8], st: State, end: usize) -> State
@@ -54,46 +54,12 @@ pub fn strike_back(j: &mut [u8], st: State, k: usize) -> State
     strike_to(j, near, end)
 }
 
-// On until the record of the source line after k others is current, or EOF.
-pub fn advance_to(j: &mut [u8], st: State, k: usize) -> State
-    requires { ⌜ ((b : List Record) × (a : List Record) × Holds (now j) st b a) × (st .past ≤ k) ⌝ }
-    ensures { λ r. ⌜ ((b : List Record) (a : List Record) → Holds (now (j .entry)) st b a → Advanced (now (j .exit)) r b a) × Stays st r × (r .past ≤ k) × AtSource (now (j .exit)) r k ⌝ }
+// The lines of the records up to the place `end` are deleted; the next live line is current and read.
+pub fn strike_span(j: &mut [u8], st: State, end: usize) -> State
+    requires { ⌜ ((c : List Record) × (m : List Record) × (d : List Record) × Holds (now j) st c (m ++ d) × (end + length (encAll d) ≡ length (now j))) ⌝ }
+    ensures { λ r. ⌜ ((c : List Record) (m : List Record) (d : List Record) → Holds (now (j .entry)) st c (m ++ d) → end + length (encAll d) ≡ length (now (j .entry)) → Landed (now (j .exit)) r (st .lines) (st .furthest) (strikeOver m c) d) × (r .lines ≡ st .lines) × (r .p ≡ 0) ⌝ }
 {
-    let mut s = st;
-    loop {
-        let at = s.back;
-        if at >= j.len() {
-            return s;
-        }
-        if s.past >= k {
-            if j[at] != 43 {
-                return s;
-            }
-        }
-        s = editor::walk::pass_record(j, s);
-    }
-}
-
-// Back until the gap starts at f.
-fn return_to(j: &mut [u8], st: State, f: usize) -> State
-    requires { ⌜ ((n : List Record) × (b : List Record) × (d : List Record) × Holds (now j) st (n ++ b) d × (length (encBefore b) ≡ f)) ⌝ }
-    ensures { λ r. ⌜ ((n : List Record) (b : List Record) (d : List Record) → Holds (now (j .entry)) st (n ++ b) d → length (encBefore b) ≡ f → Holds (now (j .exit)) r b (reverseAux n d)) × Stays st r ⌝ }
-{
-    let mut s = st;
-    while f < s.front {
-        s = editor::walk::unpass_record(j, s);
-    }
-    s
-}
-
-// The lines of the records from f up to the gap are deleted, and the next live line is current.
-pub fn strike_passed(j: &mut [u8], st: State, f: usize) -> State
-    requires { ⌜ ((n : List Record) × (b : List Record) × (d : List Record) × Holds (now j) st (n ++ b) d × (length (encBefore b) ≡ f)) ⌝ }
-    ensures { λ r. ⌜ ((n : List Record) (b : List Record) (d : List Record) → Holds (now (j .entry)) st (n ++ b) d → length (encBefore b) ≡ f → Landed (now (j .exit)) r (st .lines) (st .furthest) (strikeOver (reverseAux n []) b) d) × (r .lines ≡ st .lines) × (r .p ≡ 0) ⌝ }
-{
-    let end = st.back;
-    let first = return_to(j, st, f);
-    let gone = strike_to(j, first, end);
+    let gone = strike_to(j, st, end);
     let l = editor::walk::land_live(j, gone);
     editor::walk::read_current(j, l)
 }

@@ -10,67 +10,67 @@ use native.Mathlib.Numerals.{add-one, sub-one}
 use native.Mathlib.Omega.{arith}
 use lib.ListN.{length, take, drop, getD, length-append, length-drop, drop-of-length-le}
 use lib.Seq.{drop-cons, take-at, drop-at, drop-drop, take-append-add}
-use lib.Dec.{leb, leb·zero, leb·suc-suc, leb·suc-zero}
+use lib.Dec.{leb, leb·suc-suc, leb·suc-zero}
 use borrow.Author.Tests.{eq-eqb, ne-eqb, le-leb, lt-leb}
 use Rattle.definitions.specs.Bytes.{Line, isText, lineBytes, allText, isLine}
 use Rattle.text.specs.Lines.{upToLF, cutAt, endOf, lineEnd, part}
 use Rattle.text.specs.declared.LineEnd.{LineEnd}
 use Rattle.text.specs.declared.LineEnd.the-variants.{At, Bad}
-use Rattle.text.proofs.Lines.{Plain, and-false, cut-of, first-cut}
+use Rattle.text.proofs.Lines.{Plain, and-false, cut-of, first-cut, text-not-lf}
 
--- ---- the loop of `line_end`: what is found from `i` on, where `left` bytes may still come before the LF
+-- ---- the loop of `line_end`: what is found from `i` on, where the LF is among the next `room` bytes at the latest
 
 unfoldable pub endWithin : ℕ → ℕ → Option Line → LineEnd
-endWithin left i none = Bad
-endWithin left i (some l) = cond (allText l && leb (length l) left) (At (i + length l)) Bad
+endWithin room i none = Bad
+endWithin room i (some l) = cond (allText l && leb (suc (length l)) room) (At (i + length l)) Bad
 
 unfoldable pub endFrom : ℕ → ℕ → List ℕ → LineEnd
 unfolding endWithin
-endFrom left i bs = endWithin left i (upToLF bs)
+endFrom room i bs = endWithin room i (upToLF bs)
 
-pub end-start : (at : ℕ) (bs : List ℕ) → lineEnd at bs ≡ endFrom 255 at bs
+pub end-start : (at : ℕ) (bs : List ℕ) → lineEnd at bs ≡ endFrom 256 at bs
 unfolding lineEnd endFrom isLine
 end-start at bs = go (upToLF bs)
   where
-    go : (o : Option Line) → endOf at o ≡ endWithin 255 at o
+    go : (o : Option Line) → endOf at o ≡ endWithin 256 at o
     go none = refl
-    go (some l) = refl
+    go (some l) = rw (leb·suc-suc)
 
-module _ (s : List ℕ) (left i : ℕ) where
-  pub end-none : length s ≤ i → endFrom left i (drop i s) ≡ Bad
+module _ (s : List ℕ) (room i : ℕ) where
+  pub end-none : length s ≤ i → endFrom room i (drop i s) ≡ Bad
   unfolding endFrom upToLF
   end-none h = rw (drop-of-length-le s {i = i} h)
 
+  pub end-full : room ≡ 0 → endFrom room i (drop i s) ≡ Bad
+  unfolding endFrom
+  end-full f = rw f (go (upToLF (drop i s)))
+    where
+      go : (o : Option Line) → endWithin 0 i o ≡ Bad
+      go none = refl
+      go (some l) = rw (leb·suc-zero (length l), and-false)
+
   module _ (h : i < length s) where
-    pub end-here : getD s i 0 ≡ 10 → endFrom left i (drop i s) ≡ At i
+    pub end-here : getD s i 0 ≡ 10 → 0 < room → endFrom room i (drop i s) ≡ At i
     unfolding endFrom upToLF allText
-    end-here e = rw (drop-cons s i 0 h, eq-eqb (getD s i 0) 10 e, leb·zero left, add-zero i)
+    end-here e k = rw (drop-cons s i 0 h, eq-eqb (getD s i 0) 10 e, le-leb 1 room k, add-zero i)
 
     module _ (e : getD s i 0 ≡ 10 → ⊥) where
-      pub end-wrong : isText (getD s i 0) ≡ false → endFrom left i (drop i s) ≡ Bad
+      pub end-wrong : isText (getD s i 0) ≡ false → endFrom room i (drop i s) ≡ Bad
       unfolding endFrom upToLF allText
       end-wrong f = rw (drop-cons s i 0 h, ne-eqb (getD s i 0) 10 e) (go (upToLF (drop (suc i) s)))
         where
-          go : (o : Option Line) → endWithin left i (cutAt false (getD s i 0) o) ≡ Bad
+          go : (o : Option Line) → endWithin room i (cutAt false (getD s i 0) o) ≡ Bad
           go none = refl
           go (some l) = rw f
 
-      pub end-full : left ≡ 0 → endFrom left i (drop i s) ≡ Bad
-      unfolding endFrom upToLF
-      end-full f = rw (drop-cons s i 0 h, ne-eqb (getD s i 0) 10 e, f) (go (upToLF (drop (suc i) s)))
-        where
-          go : (o : Option Line) → endWithin 0 i (cutAt false (getD s i 0) o) ≡ Bad
-          go none = refl
-          go (some l) = rw (leb·suc-zero (length l), and-false)
-
-      pub end-on : isText (getD s i 0) ≡ true → 0 < left → endFrom left i (drop i s) ≡ endFrom (left - 1) (i + 1) (drop (i + 1) s)
-      unfolding endFrom upToLF allText
-      end-on f k = rw (drop-cons s i 0 h, ne-eqb (getD s i 0) 10 e, add-one i) (go left k (upToLF (drop (suc i) s)))
-        where
-          go : (n : ℕ) → 0 < n → (o : Option Line) → endWithin n i (cutAt false (getD s i 0) o) ≡ endWithin (n - 1) (suc i) o
-          go zero k o = absurd (omega arith)
-          go (suc n) k none = refl
-          go (suc n) k (some l) = rw (f, leb·suc-suc, sub-one, add-suc, suc-add)
+    pub end-on : isText (getD s i 0) ≡ true → 0 < room → endFrom room i (drop i s) ≡ endFrom (room - 1) (i + 1) (drop (i + 1) s)
+    unfolding endFrom upToLF allText
+    end-on f k = rw (drop-cons s i 0 h, text-not-lf (getD s i 0) f, add-one i) (go room k (upToLF (drop (suc i) s)))
+      where
+        go : (n : ℕ) → 0 < n → (o : Option Line) → endWithin n i (cutAt false (getD s i 0) o) ≡ endWithin (n - 1) (suc i) o
+        go zero k o = absurd (omega arith)
+        go (suc n) k none = refl
+        go (suc n) k (some l) = rw (f, leb·suc-suc, sub-one, add-suc, suc-add)
 
 pub is-text : (b : ℕ) → 32 ≤ b → b ≤ 126 → isText b ≡ true
 unfolding isText

@@ -1,12 +1,24 @@
-// Bytes and lines: where a line ends, the forms of tables and scripts, comparing, copying and moving.
+// Bytes and lines: upper case, where a line ends, the forms of tables and scripts, comparing and copying.
 ghost use mathlib.Core.Path.{_≡_};
 ghost use Prim.Native.Nat.{_+_, _≤_};
 ghost use lib.ListN.{length, drop};
-ghost use Rattle.definitions.specs.Bytes.{eqLine};
+ghost use Rattle.definitions.specs.Bytes.{eqLine, upper as «upper-of»};
 ghost use Rattle.definitions.specs.Table.{isScript};
 ghost use Rattle.text.specs.Lines.{lineEnd, linesForm, tableForm};
 ghost use Rattle.text.specs.Buffer.{laid};
-ghost use Rattle.text.specs.Gap.{ZeroGap, movedDown, movedUp};
+
+// a to z become A to Z.
+pub fn upper(b: u8) -> u8
+    ensures { λ r. ⌜ r ≡ «upper-of» b ⌝ }
+{
+    if b < 97 {
+        return b;
+    }
+    if b > 122 {
+        return b;
+    }
+    b - 32
+}
 
 // Where a line ends.
 pub enum LineEnd {
@@ -27,23 +39,26 @@ pub enum Form {
 pub fn line_end(s: &[u8], at: usize) -> LineEnd
     ensures { λ r. ⌜ r ≡ lineEnd at (drop at (now (s .entry))) ⌝ }
 {
+    if s.len() <= at {
+        return LineEnd::Bad;
+    }
+    // The LF is byte 256 of a line at the latest.
+    let mut stop = s.len();
+    if 256 < stop - at {
+        stop = at + 256;
+    }
     let mut i = at;
-    let mut left: usize = 255;
-    while i < s.len() {
+    while i < stop {
         let b = s[i];
-        if b == 10 {
-            return LineEnd::At(i);
-        }
         if b < 32 {
+            if b == 10 {
+                return LineEnd::At(i);
+            }
             return LineEnd::Bad;
         }
         if 126 < b {
             return LineEnd::Bad;
         }
-        if left == 0 {
-            return LineEnd::Bad;
-        }
-        left -= 1;
         i += 1;
     }
     LineEnd::Bad
@@ -120,34 +135,5 @@ pub fn copy(src: &[u8], dest: &mut [u8], at: usize)
     while i < src.len() {
         dest[at + i] = src[i];
         i += 1;
-    }
-}
-
-// Moves the `n` bytes after a gap of zeros down to the gap's start. The gap goes from `front` to `back`, and stays zero.
-pub fn move_down(x: &mut [u8], front: usize, back: usize, n: usize)
-    requires { ⌜ (front ≤ back) × (back + n ≤ length (now x)) × ZeroGap front back (now x) ⌝ }
-    ensures { λ _. ⌜ now (x .exit) ≡ movedDown front back n (now (x .entry)) ⌝ }
-{
-    let mut i: usize = 0;
-    while i < n {
-        let b = x[back + i];
-        x[back + i] = 0;
-        x[front + i] = b;
-        i += 1;
-    }
-}
-
-// Moves the bytes from `low` up to a gap of zeros up to the gap's end. The gap goes from `front` to `back`, and stays zero.
-pub fn move_up(x: &mut [u8], low: usize, front: usize, back: usize)
-    requires { ⌜ (low ≤ front) × (front ≤ back) × (back ≤ length (now x)) × ZeroGap front back (now x) ⌝ }
-    ensures { λ _. ⌜ now (x .exit) ≡ movedUp low front back (now (x .entry)) ⌝ }
-{
-    let gap = back - front;
-    let mut m = front;
-    while low < m {
-        m -= 1;
-        let b = x[m];
-        x[m] = 0;
-        x[m + gap] = b;
     }
 }

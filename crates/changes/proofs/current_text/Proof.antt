@@ -1,41 +1,40 @@
-use Rattle.changes.proofs.Place.{mark-room, finds-plain, finds-room, finds-changed}
 use native.Mathlib.Omega.{arith}
+use Rattle.editor.proofs.Landed.{passable}
+use Rattle.changes.proofs.Place.{finds-plain, finds-changed, finds-room}
 use borrow.Author.Needs.{needs}
 use Rattle.changes.proofs.current_text.Statement.{statement}
 use Rattle.changes.proofs.current_text.Tie as tie
 
-add-first : tie.Need-add-first
-add-first c = search needs
+line-text-requires : tie.Need-line-text-requires
+line-text-requires c κs =
+    let w = c .before .pre in
+    passable (w .0 .2 .holds) (w .1)
 
-text-end-requires : tie.Need-text-end-requires
-text-end-requires c κs = let s = c .before in
-    omega (arith, mark-room (s .pre .0 .0) (s .pre .0 .1) (s .pre .0 .2) (s .pre .1))
+add-end : tie.Need-add-end
+add-end c =
+    let w = c .before .before .before .pre in
+    let x = c .before .line-text in
+    omega (arith, finds-room (x .result .from) (x .result .n) (w .1) (x .ensures) (w .0 .0) (w .0 .1) (w .0 .2) .0)
 
 shared-slice-read-if1 : tie.Need-shared-slice-read-if1
 shared-slice-read-if1 c = search needs
 
 returns : tie.Need-returns
-returns c = finds-plain _ (c .before .before .before .before .pre .1) (c .before .before .text-end .ensures) (c .if1 .taken)
+returns c =
+    let x = c .before .before .before .line-text in
+    finds-plain (x .result .from) (x .result .n) (c .before .before .before .before .before .pre .1) (x .ensures) (c .if1 .taken)
 
-add-start : tie.Need-add-start
-add-start c = let s = c .before .before .before .before in
-    omega (arith, finds-room _ (s .pre .1) (c .before .before .text-end .ensures) (c .if1 .left) (s .pre .0 .0) (s .pre .0 .1) (s .pre .0 .2))
-
-text-end-requires-2 : tie.Need-text-end-requires-2
-text-end-requires-2 c κs = let s = c .before .before .before .before in
-    omega (arith, finds-room _ (s .pre .1) (c .before .before .text-end .ensures) (c .if1 .left) (s .pre .0 .0) (s .pre .0 .1) (s .pre .0 .2))
+sub-t10 : tie.Need-sub-t10
+sub-t10 c =
+    let w = c .before .before .before .before .before .pre in
+    let x = c .before .before .before .line-text in
+    omega (arith, finds-room (x .result .from) (x .result .n) (w .1) (x .ensures) (w .0 .0) (w .0 .1) (w .0 .2) .1)
 
 returns-2 : tie.Need-returns-2
-returns-2 c = finds-changed _ (c .before .before .before .before .before .pre .1) (c .before .before .before .text-end .ensures) (c .before .if1 .left) _ (c .text-end2 .ensures)
+returns-2 c =
+    let x = c .before .before .before .line-text in
+    finds-changed (x .result .from) (x .result .n) (c .before .before .before .before .before .pre .1) (x .ensures) (c .if1 .left)
 
 pub current-text-spec : {M : Type 1} → statement M
 current-text-spec =
-    tie.close
-    (tie.spec
-    add-first
-    text-end-requires
-    shared-slice-read-if1
-    returns
-    add-start
-    text-end-requires-2
-    returns-2)
+    tie.close (tie.spec line-text-requires add-end shared-slice-read-if1 returns sub-t10 returns-2)

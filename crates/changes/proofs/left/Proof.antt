@@ -1,4 +1,5 @@
 use mathlib.Core.Path.{refl}
+use Rattle.editor.proofs.Held.{placed-by}
 use Rattle.changes.proofs.Commands.{left-eof, left-start, left-on}
 use borrow.Author.Needs.{needs}
 use Rattle.changes.proofs.left.Statement.{statement}
@@ -14,7 +15,7 @@ sub-s : tie.Need-sub-s
 sub-s c = search needs
 
 returns-3 : tie.Need-returns-3
-returns-3 c = left-on _ _ _ _ (record { front = refl; back = refl; past = refl; lines = refl }) refl (c .before .before .before .if1 .left) (c .before .if2 .left) refl
+returns-3 c = left-on _ _ _ _ (placed-by _ _ _) refl (c .before .before .before .if1 .left) (c .before .if2 .left) refl
 
 pub left-spec : {M : Type 1} → statement M
 left-spec = tie.close (tie.spec returns returns-2 sub-s returns-3)

@@ -1,4 +1,5 @@
 use mathlib.Core.Path.{refl}
+use Rattle.editor.proofs.Held.{placed-by}
 use Rattle.changes.proofs.Commands.{in-order, right-eof, right-end, right-on}
 use borrow.Author.Needs.{needs}
 use Rattle.changes.proofs.right.Statement.{statement}
@@ -20,7 +21,7 @@ add-s : tie.Need-add-s
 add-s c = search needs
 
 returns-3 : tie.Need-returns-3
-returns-3 c = right-on _ _ _ _ (record { front = refl; back = refl; past = refl; lines = refl }) refl (c .before .before .before .before .before .if1 .left) _ (c .before .before .before .before .current-text .ensures) (c .before .if2 .left) refl
+returns-3 c = right-on _ _ _ _ (placed-by _ _ _) refl (c .before .before .before .before .before .if1 .left) _ (c .before .before .before .before .current-text .ensures) (c .before .if2 .left) refl
 
 pub right-spec : {M : Type 1} → statement M
 right-spec = tie.close (tie.spec returns current-text-requires sub-if2 returns-2 add-s returns-3)

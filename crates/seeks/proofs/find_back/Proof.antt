@@ -4,7 +4,7 @@ use Rattle.seeks.proofs.find_back.Statement.{statement}
 use Rattle.seeks.proofs.find_back.Tie as tie
 
 returns : tie.Need-returns
-returns c = λ se e t w h i. find-back-eof _ se (c .if1 .taken) e t h
+returns c = λ se e t w h i o. find-back-eof _ se (c .if1 .taken) e t h
 
 holds-here-requires : tie.Need-holds-here-requires
 holds-here-requires c κs = search needs
@@ -13,7 +13,7 @@ same-length : tie.Need-same-length
 same-length c = search needs
 
 returns-2 : tie.Need-returns-2
-returns-2 c = λ se e t w h i. find-back-found _ se _ (c .before .before .before .if1 .left) (c .if2 .taken) e t h i (c .before .holds-here .ensures se e t w h i)
+returns-2 c = λ se e t w h i o. find-back-found _ se _ (c .before .before .before .if1 .left) (c .if2 .taken) e t h i (c .before .holds-here .ensures se e t w h i o)
 
 previous-line-requires : tie.Need-previous-line-requires
 previous-line-requires c κs = search needs
@@ -28,13 +28,13 @@ same-length-2 : tie.Need-same-length-2
 same-length-2 c = search needs
 
 returns-3 : tie.Need-returns-3
-returns-3 c = λ se e t w h i. find-back-on _ _ _ se _ (c .before .before .before .before .before .before .before .before .before .before .if1 .left) (c .before .before .before .before .before .before .before .if2 .left) _ (c .before .r .given .1) e t h (c .before .before .before .before .before .before .before .before .holds-here .ensures se e t w h i) (c .before .before .before .before .before .previous-line .ensures e t h)
+returns-3 c = λ se e t w h i o. find-back-on _ _ _ se _ (c .before .before .before .before .before .before .before .before .before .before .if1 .left) (c .before .before .before .before .before .before .before .if2 .left) _ (c .before .r .given .1) e t h (c .before .before .before .before .before .before .before .before .holds-here .ensures se e t w h i o) (c .before .before .before .before .before .previous-line .ensures e t h)
 
 same-length-3 : tie.Need-same-length-3
 same-length-3 c = search needs
 
 returns-4 : tie.Need-returns-4
-returns-4 c = λ se e t w h i. find-back-stop _ _ _ se _ (c .before .before .before .before .before .before .before .before .before .before .if1 .left) (c .before .before .before .before .before .before .before .if2 .left) _ _ (c .before .r2 .given .1) e t h (c .before .before .before .before .before .before .before .before .holds-here .ensures se e t w h i) (c .before .before .before .before .before .previous-line .ensures e t h)
+returns-4 c = λ se e t w h i o. find-back-stop _ _ _ se _ (c .before .before .before .before .before .before .before .before .before .before .if1 .left) (c .before .before .before .before .before .before .before .if2 .left) _ _ (c .before .r2 .given .1) e t h (c .before .before .before .before .before .before .before .before .holds-here .ensures se e t w h i o) (c .before .before .before .before .before .previous-line .ensures e t h)
 
 pub find-back-spec : {M : Type 1} → statement M
 find-back-spec =

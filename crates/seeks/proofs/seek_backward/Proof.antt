@@ -1,33 +1,38 @@
 use mathlib.Core.Path.{_≡_, refl, _∙_}
-use Prim.Native.Nat.{_-_, _≤_}
+use Prim.Native.Nat.{ℕ, _-_, _≤_}
 use native.Mathlib.Omega.{arith}
 use lib.ListN.{length}
 use borrow.Author.Needs.{needs}
 use Rattle.definitions.specs.Tape.{Tape}
 use Rattle.definitions.specs.Editor.{Ed}
 use Rattle.definitions.specs.Search.{Search}
-use Rattle.definitions.specs.Edit.{Op}
+use Rattle.definitions.specs.Control.{backward, lookOp}
 use Rattle.matching.specs.Words.{Encodes}
 use Rattle.editor.specs.Shows.{Shows}
-use Rattle.seeks.specs.Looks.{PointIn}
-use Rattle.seeks.proofs.Seeking.{Seeking, seeking-start, seeking-spent, seeking-ends, seeking-on, neither}
+use Rattle.editor.specs.Current.{PointIn, TableOf}
+use Rattle.seeks.proofs.Seeking.{Seeking, seeking-start, seeking-spent, seeking-ends, seeking-on, look-backward, neither}
 use Rattle.seeks.proofs.seek_backward.Statement.{statement}
 use Rattle.seeks.proofs.seek_backward.Tie as tie
 
 abbrev Inv-loop : tie.InvT-loop
-Inv-loop script words k m j₀ left s₀ made₀ j s made = ((se : Search) (e : Ed) (t : Tape) → Encodes script words k m se → Shows j₀ s₀ e t → PointIn e → Seeking (length j₀) (Op.findBack se) left made e t j s) × (made ≤ left) × (length j ≡ length j₀)
+Inv-loop script words k m table j₀ left s₀ made₀ j s made =
+    ((se : Search) (i : ℕ) (e : Ed) (t : Tape) → Encodes script words k m se → Shows j₀ s₀ e t → PointIn e → TableOf table e t → Seeking (length j₀) (lookOp backward se) i left made table e t j s)
+    × (made ≤ left) × (length j ≡ length j₀)
 
 abbrev μ-loop : tie.MeasureT-loop
-μ-loop script words k m j₀ left s₀ made₀ j s made = left - made
+μ-loop script words k m table j₀ left s₀ made₀ j s made = left - made
 
 loop-holds : tie.Need-loop-holds Inv-loop μ-loop
-loop-holds c = ((λ se e t w h i. seeking-start _ _ _ e t h i), omega arith, refl)
+loop-holds c = ((λ se i e t w h p o. seeking-start _ _ i _ e t h p o), omega arith, refl)
 
 add-made : tie.Need-add-made Inv-loop μ-loop
 add-made c = search needs
 
 find-back-requires : tie.Need-find-back-requires Inv-loop μ-loop
-find-back-requires c κs = let p = c .before .before .before .before .before .before .pre in let w = c .before .before .loop .inv .0 (p .0 .0) (p .1 .0) (p .1 .1) (p .0 .1) (p .1 .2) (p .1 .3) in (p .0, (w .now, w .unread, w .shown, w .point))
+find-back-requires c κs =
+    let p = c .before .before .before .before .before .before .before .pre in
+    let w = c .before .before .loop .inv .0 (p .0 .0) 0 (p .1 .0) (p .1 .1) (p .0 .1) (p .1 .2) (p .1 .3) (p .1 .4) in
+    (p .0, (w .now, w .unread, w .shown, w .point, w .old))
 
 enum-known-r : tie.Need-enum-known-r Inv-loop μ-loop
 enum-known-r c = search needs
@@ -36,19 +41,31 @@ loop-less : tie.Need-loop-less Inv-loop μ-loop
 loop-less c = omega arith
 
 loop-again : tie.Need-loop-again Inv-loop μ-loop
-loop-again c = ((λ se e t w h i. let x = c .before .before .before .before .before .before .before .before .loop .inv .0 se e t w h i in seeking-on x (c .before .before .before .before .before .before .before .if1 .left) _ _ (c .before .before .before .before .before .before .before .before .loop .inv .2) _ _ (c .before .r .given .1) (c .before .before .before .before .before .find-back .ensures se (x .now) (x .unread) w (x .shown) (x .point))), omega arith, c .before .before .before .before .before .find-back .kept .1 .1 .1 .1 .0 ∙ c .before .before .before .before .before .before .before .before .loop .inv .2)
+loop-again c =
+    let l = c .before .before .before .before .before .before .before .before .loop in
+    let f = c .before .before .before .before .before .find-back in (
+      (λ se i e t w h p o.
+          let x = l .inv .0 se i e t w h p o in
+          seeking-on x (c .before .before .before .before .before .before .before .if1 .left) _ _ (l .inv .2) (look-backward se _) _ _ (c .before .r .given .1) (f .ensures se (x .now) (x .unread) w (x .shown) (x .point) (x .old))),
+      omega arith,
+      f .kept .1 .1 .1 .1 .1 .0 ∙ l .inv .2,
+    )
 
 same-length : tie.Need-same-length Inv-loop μ-loop
 same-length c = c .before .loop .inv .2
 
 returns : tie.Need-returns Inv-loop μ-loop
-returns c = λ se e t w h i. seeking-spent (c .before .loop .inv .0 se e t w h i) (c .if1 .taken) (c .before .loop .inv .1)
+returns c = λ se i e t w h p o. seeking-spent (c .before .loop .inv .0 se i e t w h p o) (c .if1 .taken) (c .before .loop .inv .1)
 
 same-length-2 : tie.Need-same-length-2 Inv-loop μ-loop
-same-length-2 c = c .before .before .before .find-back .kept .1 .1 .1 .1 .0 ∙ c .before .before .before .before .before .before .loop .inv .2
+same-length-2 c = c .before .before .before .find-back .kept .1 .1 .1 .1 .1 .0 ∙ c .before .before .before .before .before .before .loop .inv .2
 
 returns-2 : tie.Need-returns-2 Inv-loop μ-loop
-returns-2 c = λ se e t w h i. let x = c .before .before .before .before .before .before .loop .inv .0 se e t w h i in seeking-ends x (c .before .before .before .before .before .if1 .left) _ _ (c .before .before .before .before .before .before .loop .inv .2) _ (λ u q. neither (rw q at (c .match .keys2))) (c .before .before .before .find-back .ensures se (x .now) (x .unread) w (x .shown) (x .point))
+returns-2 c = λ se i e t w h p o.
+    let l = c .before .before .before .before .before .before .loop in
+    let x = l .inv .0 se i e t w h p o in
+    seeking-ends x (c .before .before .before .before .before .if1 .left) _ _ (l .inv .2) (look-backward se _) _ (λ u q. neither (rw q at (c .match .keys2)))
+    (c .before .before .before .find-back .ensures se (x .now) (x .unread) w (x .shown) (x .point) (x .old))
 
 pub seek-backward-spec : {M : Type 1} → statement M
 seek-backward-spec =

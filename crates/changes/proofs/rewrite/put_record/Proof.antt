@@ -30,13 +30,13 @@ same-length : tie.Need-same-length
 same-length c = search needs
 
 returns-2 : tie.Need-returns-2
-returns-2 c = λ b r a x h e i g q. put-shrunk h _ _ _ x e (c .before .before .before .before .before .before .before .before .before .before .before .before .pre .1) i g q _ (c .before .before .before .before .before .before .before .before .before .if1 .left) _ _ refl refl refl refl refl refl (c .before .before .before .before .if2 .taken) _ (c .before .before .before .before .before .before .before .copy-in .ensures) (c .before .before .clear .ensures)
+returns-2 c = λ b r a x h e i g q. put-shrunk h _ _ _ x e (c .before .before .before .before .before .before .before .before .before .before .before .before .pre .1) i g q _ (c .before .before .before .before .before .before .before .before .before .if1 .left) _ _ refl refl refl refl refl refl refl refl (c .before .before .before .before .if2 .taken) _ (c .before .before .before .before .before .before .before .copy-in .ensures) (c .before .before .clear .ensures)
 
 same-length-2 : tie.Need-same-length-2
 same-length-2 c = search needs
 
 returns-3 : tie.Need-returns-3
-returns-3 c = λ b r a x h e i g q. put-grown h _ _ _ x e (c .before .before .before .before .before .before .before .before .pre .1) i g q _ (c .before .before .before .before .before .if1 .left) _ _ refl refl refl refl refl refl (c .if2 .left) (c .before .before .before .copy-in .ensures)
+returns-3 c = λ b r a x h e i g q. put-grown h _ _ _ x e (c .before .before .before .before .before .before .before .before .pre .1) i g q _ (c .before .before .before .before .before .if1 .left) _ _ refl refl refl refl refl refl refl refl (c .if2 .left) (c .before .before .before .copy-in .ensures)
 
 pub put-record-spec : {M : Type 1} → statement M
 put-record-spec =

@@ -36,7 +36,7 @@ same-length c = c .before .before .clear .kept .0 ∙ simp length-set
 returns : tie.Need-returns
 returns c =
     let z = c .before .before .before .before .zero-after in
-    ((λ o n b a h. cut-holds h _ _ (z .result) (z .ensures) (c .before .before .clear .ensures) refl refl refl refl), record { furthest = refl; lines = refl; p = refl })
+    ((λ o n b a h. cut-holds h _ _ (z .result) (z .ensures) (c .before .before .clear .ensures) refl refl refl refl refl refl), record { furthest = refl; lines = refl; p = refl })
 
 pub cut-new-spec : {M : Type 1} → statement M
 cut-new-spec =

@@ -53,7 +53,7 @@ same-length c = simp length-set (c .before .before .copy-back .kept .0 ∙ simp 
 returns : tie.Need-returns
 returns c =
     let s = c .before .before .before .before .before in
-    (put-copy-holds (s .args .j .now) _ (s .args .st) _ (s .args .from) (s .args .n) (s .pre .1) (s .pre .2) (s .pre .3) (s .pre .4) (put-is _ _ _ _ (c .before .before .copy-back .ensures)) refl refl refl refl, record { furthest = refl; lines = refl; p = refl })
+    (put-copy-holds (s .args .j .now) _ (s .args .st) _ (s .args .from) (s .args .n) (s .pre .1) (s .pre .2) (s .pre .3) (s .pre .4) (put-is _ _ _ _ (c .before .before .copy-back .ensures)) refl refl refl refl refl refl, record { furthest = refl; lines = refl; p = refl })
 
 pub put-copy-spec : {M : Type 1} → statement M
 put-copy-spec =

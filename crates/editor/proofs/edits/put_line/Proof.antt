@@ -53,7 +53,7 @@ returns : tie.Need-returns
 returns c =
     let s = c .before .before .before .before .before .before in
     let fits = text-fits (s .args .s .now) (s .args .from) (s .args .n) (s .pre .1) in
-    (put-holds (s .args .j .now) _ (s .args .st) _ (drop (s .args .from) (s .args .s .now)) (s .args .n) fits (s .pre .2) (s .pre .3) (put-is _ _ _ _ (c .before .before .copy-in .ensures)) refl refl refl refl, record { furthest = refl; lines = refl; p = refl })
+    (put-holds (s .args .j .now) _ (s .args .st) _ (drop (s .args .from) (s .args .s .now)) (s .args .n) fits (s .pre .2) (s .pre .3) (put-is _ _ _ _ (c .before .before .copy-in .ensures)) refl refl refl refl refl refl, record { furthest = refl; lines = refl; p = refl })
 
 pub put-line-spec : {M : Type 1} → statement M
 put-line-spec =

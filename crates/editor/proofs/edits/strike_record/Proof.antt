@@ -24,7 +24,7 @@ same-length : tie.Need-same-length
 same-length c = c .before .before .clear .kept .0
 
 returns : tie.Need-returns
-returns c = (strike-inserted _ _ (c .before .before .before .before .before .if1 .taken) (c .before .before .clear .ensures) refl refl refl refl, record { furthest = refl; lines = refl; p = refl })
+returns c = (strike-inserted _ _ (c .before .before .before .before .before .if1 .taken) (c .before .before .clear .ensures) refl refl refl refl refl refl, record { furthest = refl; lines = refl; p = refl })
 
 slice-write-j : tie.Need-slice-write-j
 slice-write-j c =

@@ -1,9 +1,9 @@
-use mathlib.Core.Path.{_≡_, refl, sym, ap, _∙_}
-use mathlib.Core.Logic.{⊎-elim}
-use Prim.Native.Nat.{_-_, _≤_, _<_}
+use mathlib.Core.Path.{_≡_, refl}
+use Prim.Native.Nat.{_-_, _≤_}
 use native.Mathlib.Omega.{arith}
 use lib.ListN.{length, length-set}
-use Rattle.editor.proofs.Closing.{endedTo, ended-byte, ended-keep, ended-set}
+use Rattle.editor.proofs.Closing.{endedTo, ended-set}
+use borrow.Author.Needs.{needs}
 use Rattle.editor.proofs.ends.end_lines.Statement.{statement}
 use Rattle.editor.proofs.ends.end_lines.Tie as tie
 
@@ -16,8 +16,11 @@ abbrev μ-loop : tie.MeasureT-loop
 loop-holds : tie.Need-loop-holds Inv-loop μ-loop
 loop-holds c = (omega arith, refl, refl)
 
-slice-read-if1 : tie.Need-slice-read-if1 Inv-loop μ-loop
-slice-read-if1 c = omega arith
+slice-read-ended : tie.Need-slice-read-ended Inv-loop μ-loop
+slice-read-ended c = omega arith
+
+ended-requires : tie.Need-ended-requires Inv-loop μ-loop
+ended-requires c κs = search needs
 
 slice-write-j : tie.Need-slice-write-j Inv-loop μ-loop
 slice-write-j c = omega arith
@@ -31,20 +34,15 @@ loop-less c = omega arith
 loop-again : tie.Need-loop-again Inv-loop μ-loop
 loop-again c =
     let l = c .before .before .before .loop in
-    let a = c .before .before .before .before .args in
-    let lt : l .i < length (a .j .now) = omega arith in
-    let byte = ended-byte (a .j .now) (l .i) lt in
-    ⊎-elim
-    (λ w. (omega arith, w .1 ∙ rw (l .inv .1) (ended-set (a .j .now) (l .i) lt (sym byte ∙ rw (l .inv .1) at (w .0 .taken))), ap length (w .1) ∙ simp length-set (l .inv .2)))
-    (λ w. (omega arith, w .1 ∙ l .inv .1 ∙ ended-keep (a .j .now) (l .i) lt (λ e. w .0 .left (rw (l .inv .1) (byte ∙ e))), ap length (w .1) ∙ l .inv .2))
-    (c .if1 .came)
+    let j = c .before .before .before .before .before .args .j .now in
+    (omega arith, rw (c .ended .ensures, l .inv .1) (ended-set j (l .i) (omega arith)), simp length-set (l .inv .2))
 
 same-length : tie.Need-same-length Inv-loop μ-loop
 same-length c = c .before .loop .inv .2
 
 returns : tie.Need-returns Inv-loop μ-loop
 returns c =
-    let done : c .before .loop .i ≡ c .before .before .args .n = omega arith in
+    let done : c .before .loop .i ≡ c .before .before .before .args .n = omega arith in
     rw done at (c .before .loop .inv .1)
 
 pub end-lines-spec : {M : Type 1} → statement M
@@ -54,7 +52,8 @@ end-lines-spec =
     Inv-loop
     μ-loop
     loop-holds
-    slice-read-if1
+    slice-read-ended
+    ended-requires
     slice-write-j
     add-i
     loop-less

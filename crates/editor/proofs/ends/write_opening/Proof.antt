@@ -1,8 +1,8 @@
 use mathlib.Core.Path.{_≡_, refl, _∙_}
 use native.Mathlib.Omega.{arith}
-use borrow.Author.Tests.{eq-eqb, ne-eqb}
-use lib.ListN.{length, length-set}
-use Rattle.editor.proofs.Opening.{Writing, writing-start, writing-fits, writing-next, writing-done}
+use lib.ListN.{length}
+use Rattle.editor.proofs.Opening.{Writing, writing-start, writing-low, writing-fits, writing-next, writing-done}
+use Prim.Native.Nat.{_<_}
 use Rattle.editor.proofs.ends.write_opening.Statement.{statement}
 use Rattle.editor.proofs.ends.write_opening.Tie as tie
 
@@ -12,64 +12,46 @@ Inv-loop t j₀ i₀ o₀ lines₀ j i o lines = Writing t j₀ j o i lines × (
 abbrev μ-loop : tie.MeasureT-loop
 μ-loop t j₀ i₀ o₀ lines₀ j i o lines = i
 
-sub-i : tie.Need-sub-i Inv-loop μ-loop
-sub-i c = omega arith
-
-sub-o : tie.Need-sub-o Inv-loop μ-loop
-sub-o c = omega arith
-
-slice-write-j : tie.Need-slice-write-j Inv-loop μ-loop
-slice-write-j c = omega arith
+-- a line has a byte at least, its line feed
+low : (c : tie.After-record-start Inv-loop μ-loop) → c .record-start .result < c .before .before .loop .i
+low c = writing-low (c .before .before .loop .inv .0) (c .before .loop-test .taken) (c .record-start .result) (c .record-start .ensures)
 
 loop-holds : tie.Need-loop-holds Inv-loop μ-loop
 loop-holds c =
     let s = c .before .before in
-    (writing-start (s .args .t .now) (s .args .j .now) (s .pre .0) (s .pre .1), refl)
+    (writing-start (s .args .t .now) (s .args .j .now) (s .pre .0), refl)
 
-sub-i-2 : tie.Need-sub-i-2 Inv-loop μ-loop
-sub-i-2 c = omega arith
+record-start-requires : tie.Need-record-start-requires Inv-loop μ-loop
+record-start-requires c κs = (c .loop-test .taken, c .before .loop .inv .0 .within)
 
-shared-slice-read-x : tie.Need-shared-slice-read-x Inv-loop μ-loop
-shared-slice-read-x c =
-    let l = c .before .before .loop in
-    omega (arith, l .inv .0 .few, l .inv .0 .counted)
+sub-n : tie.Need-sub-n Inv-loop μ-loop
+sub-n c = omega (arith, low c)
 
-put-piece-requires : tie.Need-put-piece-requires Inv-loop μ-loop
-put-piece-requires c κs = writing-fits (c .before .before .before .loop .inv .0) (c .before .before .loop-test .taken)
+put-kept-requires : tie.Need-put-kept-requires Inv-loop μ-loop
+put-kept-requires c κs =
+    let b = c .before .before in
+    writing-fits (b .before .loop .inv .0) (b .loop-test .taken) (c .before .record-start .result) (c .before .record-start .ensures) (b .before .before .before .before .pre .1)
 
 add-lines : tie.Need-add-lines Inv-loop μ-loop
 add-lines c =
-    let l = c .before .before .before .before .before .before .before .loop in
-    omega (arith, l .inv .0 .few, c .before .before .before .before .before .before .loop-test .taken)
+    let b = c .before .before .before .before .before in
+    omega (arith, b .before .loop .inv .0 .few, b .loop-test .taken)
 
 loop-less : tie.Need-loop-less Inv-loop μ-loop
-loop-less c = omega (arith, c .before .before .before .before .before .before .loop-test .taken)
+loop-less c = low (c .before .before .before .before)
 
 loop-again : tie.Need-loop-again Inv-loop μ-loop
 loop-again c =
-    let l = c .before .before .before .before .before .before .before .loop in
-    let more = c .before .before .before .before .before .before .loop-test .taken in
-    let r = c .before .before .before .put-piece in
-    (writing-next (l .inv .0) more (r .last .0) (r .result) _ (r .ensures .0) (r .ensures .1) (rw (eq-eqb _ 10 (c .if1 .taken)) (omega arith)), r .kept .0 ∙ l .inv .1)
-
-loop-less-2 : tie.Need-loop-less-2 Inv-loop μ-loop
-loop-less-2 c = omega (arith, c .before .before .before .before .before .before .loop-test .taken)
-
-loop-again-2 : tie.Need-loop-again-2 Inv-loop μ-loop
-loop-again-2 c =
-    let l = c .before .before .before .before .before .before .before .loop in
-    let more = c .before .before .before .before .before .before .loop-test .taken in
-    let r = c .before .before .before .put-piece in
-    (writing-next (l .inv .0) more (r .last .0) (r .result) _ (r .ensures .0) (r .ensures .1) (rw (ne-eqb _ 10 (c .if1 .left)) (omega arith)), r .kept .0 ∙ l .inv .1)
+    let f = c .before .before .before .before in
+    let l = f .before .before .loop in
+    let r = c .before .before .put-kept in
+    (writing-next (l .inv .0) (f .before .loop-test .taken) (f .record-start .result) (f .record-start .ensures) (r .last .0) (r .result) (r .ensures .0) (r .ensures .1), r .kept .0 ∙ l .inv .1)
 
 same-length : tie.Need-same-length Inv-loop μ-loop
-same-length c = c .before .loop .inv .1 ∙ simp length-set
+same-length c = c .before .loop .inv .1
 
 returns : tie.Need-returns Inv-loop μ-loop
-returns c =
-    let s = c .before .before .before .before in
-    let l = c .before .loop in
-    writing-done (s .args .t .now) (s .args .j .now) _ (l .j) (l .o) (l .i) (l .lines) (omega (arith, s .pre .1)) refl (l .inv .0) (omega (arith, c .loop-test .left))
+returns c = writing-done (c .before .loop .inv .0) (omega (arith, c .loop-test .left))
 
 pub write-opening-spec : {M : Type 1} → statement M
 write-opening-spec =
@@ -77,17 +59,12 @@ write-opening-spec =
     (tie.spec
     Inv-loop
     μ-loop
-    sub-i
-    sub-o
-    slice-write-j
     loop-holds
-    sub-i-2
-    shared-slice-read-x
-    put-piece-requires
+    record-start-requires
+    sub-n
+    put-kept-requires
     add-lines
     loop-less
     loop-again
-    loop-less-2
-    loop-again-2
     same-length
     returns)

@@ -5,6 +5,7 @@ use native.Mathlib.Omega.{arith}
 use lib.ListN.{length}
 use Rattle.definitions.specs.Journal.{Record}
 use Rattle.editor.specs.Shows.{Holds, Stays, Same}
+use Rattle.editor.proofs.Held.{stays-on, stays-still}
 use Rattle.editor.proofs.Landed.{same-start, past-some, same-back}
 use Rattle.editor.proofs.Answers.{unpassable}
 use Rattle.editor.proofs.moves.back_to.Statement.{statement}
@@ -24,7 +25,7 @@ some : (c : tie.Then1 Inv-loop μ-loop) → 0 < c .before .before .loop .s .fron
 some c = past-some (shown (c .before .before) .holds) (let h = c .if1 .taken in omega arith)
 
 loop-holds : tie.Need-loop-holds Inv-loop μ-loop
-loop-holds c = (same-start, record { furthest = refl; lines = refl; p = refl }, refl)
+loop-holds c = (same-start, stays-still, refl)
 
 unpass-record-requires : tie.Need-unpass-record-requires Inv-loop μ-loop
 unpass-record-requires c κs = unpassable (shown (c .before .before .before) .holds) (some (c .before))
@@ -37,11 +38,7 @@ loop-again c =
     let l = c .before .before .before .before .before .before .loop in
     let r = c .before .before .unpass-record in (
       (λ b a h. same-back (l .inv .0 b a h) (some (c .before .before .before .before)) (r .ensures .0)),
-      record {
-        furthest = r .ensures .1 .furthest ∙ l .inv .1 .furthest;
-        lines = r .ensures .1 .lines ∙ l .inv .1 .lines;
-        p = r .ensures .1 .p ∙ l .inv .1 .p;
-      },
+      stays-on (l .inv .1) (r .ensures .1),
       r .kept .0 ∙ l .inv .2,
     )
 

@@ -2,6 +2,7 @@ use mathlib.Core.Path.{refl}
 use Rattle.definitions.specs.Editor.{Ed}
 use Rattle.definitions.specs.Tape.{Tape}
 use Rattle.editor.specs.Shows.{Shows, beforeOf, restOf}
+use Rattle.editor.proofs.Held.{placed-by}
 use Rattle.editor.proofs.Moving.{There, there-by, move-eof, move-dead, move-live}
 use borrow.Author.Needs.{needs}
 use Rattle.editor.proofs.moves.move_to.Statement.{statement}
@@ -68,7 +69,7 @@ returns-3 c =
     let s = c .before .before .before .before .before .before .before .before .before .before .before .before .before in
     λ e t h.
     let w = there (c .before .before .before) e t h in
-    move-live _ _ (s .pre .1) e t h (w .same) (w .low) (w .far) (w .lines) (c .before .before .if1 .left) (w .at) (c .if2 .left) _ (record { front = refl; back = refl; past = refl; lines = refl }) refl refl
+    move-live _ _ (s .pre .1) e t h (w .same) (w .low) (w .far) (w .lines) (c .before .before .if1 .left) (w .at) (c .if2 .left) _ (placed-by _ _ _) refl refl
 
 pub move-to-spec : {M : Type 1} → statement M
 move-to-spec =

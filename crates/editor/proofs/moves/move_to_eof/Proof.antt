@@ -34,7 +34,7 @@ returns : tie.Need-returns
 returns c =
     let s = c .before .before .before .before .before .before in
     let r = c .before .before .before .shift-down in
-    λ e t h. eof-on (length (s .args .j .now)) e t h (r .ensures) refl refl refl refl refl refl
+    λ e t h. eof-on (length (s .args .j .now)) e t h (r .ensures) refl refl refl refl refl refl refl refl
 
 pub move-to-eof-spec : {M : Type 1} → statement M
 move-to-eof-spec =

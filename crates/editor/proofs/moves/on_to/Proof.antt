@@ -6,6 +6,7 @@ use native.Mathlib.Omega.{arith}
 use lib.ListN.{length}
 use Rattle.definitions.specs.Journal.{Record}
 use Rattle.editor.specs.Shows.{Holds, Stays, Same}
+use Rattle.editor.proofs.Held.{stays-on, stays-still}
 use Rattle.editor.proofs.Landed.{same-start, passable, same-on, low-on}
 use Rattle.editor.proofs.moves.on_to.Statement.{statement}
 use Rattle.editor.proofs.moves.on_to.Tie as tie
@@ -21,7 +22,7 @@ shown : (c : tie.At-loop Inv-loop μ-loop) → Same (c .loop .j) (c .loop .s) (c
 shown c = c .loop .inv .0 (c .before .before .pre .0 .0) (c .before .before .pre .0 .1) (c .before .before .pre .0 .2)
 
 loop-holds : tie.Need-loop-holds Inv-loop μ-loop
-loop-holds c = (same-start, record { furthest = refl; lines = refl; p = refl }, c .before .pre .1, refl)
+loop-holds c = (same-start, stays-still, c .before .pre .1, refl)
 
 same-length : tie.Need-same-length Inv-loop μ-loop
 same-length c = c .before .loop .inv .3
@@ -56,11 +57,7 @@ loop-again c =
     let r = c .before .before .pass-record in
     let more = c .before .before .before .before .before .before .if1 .left in (
       (λ b a h. same-on (l .inv .0 b a h) more (r .ensures .0)),
-      record {
-        furthest = r .ensures .1 .furthest ∙ l .inv .1 .furthest;
-        lines = r .ensures .1 .lines ∙ l .inv .1 .lines;
-        p = r .ensures .1 .p ∙ l .inv .1 .p;
-      },
+      stays-on (l .inv .1) (r .ensures .1),
       low-on (shown (c .before .before .before .before .before .before .before)) more (r .ensures .0) _ (l .inv .2) (⊎-elim (λ w. inr (w .2 .left)) (λ w. inl (w .left)) (c .before .before .before .before .if2 .came)),
       r .kept .0 ∙ l .inv .3,
     )

@@ -4,7 +4,7 @@ use lib.ListN.{length}
 use Rattle.definitions.specs.Tape.{Tape}
 use Rattle.definitions.specs.Editor.{Ed}
 use Rattle.editor.specs.Shows.{Stays, Shows, beforeOf, restOf}
-use Rattle.editor.proofs.Held.{holds-as}
+use Rattle.editor.proofs.Held.{holds-as, placed-by, stays-on, stays-still}
 use Rattle.editor.proofs.Answers.{Backing, backing-start, backing-in, backing-on, backing-live, unpassable, previous-on, previous-none}
 use Rattle.editor.proofs.moves.previous_line.Statement.{statement}
 use Rattle.editor.proofs.moves.previous_line.Tie as tie
@@ -20,7 +20,7 @@ shown : (c : tie.At-loop Inv-loop μ-loop) → Backing (c .loop .j) (c .loop .s)
 shown c = c .loop .inv .0 (c .before .before .pre .0) (c .before .before .pre .1) (c .before .before .pre .2)
 
 loop-holds : tie.Need-loop-holds Inv-loop μ-loop
-loop-holds c = ((λ e t h. backing-start (beforeOf e) (restOf e t) (h .holds)), record { furthest = refl; lines = refl; p = refl }, refl)
+loop-holds c = ((λ e t h. backing-start (beforeOf e) (restOf e t) (h .holds)), stays-still, refl)
 
 unpass-record-requires : tie.Need-unpass-record-requires Inv-loop μ-loop
 unpass-record-requires c κs = unpassable (shown (c .before .before .before) .holds) (c .before .if1 .taken)
@@ -37,7 +37,7 @@ returns c =
     let r = c .before .before .before .before .unpass-record in
     λ e t h.
     let w = backing-live (l .inv .0 e t h) (c .before .before .before .before .before .before .if1 .taken) (r .ensures .0) (c .if2 .taken) in
-    previous-on _ e t h (w .0) (w .1) (holds-as (record { front = refl; back = refl; past = refl; lines = refl }) (w .2)) (w .3) (r .ensures .1 .furthest ∙ l .inv .1 .furthest) (r .ensures .1 .lines ∙ l .inv .1 .lines) refl
+    previous-on _ e t h (w .0) (w .1) (holds-as (placed-by _ _ _) (w .2)) (w .3) (r .ensures .1 .furthest ∙ l .inv .1 .furthest) (r .ensures .1 .lines ∙ l .inv .1 .lines) refl
 
 loop-less : tie.Need-loop-less Inv-loop μ-loop
 loop-less c = c .before .before .before .before .unpass-record .ensures .2
@@ -47,11 +47,7 @@ loop-again c =
     let l = c .before .before .before .before .before .before .before .before .loop in
     let r = c .before .before .before .before .unpass-record in (
       (λ e t h. backing-on (l .inv .0 e t h) (c .before .before .before .before .before .before .if1 .taken) (r .ensures .0) (c .if2 .left)),
-      record {
-        furthest = r .ensures .1 .furthest ∙ l .inv .1 .furthest;
-        lines = r .ensures .1 .lines ∙ l .inv .1 .lines;
-        p = r .ensures .1 .p ∙ l .inv .1 .p;
-      },
+      stays-on (l .inv .1) (r .ensures .1),
       r .kept .0 ∙ l .inv .2,
     )
 

@@ -2,6 +2,7 @@ use mathlib.Core.Path.{refl}
 use mathlib.Core.Logic.{⊎-elim}
 use native.Mathlib.Omega.{arith}
 use borrow.Author.Needs.{needs}
+use Rattle.editor.proofs.Held.{placed-by}
 use Rattle.editor.proofs.moves.read_to.Statement.{statement}
 use Rattle.editor.proofs.moves.read_to.Tie as tie
 
@@ -9,10 +10,10 @@ add-to : tie.Need-add-to
 add-to c = search needs
 
 returns : tie.Need-returns
-returns c = (record { front = refl; back = refl; past = refl; lines = refl }, ⊎-elim (λ w. omega (arith, w .0 .taken, w .1, c .if2 .taken)) (λ w. omega (arith, w .0 .left, w .1, c .if2 .taken)) (c .before .before .if1 .came), refl)
+returns c = (placed-by _ _ _, ⊎-elim (λ w. omega (arith, w .0 .taken, w .1, c .if2 .taken)) (λ w. omega (arith, w .0 .left, w .1, c .if2 .taken)) (c .before .before .if1 .came), refl)
 
 returns-2 : tie.Need-returns-2
-returns-2 c = (record { front = refl; back = refl; past = refl; lines = refl }, ⊎-elim (λ w. omega (arith, w .0 .taken, w .1, c .if2 .left)) (λ w. omega (arith, w .0 .left, w .1, c .if2 .left)) (c .before .before .if1 .came), refl)
+returns-2 c = (placed-by _ _ _, ⊎-elim (λ w. omega (arith, w .0 .taken, w .1, c .if2 .left)) (λ w. omega (arith, w .0 .left, w .1, c .if2 .left)) (c .before .before .if1 .came), refl)
 
 pub read-to-spec : {M : Type 1} → statement M
 read-to-spec = tie.close (tie.spec add-to returns returns-2)

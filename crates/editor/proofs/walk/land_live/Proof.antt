@@ -5,6 +5,7 @@ use native.Mathlib.Omega.{arith}
 use lib.ListN.{length}
 use Rattle.definitions.specs.Journal.{Record}
 use Rattle.editor.specs.Shows.{Holds, Stays}
+use Rattle.editor.proofs.Held.{placed-by, stays-on, stays-still}
 use Rattle.editor.proofs.Landed.{Settling, settling-start, passable, settling-on, settled-eof, settled-live}
 use Rattle.editor.proofs.walk.land_live.Statement.{statement}
 use Rattle.editor.proofs.walk.land_live.Tie as tie
@@ -20,7 +21,7 @@ shown : (c : tie.At-loop Inv-loop μ-loop) → Settling (c .loop .j) (c .loop .s
 shown c = c .loop .inv .0 (c .before .before .pre .0) (c .before .before .pre .1) (c .before .before .pre .2)
 
 loop-holds : tie.Need-loop-holds Inv-loop μ-loop
-loop-holds c = (settling-start, record { furthest = refl; lines = refl; p = refl }, refl)
+loop-holds c = (settling-start, stays-still, refl)
 
 slice-read-if1 : tie.Need-slice-read-if1 Inv-loop μ-loop
 slice-read-if1 c = c .before .loop-test .left
@@ -38,11 +39,7 @@ loop-again c =
     let l = c .before .before .before .before .before .before .before .loop in
     let r = c .before .before .pass-record in (
       (λ b a h. settling-on (l .inv .0 b a h) (c .before .before .before .before .before .before .loop-test .left) (c .before .before .before .before .if1 .left) (r .ensures .0)),
-      record {
-        furthest = r .ensures .1 .furthest ∙ l .inv .1 .furthest;
-        lines = r .ensures .1 .lines ∙ l .inv .1 .lines;
-        p = r .ensures .1 .p ∙ l .inv .1 .p;
-      },
+      stays-on (l .inv .1) (r .ensures .1),
       r .kept .0 ∙ l .inv .2,
     )
 
@@ -52,7 +49,7 @@ same-length c = c .before .loop .inv .2
 returns : tie.Need-returns Inv-loop μ-loop
 returns c =
     let l = c .before .loop in
-    ((λ b a h. settled-eof (l .inv .0 b a h) (c .loop-test .taken) _ (record { front = refl; back = refl; past = refl; lines = refl })), l .inv .1 .furthest, l .inv .1 .lines, refl)
+    ((λ b a h. settled-eof (l .inv .0 b a h) (c .loop-test .taken) _ (placed-by _ _ _)), l .inv .1 .furthest, l .inv .1 .lines, refl)
 
 same-length-2 : tie.Need-same-length-2 Inv-loop μ-loop
 same-length-2 c = c .before .before .before .loop .inv .2
@@ -60,7 +57,7 @@ same-length-2 c = c .before .before .before .loop .inv .2
 returns-2 : tie.Need-returns-2 Inv-loop μ-loop
 returns-2 c =
     let l = c .before .before .before .loop in
-    ((λ b a h. settled-live (l .inv .0 b a h) (c .before .before .loop-test .left) (c .if1 .taken) _ (record { front = refl; back = refl; past = refl; lines = refl })), l .inv .1 .furthest, l .inv .1 .lines, refl)
+    ((λ b a h. settled-live (l .inv .0 b a h) (c .before .before .loop-test .left) (c .if1 .taken) _ (placed-by _ _ _)), l .inv .1 .furthest, l .inv .1 .lines, refl)
 
 pub land-live-spec : {M : Type 1} → statement M
 land-live-spec =

@@ -1,8 +1,9 @@
-use mathlib.Core.Path.{refl, sym, _∙_}
+use mathlib.Core.Path.{refl, sym}
 use native.Mathlib.Nat.{sub-zero}
 use native.Mathlib.Omega.{arith}
-use Rattle.editor.proofs.Records.{some-bytes, new-line, old-line}
-use Rattle.editor.proofs.Held.{held-gap, held-lo, held-less, held-length, came-to, some-past, unpass-all}
+use Rattle.editor.proofs.Records.{some-bytes, has-source, no-source}
+use Rattle.editor.proofs.Held.{held-gap, held-lo, held-less, held-length, unpassed-first, source-past, some-past, unpass-old, unpass-all}
+use borrow.Author.Needs.{needs}
 use Rattle.editor.proofs.walk.unpass_record.Statement.{statement}
 use Rattle.editor.proofs.walk.unpass_record.Tie as tie
 
@@ -12,56 +13,64 @@ shift-line-up-requires c κs =
     let h = s .pre .3 in
     (omega (arith, held-less h, some-bytes (s .pre .0)), h .order, omega (arith, held-length h), held-gap h)
 
-sub-at : tie.Need-sub-at
-sub-at c =
+sub-n : tie.Need-sub-n
+sub-n c =
     let h = c .before .before .before .before .before .pre .3 in
     omega (arith, held-lo h, held-less h, c .before .before .shift-line-up .ensures .1)
 
-sub-at-2 : tie.Need-sub-at-2
-sub-at-2 c =
+sub-at : tie.Need-sub-at
+sub-at c =
     let h = c .before .before .before .before .before .pre .3 in
-    omega (arith, h .order, held-lo h, held-less h, c .before .before .shift-line-up .ensures .1)
+    omega (arith, h .order)
 
-slice-read-if1 : tie.Need-slice-read-if1
-slice-read-if1 c =
-    let s = c .before .before .before .before .before .before in
-    let h = s .pre .3 in
+source-bytes-requires : tie.Need-source-bytes-requires
+source-bytes-requires c κs =
     let to = c .before .before .before .shift-line-up in
-    omega (arith, h .order, held-length h, held-lo h, held-less h, some-bytes (s .pre .0), to .ensures .1, to .kept .0)
+    unpassed-first (c .before .before .before .before .before .before .pre .3) _ (to .result) _ _ (to .ensures .0) (to .ensures .1) refl refl
 
 sub-s : tie.Need-sub-s
 sub-s c =
-    let h = c .before .before .before .before .before .before .before .before .pre .3 in
+    let w = c .before .before .before .before .before .before .before .before .pre in
     let to = c .before .before .before .before .before .shift-line-up in
-    some-past h (λ q. c .before .if1 .taken (came-to h (to .last .0) (to .result) (to .ensures .0) (to .ensures .1) ∙ q))
+    omega (arith, source-past (w .3), unpass-old (to .result) _ _ _ (to .ensures .0) (to .ensures .1) refl refl (c .before .source-bytes .ensures) (w .0) (w .1) (w .2) (w .3))
+
+sub-s-2 : tie.Need-sub-s-2
+sub-s-2 c =
+    let w = c .before .before .before .before .before .before .before .before .before .before .pre in
+    let to = c .before .before .before .before .before .before .before .shift-line-up in
+    let more = c .before .if1 .taken in
+    some-past (w .3) (omega (arith, unpass-old (to .result) _ _ _ (to .ensures .0) (to .ensures .1) refl refl (c .before .before .before .source-bytes .ensures) (w .0) (w .1) (w .2) (w .3)))
 
 same-length : tie.Need-same-length
-same-length c = c .before .before .before .before .before .shift-line-up .kept .0
+same-length c = search needs
 
 returns : tie.Need-returns
 returns c =
-    let s = c .before .before .before .before .before .before .before .before in
-    let to = c .before .before .before .before .before .shift-line-up in
-    unpass-all (s .args .j .now) (to .last .0) (s .args .st) _ (to .result) 1 (to .ensures .0) (to .ensures .1) (λ r m. old-line r (λ q. c .before .if1 .taken (m ∙ q))) refl refl refl refl (record { furthest = refl; lines = refl; p = refl }) (s .pre)
+    let s = c .before .before .before .before .before .before .before .before .before .before in
+    let to = c .before .before .before .before .before .before .before .shift-line-up in
+    let more = c .before .if1 .taken in
+    unpass-all (to .result) _ _ _ (to .ensures .0) (to .ensures .1) refl refl (c .before .before .before .source-bytes .ensures) _ 1 (λ r q. has-source r (omega arith)) refl refl refl refl refl refl (record { furthest = refl; lines = refl; p = refl }) (s .pre)
 
 same-length-2 : tie.Need-same-length-2
-same-length-2 c = c .before .before .before .before .shift-line-up .kept .0
+same-length-2 c = search needs
 
 returns-2 : tie.Need-returns-2
 returns-2 c =
-    let s = c .before .before .before .before .before .before .before in
-    let to = c .before .before .before .before .shift-line-up in
-    unpass-all (s .args .j .now) (to .last .0) (s .args .st) _ (to .result) 0 (to .ensures .0) (to .ensures .1) (λ r m. new-line r (sym m ∙ c .if1 .left)) refl refl (sym (sub-zero _)) refl (record { furthest = refl; lines = refl; p = refl }) (s .pre)
+    let s = c .before .before .before .before .before .before .before .before .before in
+    let to = c .before .before .before .before .before .before .shift-line-up in
+    let none = c .if1 .left in
+    unpass-all (to .result) _ _ _ (to .ensures .0) (to .ensures .1) refl refl (c .before .before .source-bytes .ensures) _ 0 (λ r q. no-source r (omega arith)) refl refl (sym (sub-zero _)) refl refl refl (record { furthest = refl; lines = refl; p = refl }) (s .pre)
 
 pub unpass-record-spec : {M : Type 1} → statement M
 unpass-record-spec =
     tie.close
     (tie.spec
     shift-line-up-requires
+    sub-n
     sub-at
-    sub-at-2
-    slice-read-if1
+    source-bytes-requires
     sub-s
+    sub-s-2
     same-length
     returns
     same-length-2

@@ -27,7 +27,7 @@ string-holds-requires c κs = (reads _ _ _ _ _ _ _ _ (c .before .before .before 
 end-at-requires : tie.Need-end-at-requires Inv-loop μ-loop
 end-at-requires c κs =
     let fits = reads _ _ _ _ _ _ _ _ (c .before .before .before .before .loop .inv) (c .before .before .before .loop-test .taken) (c .before .if1 .taken) .0 in
-    (fits .two, fits .three)
+    omega (arith, fits .two)
 
 loop-less : tie.Need-loop-less Inv-loop μ-loop
 loop-less c =

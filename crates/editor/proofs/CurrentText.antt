@@ -1,0 +1,105 @@
+-- The current line's text: of the table until its first change, and of the journal afterwards. Assumes nothing.
+use mathlib.Core.Path.{_≡_, refl, sym, ap, _∙_}
+use mathlib.Core.Bool.{true}
+use Prim.Native.Nat.{ℕ, _+_, _-_, _≤_, _<_}
+use native.Mathlib.Omega.{arith}
+use mathlib.Core.List.{List, [], _∷_, _++_, map, reverseAux, append-assoc}
+use lib.ListN.{length, take, drop, getD, length-append, length-drop}
+use lib.Seq.{take-at, drop-at}
+use Rattle.definitions.specs.Bytes.{Line, linesOf, lineBytes, linesBytes}
+use Rattle.definitions.specs.Table.{isTable}
+use Rattle.definitions.specs.Journal.{Record, kept, changed, deleted, inserted, oldOf, oldSide}
+use Rattle.definitions.specs.Tape.{Tape, restLines}
+use Rattle.definitions.specs.Editor.{Ed, ed, current}
+use Rattle.theorems.specs.RecordLaws.{old-append}
+use Rattle.theorems.specs.JournalBytes.{lines-back}
+use Rattle.editor.specs.Records.{oldBytes}
+use Rattle.editor.specs.Shows.{Holds, Shows, TextAt}
+use Rattle.editor.specs.Current.{textOf, PointIn, TableOf}
+use Rattle.editor.specs.declared.State.{State}
+use Rattle.editor.proofs.Records.{line-short, old-bytes-nil, old-bytes-reverse}
+use Rattle.editor.proofs.Held.{held-mark}
+use Rattle.editor.proofs.Reading.{reverse-append}
+use Rattle.editor.proofs.Answers.{journal-is, shown-record}
+use Rattle.editor.proofs.Opening.{table-last}
+use Rattle.editor.proofs.Texts.{text-size, current-good}
+
+-- ---- a kept line in the table
+
+lines-append : (x y : List Line) → linesBytes (x ++ y) ≡ linesBytes x ++ linesBytes y
+unfolding linesBytes
+lines-append [] y = refl
+lines-append (l ∷ x) y = rw (lines-append x y) (sym (append-assoc (lineBytes l) (linesBytes x) (linesBytes y)))
+
+-- the table from the source line of a kept record on
+table-from : (table : List ℕ) (b : List Record) (l : Line) (a : List Record) → isTable table ≡ true → oldSide (reverseAux b (kept l ∷ a)) ≡ linesOf table
+    → drop (oldBytes b) table ≡ l ++ (10 ∷ linesBytes (oldSide a))
+unfolding oldSide oldOf linesBytes lineBytes oldBytes
+table-from table b l a good q =
+    let B : List ℕ = linesBytes (oldSide (reverseAux b [])) in
+    let A : List ℕ = (l ++ (10 ∷ [])) ++ linesBytes (oldSide a) in
+    let whole : table ≡ B ++ A =
+    sym (lines-back table (table-last table good)) ∙ ap linesBytes (sym q ∙ ap oldSide (reverse-append b [] (kept l ∷ a)) ∙ old-append (reverseAux b []) (kept l ∷ a))
+    ∙ lines-append (oldSide (reverseAux b [])) (l ∷ oldSide a) in
+    let long : length B ≡ oldBytes b = omega (arith, old-bytes-reverse b [], old-bytes-nil) in
+    rw whole (drop-at B A (oldBytes b) long ∙ append-assoc l (10 ∷ []) (linesBytes (oldSide a)))
+
+-- a kept record's line is n bytes of the table from `from` on
+record KeptAt (table : List ℕ) (from n : ℕ) (r : Record) : Type 0 where
+  text : take n (drop from table) ≡ current r
+  room : from + n ≤ length table
+
+module _ {j : List ℕ} {st : State} (from n : ℕ) (more : st .back < length j)
+    (texts : (b : List Record) (x : Record) (a : List Record) → Holds j st b (x ∷ a) → TextAt j (st .back) from n x) where
+  kept-here : (table : List ℕ) (b : List Record) (l : Line) (a : List Record) (p : ℕ) (t : Tape)
+      → Shows j st (ed b (kept l ∷ a) p) t → TableOf table (ed b (kept l ∷ a) p) t → KeptAt table (st .source) n (kept l)
+  unfolding current
+  kept-here table b l a p t h w =
+      let A : List Record = a ++ map kept (restLines t) in
+      let z : List ℕ = linesBytes (oldSide A) in
+      let is : drop (st .source) table ≡ l ++ (10 ∷ z) =
+      rw (h .holds .source) (table-from table b l A (w .is) (ap oldSide (journal-is b (kept l ∷ a) p t) ∙ w .old)) in
+      let long : length l ≡ n = text-size (texts b (kept l) A (h .holds)) in
+      let size : length table - st .source ≡ length l + length (10 ∷ z) = sym (length-drop (st .source) table) ∙ ap length is ∙ length-append l (10 ∷ z) in
+      record { text = rw is (take-at l (10 ∷ z) n long); room = omega arith }
+
+  module _ (table : List ℕ) (m : getD j (st .back) 0 ≡ 61) where
+    kept-at : (b : List Record) (r : Record) (a : List Record) (p : ℕ) (t : Tape) → Shows j st (ed b (r ∷ a) p) t → TableOf table (ed b (r ∷ a) p) t → KeptAt table (st .source) n r
+    kept-at b (kept l) a p t h w = kept-here table b l a p t h w
+    kept-at b (changed o l) a p t h w = absurd (omega (arith, held-mark (h .holds)))
+    kept-at b (deleted l) a p t h w = absurd (omega (arith, held-mark (h .holds)))
+    kept-at b (inserted l) a p t h w = absurd (omega (arith, held-mark (h .holds)))
+
+    pub kept-room : (e : Ed) (t : Tape) → Shows j st e t → TableOf table e t → st .source + n ≤ length table
+    kept-room (ed b [] p) t h w = absurd (shown-record b p t h more)
+    kept-room (ed b (r ∷ a) p) t h w = kept-at b r a p t h w .room
+
+    pub kept-line : (e : Ed) (t : Tape) → Shows j st e t → TableOf table e t → take ((st .source + n) - st .source) (drop (st .source) table) ≡ textOf e
+    kept-line (ed b [] p) t h w = absurd (shown-record b p t h more)
+    kept-line (ed b (r ∷ a) p) t h w =
+        let q : (st .source + n) - st .source ≡ n = omega arith in
+        rw q (kept-at b r a p t h w .text)
+
+  -- ---- a line in the journal
+
+  pub other-room : (e : Ed) (t : Tape) → Shows j st e t → from + n ≤ length j
+  other-room (ed b [] p) t h = absurd (shown-record b p t h more)
+  other-room (ed b (r ∷ a) p) t h = omega (arith, texts b r (a ++ map kept (restLines t)) (h .holds) .within)
+
+  pub other-line : (e : Ed) (t : Tape) → Shows j st e t → take ((from + n) - from) (drop from j) ≡ textOf e
+  other-line (ed b [] p) t h = absurd (shown-record b p t h more)
+  other-line (ed b (r ∷ a) p) t h =
+      let q : (from + n) - from ≡ n = omega arith in
+      rw q (texts b r (a ++ map kept (restLines t)) (h .holds) .text)
+
+-- ---- the current line
+
+-- it is no longer than a line can be
+pub shown-short : {j : List ℕ} {st : State} (e : Ed) (t : Tape) → Shows j st e t → length (textOf e) ≤ 255
+shown-short (ed b [] p) t h = omega arith
+shown-short (ed b (r ∷ a) p) t h = line-short (current r) (current-good r (h .holds .good .0))
+
+-- p is within it
+pub line-window : {j : List ℕ} {st : State} → st .back < length j → (e : Ed) (t : Tape) → Shows j st e t → PointIn e → (l : List ℕ) → l ≡ textOf e → st .p ≤ length l
+line-window more (ed b [] p) t h i l q = absurd (shown-record b p t h more)
+line-window more (ed b (r ∷ a) p) t h i l q = rw (q, h .p) i
