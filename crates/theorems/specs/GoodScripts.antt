@@ -12,7 +12,7 @@ use Rattle.definitions.specs.Control.{Item, simple, seek, opens, bracket, close
 use Rattle.definitions.specs.Script.{items, readScript}
 use Rattle.theorems.specs.Lines.{and-left, and-right}
 use Rattle.theorems.specs.GoodItems.{goodTarget, goodThrough, goodOption, goodQualified, goodOp, goodItem, allItems}
-use Rattle.theorems.specs.Runs.{ItemOf}
+use Rattle.theorems.specs.Runs.{ItemOf, ItemsOf, items-weaken}
 use Rattle.theorems.specs.GoodOps.{GoodOp, GoodItems}
 use Rattle.theorems.specs.ReadScript.{good-items}
 
@@ -41,22 +41,26 @@ good-op left h = tt
 good-op cutByte h = tt
 good-op (recase up) h = tt
 
-good-item : (i : Item) → goodItem i ≡ true → ItemOf GoodOp i
+command-good : (i : Item) → goodItem i ≡ true → ItemOf (λ op. goodOp op ≡ true) i
 unfolding goodItem
-good-item (simple at op) h = good-op op h
-good-item (seek at s se) h = tt
-good-item (opens at o) h = tt
-good-item bracket h = tt
-good-item close h = tt
-good-item otherwise h = tt
-good-item (leave at) h = tt
-good-item lineEnd h = tt
+command-good (simple at op) h = h
+command-good (seek at s se) h = tt
+command-good (opens at o) h = tt
+command-good bracket h = tt
+command-good close h = tt
+command-good otherwise h = tt
+command-good (leave at) h = tt
+command-good lineEnd h = tt
 
-good-all : (all : List Item) → allItems goodItem all ≡ true → GoodItems all
+commands-good : (all : List Item) → allItems goodItem all ≡ true → ItemsOf (λ op. goodOp op ≡ true) all
 unfolding allItems
-good-all [] h = tt
-good-all (i ∷ rest) h = (good-item i (and-left (goodItem i) (allItems goodItem rest) h), good-all rest (and-right (goodItem i) (allItems goodItem rest) h))
+commands-good [] h = tt
+commands-good (i ∷ rest) h = (command-good i (and-left (goodItem i) (allItems goodItem rest) h), commands-good rest (and-right (goodItem i) (allItems goodItem rest) h))
+
+-- every simple command of a script is within document 01's bounds
+pub good-commands : (script : List ℕ) → isScript script ≡ true → (all : List Item) → readScript script ≡ items all → ItemsOf (λ op. goodOp op ≡ true) all
+good-commands script h all e = commands-good all (good-items script all h e)
 
 -- every item that a script is read as is good
 pub good-script : (script : List ℕ) → isScript script ≡ true → (all : List Item) → readScript script ≡ items all → GoodItems all
-good-script script h all e = good-all all (good-items script all h e)
+good-script script h all e = items-weaken (λ op. goodOp op ≡ true) GoodOp good-op all (good-commands script h all e)

@@ -39,3 +39,4 @@ pub mod GoodLines
 pub mod GoodRecords
 pub mod GoodScripts
 pub mod RunReadsBack
+pub mod WrongRuns

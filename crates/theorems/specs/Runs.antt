@@ -49,9 +49,19 @@ module _ (Q : Op → Type 0) where
   CtlOf (leaving items) = ItemsOf items
   CtlOf (seeking at s se k items frames) = ItemsOf items × FramesOf frames
 
+-- `Q` holds of the step of every simple command; then `P` holds of every step that is wanted: its place, what it asks, and how the run goes on
+pub record Asking (Q : Op → Type 0) (P : ℕ → Op → Ctl → Ctl → Type 0) : Type 0 where
+  pub commands : (at : ℕ) (op : Op) (c : Ctl) → Q op → P at op c c
+  pub rounds : (at : ℕ) (c : Ctl) → P at round c c
+  pub tests : (at : ℕ) (x : Test) (c₁ c₀ : Ctl) → P at (test x) c₁ c₀
+  pub begins : (at : ℕ) (s : Seek) (c : Ctl) → P at (beginOp s) c c
+  pub looks : (at : ℕ) (s : Seek) (se : Search) (k : ℕ) (items : List Item) (frames : List Frame)
+      → P at (lookOp s se k) (running items frames) (seeking at s se (suc k) items frames)
+
+module _ (Q : Op → Type 0) (P : ℕ → Op → Ctl → Ctl → Type 0) where
   abbrev pub PullOf : Pull → Type 0
   PullOf finished = Unit {0}
-  PullOf (want at op c₁ c₀) = Q op × CtlOf c₁ × CtlOf c₀
+  PullOf (want at op c₁ c₀) = P at op c₁ c₀ × CtlOf Q c₁ × CtlOf Q c₀
 
 module _ (Q R : Op → Type 0) (f : (op : Op) → Q op → R op) where
   item-weaken : (i : Item) → ItemOf Q i → ItemOf R i
@@ -95,26 +105,26 @@ module _ (Q : Op → Type 0) (f : (op : Op) → Q op) where
   pub items-all : (items : List Item) → ItemsOf Q items
   items-all items = each-all (ItemOf Q) item-all items
 
-module _ (Q : Op → Type 0) (inner : Inner Q) where
+module _ (Q : Op → Type 0) (P : ℕ → Op → Ctl → Ctl → Type 0) (asking : Asking Q P) where
   bodyStart-of : (o : Opener) (at : ℕ) (body : List Item) (frames : List Frame) (skip : Pull)
-      → ItemsOf Q body → FramesOf Q frames → PullOf Q skip → PullOf Q (bodyStart o at body frames skip)
+      → ItemsOf Q body → FramesOf Q frames → PullOf Q P skip → PullOf Q P (bodyStart o at body frames skip)
   unfolding bodyStart wantOne
   bodyStart-of (times zero) at body frames skip i f s = s
-  bodyStart-of (times (suc n)) at body frames skip i f s = (inner .rounds, (i, (i, f)), (i, (i, f)))
-  bodyStart-of forever at body frames skip i f s = (inner .rounds, (i, (i, f)), (i, (i, f)))
-  bodyStart-of bare at body frames skip i f s = (inner .rounds, (i, (i, f)), (i, (i, f)))
-  bodyStart-of (branch c) at body frames skip i f s = (inner .tests c, (i, (i, f)), (i, f))
-  bodyStart-of (loop c) at body frames skip i f s = (inner .tests c, (i, (i, f)), (i, f))
+  bodyStart-of (times (suc n)) at body frames skip i f s = (asking .rounds at _, (i, (i, f)), (i, (i, f)))
+  bodyStart-of forever at body frames skip i f s = (asking .rounds at _, (i, (i, f)), (i, (i, f)))
+  bodyStart-of bare at body frames skip i f s = (asking .rounds at _, (i, (i, f)), (i, (i, f)))
+  bodyStart-of (branch c) at body frames skip i f s = (asking .tests at c _ _, (i, (i, f)), (i, f))
+  bodyStart-of (loop c) at body frames skip i f s = (asking .tests at c _ _, (i, (i, f)), (i, f))
 
   bodyEnd-of : (o : Opener) (g : Bool) (at : ℕ) (body items : List Item) (frames : List Frame) (next : Pull)
-      → ItemsOf Q body → ItemsOf Q items → FramesOf Q frames → PullOf Q next → PullOf Q (bodyEnd o g at body items frames next)
+      → ItemsOf Q body → ItemsOf Q items → FramesOf Q frames → PullOf Q P next → PullOf Q P (bodyEnd o g at body items frames next)
   unfolding bodyEnd wantOne
   bodyEnd-of (times zero) g at body items frames next b i f s = s
-  bodyEnd-of (times (suc n)) g at body items frames next b i f s = (inner .rounds, (b, (b, f)), (b, (b, f)))
-  bodyEnd-of forever g at body items frames next b i f s = (inner .rounds, (b, (b, f)), (b, (b, f)))
+  bodyEnd-of (times (suc n)) g at body items frames next b i f s = (asking .rounds at _, (b, (b, f)), (b, (b, f)))
+  bodyEnd-of forever g at body items frames next b i f s = (asking .rounds at _, (b, (b, f)), (b, (b, f)))
   bodyEnd-of bare g at body items frames next b i f s = s
   bodyEnd-of (branch c) g at body items frames next b i f s = s
-  bodyEnd-of (loop c) g at body items frames next b i f s = (inner .tests c, (b, (b, f)), (i, f))
+  bodyEnd-of (loop c) g at body items frames next b i f s = (asking .tests at c _ _, (b, (b, f)), (i, f))
 
   leaveTo-of : (k : ℕ) (items : List Item) (frames : List Frame) → ItemsOf Q items → FramesOf Q frames → CtlOf Q (leaveTo k items frames)
   unfolding leaveTo
@@ -122,25 +132,13 @@ module _ (Q : Op → Type 0) (inner : Inner Q) where
   leaveTo-of k items (frame true at o body ∷ frames) i f = (i, f .1)
   leaveTo-of k items (frame false at o body ∷ frames) i f = leaveTo-of (suc k) items frames i (f .1)
 
-  beginOp-of : (s : Seek) → Q (beginOp s)
-  unfolding beginOp
-  beginOp-of forward = inner .begins
-  beginOp-of backward = inner .beginsBack
-  beginOp-of deleting = inner .begins
-
-  lookOp-of : (s : Seek) (se : Search) (k : ℕ) → Q (lookOp s se k)
-  unfolding lookOp
-  lookOp-of forward se k = inner .finds se
-  lookOp-of backward se k = inner .findsBack se
-  lookOp-of deleting se k = inner .findsDelete se k
-
   mutual
     unfolding pullAt pullAfter wantOne
 
-    pullAt-of : (items : List Item) (frames : List Frame) → ItemsOf Q items → FramesOf Q frames → PullOf Q (pullAt items frames)
+    pullAt-of : (items : List Item) (frames : List Frame) → ItemsOf Q items → FramesOf Q frames → PullOf Q P (pullAt items frames)
     pullAt-of [] frames i f = tt
-    pullAt-of (simple at op ∷ items) frames i f = (i .0, (i .1, f), (i .1, f))
-    pullAt-of (seek at s se ∷ items) frames i f = (beginOp-of s, (i .1, f), (i .1, f))
+    pullAt-of (simple at op ∷ items) frames i f = (asking .commands at op _ (i .0), (i .1, f), (i .1, f))
+    pullAt-of (seek at s se ∷ items) frames i f = (asking .begins at s _, (i .1, f), (i .1, f))
     pullAt-of (opens at o ∷ items) frames i f = bodyStart-of o at items frames (pullAfter items 1 frames) (i .1) f (pullAfter-of items 1 frames (i .1) f)
     pullAt-of (bracket ∷ items) [] i f = tt
     pullAt-of (bracket ∷ items) (frame g at o body ∷ frames) i f = pullAt-of items (frame true at o body ∷ frames) (i .1) f
@@ -149,10 +147,10 @@ module _ (Q : Op → Type 0) (inner : Inner Q) where
         bodyEnd-of o g at body items frames (pullAt items frames) (f .0) (i .1) (f .1) (pullAt-of items frames (i .1) (f .1))
     pullAt-of (otherwise ∷ items) [] i f = tt
     pullAt-of (otherwise ∷ items) (g ∷ frames) i f = pullAfter-of items 1 frames (i .1) (f .1)
-    pullAt-of (leave at ∷ items) frames i f = (inner .rounds, leaveTo-of 0 items frames (i .1) f, leaveTo-of 0 items frames (i .1) f)
+    pullAt-of (leave at ∷ items) frames i f = (asking .rounds at _, leaveTo-of 0 items frames (i .1) f, leaveTo-of 0 items frames (i .1) f)
     pullAt-of (lineEnd ∷ items) frames i f = pullAt-of items frames (i .1) f
 
-    pullAfter-of : (items : List Item) (k : ℕ) (frames : List Frame) → ItemsOf Q items → FramesOf Q frames → PullOf Q (pullAfter items k frames)
+    pullAfter-of : (items : List Item) (k : ℕ) (frames : List Frame) → ItemsOf Q items → FramesOf Q frames → PullOf Q P (pullAfter items k frames)
     pullAfter-of [] k frames i f = tt
     pullAfter-of (simple at op ∷ items) k frames i f = pullAfter-of items k frames (i .1) f
     pullAfter-of (seek at s se ∷ items) k frames i f = pullAfter-of items k frames (i .1) f
@@ -165,7 +163,7 @@ module _ (Q : Op → Type 0) (inner : Inner Q) where
     pullAfter-of (leave at ∷ items) k frames i f = pullAfter-of items k frames (i .1) f
     pullAfter-of (lineEnd ∷ items) k frames i f = pullAfter-of items k frames (i .1) f
 
-  pullElse-of : (items : List Item) (k : ℕ) (frames : List Frame) → ItemsOf Q items → FramesOf Q frames → PullOf Q (pullElse items k frames)
+  pullElse-of : (items : List Item) (k : ℕ) (frames : List Frame) → ItemsOf Q items → FramesOf Q frames → PullOf Q P (pullElse items k frames)
   unfolding pullElse
   pullElse-of [] k frames i f = tt
   pullElse-of (simple at op ∷ items) k frames i f = pullElse-of items k frames (i .1) f
@@ -181,7 +179,7 @@ module _ (Q : Op → Type 0) (inner : Inner Q) where
   pullElse-of (leave at ∷ items) k frames i f = pullElse-of items k frames (i .1) f
   pullElse-of (lineEnd ∷ items) k frames i f = pullElse-of items k frames (i .1) f
 
-  pullLine-of : (items : List Item) → ItemsOf Q items → PullOf Q (pullLine items)
+  pullLine-of : (items : List Item) → ItemsOf Q items → PullOf Q P (pullLine items)
   unfolding pullLine
   pullLine-of [] i = tt
   pullLine-of (simple at op ∷ items) i = pullLine-of items (i .1)
@@ -193,14 +191,40 @@ module _ (Q : Op → Type 0) (inner : Inner Q) where
   pullLine-of (leave at ∷ items) i = pullLine-of items (i .1)
   pullLine-of (lineEnd ∷ items) i = pullAt-of items [] (i .1) tt
 
-  -- a run whose items ask only for steps of `Q` takes only steps of `Q`
-  pub pull-of : (c : Ctl) → CtlOf Q c → PullOf Q (pull c)
+  -- what holds of every step that a run of such items wants
+  pub pull-asks : (c : Ctl) → CtlOf Q c → PullOf Q P (pull c)
   unfolding pull
-  pull-of (running items frames) h = pullAt-of items frames (h .0) (h .1)
-  pull-of (skipping k items frames) h = pullAfter-of items k frames (h .0) (h .1)
-  pull-of (failing k items frames) h = pullElse-of items k frames (h .0) (h .1)
-  pull-of (leaving items) h = pullLine-of items h
-  pull-of (seeking at s se k items frames) h = (lookOp-of s se k, h, h)
+  pull-asks (running items frames) h = pullAt-of items frames (h .0) (h .1)
+  pull-asks (skipping k items frames) h = pullAfter-of items k frames (h .0) (h .1)
+  pull-asks (failing k items frames) h = pullElse-of items k frames (h .0) (h .1)
+  pull-asks (leaving items) h = pullLine-of items h
+  pull-asks (seeking at s se k items frames) h = (asking .looks at s se k items frames, h, h)
+
+module _ (Q : Op → Type 0) (inner : Inner Q) where
+  beginOp-of : (s : Seek) → Q (beginOp s)
+  unfolding beginOp
+  beginOp-of forward = inner .begins
+  beginOp-of backward = inner .beginsBack
+  beginOp-of deleting = inner .begins
+
+  lookOp-of : (s : Seek) (se : Search) (k : ℕ) → Q (lookOp s se k)
+  unfolding lookOp
+  lookOp-of forward se k = inner .finds se
+  lookOp-of backward se k = inner .findsBack se
+  lookOp-of deleting se k = inner .findsDelete se k
+
+  inner-asking : Asking Q (λ at op c₁ c₀. Q op)
+  inner-asking = record {
+    commands = λ at op c h. h;
+    rounds = λ at c. inner .rounds;
+    tests = λ at x c₁ c₀. inner .tests x;
+    begins = λ at s c. beginOp-of s;
+    looks = λ at s se k items frames. lookOp-of s se k;
+  }
+
+  -- a run whose items ask only for steps of `Q` takes only steps of `Q`
+  pub pull-of : (c : Ctl) → CtlOf Q c → PullOf Q (λ at op c₁ c₀. Q op) (pull c)
+  pull-of c h = pull-asks Q (λ at op c₁ c₀. Q op) inner-asking c h
 
 -- ---- the induction over the budget
 
@@ -243,7 +267,7 @@ module _ (Q : Op → Type 0) (inner : Inner Q) (I : Ed → Tape → Type 0) (J :
     stepped-ends steps at c₁ c₀ (edited e) t h k i = ih c₁ e t h i
     stepped-ends steps at c₁ c₀ (halt n e) t h k i = i
 
-    stepping-ends : (steps : ℕ) (e : Ed) (x : Pull) (t : Tape) → PullOf Q x → I e t
+    stepping-ends : (steps : ℕ) (e : Ed) (x : Pull) (t : Tape) → PullOf Q (λ at op c₁ c₀. Q op) x → I e t
         → EndOf J ((stepping take-step go steps e x t) .0) ((stepping take-step go steps e x t) .1)
     unfolding stepping bind
     stepping-ends steps e finished t h i = done e t i

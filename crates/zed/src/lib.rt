@@ -1,6 +1,33 @@
 // The functions that C programs call: see include/zed.h.
 ghost use mathlib.Core.Path.{_≡_};
+ghost use lib.ListN.{length};
+ghost use Rattle.definitions.specs.Run.{runAnswer, answerNumber, bufferAfter};
+ghost use Rattle.zed.specs.Values.{values};
 ghost use Rattle.definitions.specs.Listing.{numberOf, lengthOf, bytesOf, oldSideTo, newSideTo, listingTo};
+
+// Runs the script on the table; the journal goes into `journal`, and number, steps, furthest line, the journal's length and place into `answer`.
+#[no_mangle]
+pub extern "C" fn zed_run(
+    table: &[u8],
+    script: &[u8],
+    budget: u32,
+    work: &mut [u32],
+    journal: &mut [u8],
+    answer: &mut [u64; 5],
+) -> u64
+    ensures number { λ r. ⌜ r ≡ answerNumber (runAnswer (now (table .entry)) (now (script .entry)) budget (length (now (work .entry))) (length (now (journal .entry)))) ⌝ }
+    ensures answer { λ _. ⌜ now (answer .exit) ≡ values (runAnswer (now (table .entry)) (now (script .entry)) budget (length (now (work .entry))) (length (now (journal .entry)))) ⌝ }
+    ensures journal { λ _. ⌜ now (journal .exit) ≡ bufferAfter (now (journal .entry)) (runAnswer (now (table .entry)) (now (script .entry)) budget (length (now (work .entry))) (length (now (journal .entry)))) ⌝ }
+{
+    let a = run::run(table, script, budget, work, journal);
+    let number = run::values::number(a) as u64;
+    let steps = run::values::steps(a) as u64;
+    let furthest = run::values::furthest(a) as u64;
+    let length = run::values::length(a) as u64;
+    let place = run::values::place(a) as u64;
+    *answer = [number, steps, furthest, length, place];
+    number
+}
 
 // The old side of the journal `j`, written into `dest`; its length goes into `len`.
 #[no_mangle]

@@ -1,0 +1,187 @@
+-- The run's loop: where it stands after each round, and how it ends. Assumes nothing.
+use mathlib.Core.Path.{_≡_, refl, sym, ap, _∙_, subst}
+use mathlib.Core.Bool.{true, false, cond}
+use mathlib.Core.List.{List, []}
+use Prim.Native.Nat.{ℕ, zero, suc, _+_, _-_, _≤_, _<_}
+use native.Mathlib.Omega.{arith}
+use Rattle.definitions.specs.Table.{isScript}
+use Rattle.definitions.specs.Tape.{Tape}
+use Rattle.definitions.specs.Search.{Search}
+use Rattle.definitions.specs.Editor.{Ed}
+use Rattle.definitions.specs.Edit.{Op, step}
+use Rattle.definitions.specs.Control.{Seek, Item, Frame, Ctl, running, seeking, Pull, finished, want, lookOp, pull}
+use Rattle.definitions.specs.Run.{End, end, endPlace, spent, stepping, run}
+use Rattle.control.specs.declared.Control.{Control}
+use Rattle.control.specs.declared.Wanted.{Wanted}
+use Rattle.control.specs.declared.Next.{Next}
+use Rattle.control.specs.declared.Next.the-variants.{Finished, Want}
+use Rattle.control.specs.Shown.{Shows as Stands, ShowsWant, ShowsNext}
+use Rattle.editor.specs.declared.State.{State}
+use Rattle.editor.proofs.Answers.{shows-leaves}
+use Rattle.seeks.specs.declared.Looked.the-variants.{Yes, No, Stop}
+use Rattle.seeks.specs.declared.Sought.{Sought}
+use Rattle.commands.specs.Ready.{Ready}
+use Rattle.steps.specs.Steps.{GoodCtl, Wants, GoesOn, Stops, Leads, Comes}
+use Rattle.steps.proofs.Asked.{Searching, wanted-asked}
+use Rattle.steps.proofs.Views.{asks-look, asks-delete}
+use Rattle.run.specs.Items.{Runnable, Ends, EndsAs}
+use Rattle.run.specs.declared.items.Ended.{Ended}
+
+-- after `made` steps the run stands where c shows it, in a state that the buffer shows; from there it comes to x
+pub record Going (s table : List ℕ) (size budget last : ℕ) (w j : List ℕ) (c : Control) (st : State) (made : ℕ) (x : End × Tape) : Type 0 where
+  pub from : Ctl
+  pub then : Ed
+  pub rest : Tape
+  pub stands : Stands s w last c from
+  pub good : GoodCtl from
+  pub ready : Ready table j st then rest
+  pub same : run (step size) (budget - made) made from then rest ≡ x
+
+-- the step x is wanted there; no search has passed more than n lines then
+pub record Wanting (s w : List ℕ) (last n : ℕ) (x : Wanted) (from : Ctl) : Type 0 where
+  pub op : Op
+  pub c₁ : Ctl
+  pub c₀ : Ctl
+  pub wants : Wants s w x from op c₁ c₀
+  pub shown : ShowsWant s w last n x (x .place) op c₁ c₀
+
+-- ---- the script's end, and the budget
+
+run-out : (size n steps : ℕ) (c : Ctl) (e : Ed) (t : Tape) → pull c ≡ finished → run (step size) n steps c e t ≡ (end 0 steps 0 e, t)
+unfolding run spent stepping
+run-out size zero steps c e t q = rw q
+run-out size (suc n) steps c e t q = rw q
+
+run-late : (size steps : ℕ) (c : Ctl) (place : ℕ) (op : Op) (c₁ c₀ : Ctl) (e : Ed) (t : Tape) → pull c ≡ want place op c₁ c₀ → run (step size) 0 steps c e t ≡ (end 29 steps place e, t)
+unfolding run spent
+run-late size steps c place op c₁ c₀ e t q = rw q
+
+is-finished : (s w : List ℕ) (last n : ℕ) (x : Pull) → ShowsNext s w last n Finished x → x ≡ finished
+unfolding ShowsNext
+is-finished s w last n finished h = refl
+is-finished s w last n (want place op c₁ c₀) h = absurd h
+
+module _ {s table : List ℕ} {size budget last : ℕ} {w j : List ℕ} {c : Control} {st : State} {made : ℕ} {x : End × Tape} (g : Going s table size budget last w j c st made x) where
+  -- nothing is left to do
+  pub going-done : (k : List ℕ) (n : ℕ) (r : Next) → r ≡ Finished → ShowsNext s k last n r (pull (g .from)) → EndsAs j (record { number = 0; steps = made; place = 0; st = st }) x
+  unfolding Ends
+  going-done k n r q h =
+      rw (← g .same, run-out size (budget - made) made (g .from) (g .then) (g .rest) (is-finished s k last n (pull (g .from)) (rw q at h)))
+      (refl, refl, refl, shows-leaves (g .then) (g .rest) (g .ready .shows))
+
+  -- a step is wanted
+  pub going-wants : isScript s ≡ true → (k : List ℕ) (n : ℕ) (r : Next) (y : Wanted) → r ≡ Want y → ShowsNext s k last n r (pull (g .from)) → Wanting s k last n y (g .from)
+  unfolding ShowsNext
+  going-wants form k n r y q h = by (pull (g .from)) refl (rw q at h)
+    where
+      by : (p : Pull) → pull (g .from) ≡ p → ShowsNext s k last n (Want y) p → Wanting s k last n y (g .from)
+      by finished is h = absurd h
+      by (want place op c₁ c₀) is h = record {
+        op = op;
+        c₁ = c₁;
+        c₀ = c₀;
+        wants = record { form = form; good = g .good; next = rw (h .at-place) is; asks = h .asks };
+        shown = subst (λ (p : ℕ). ShowsWant s k last n y p op c₁ c₀) (sym (h .at-place)) h;
+      }
+
+  -- and the budget is spent
+  pub going-late : (k : List ℕ) (n : ℕ) (y : Wanted) → Wanting s k last n y (g .from) → budget ≤ made → EndsAs j (record { number = 29; steps = made; place = y .place; st = st }) x
+  unfolding Ends
+  going-late k n y h spent =
+      let none : budget - made ≡ 0 = omega arith in
+      rw (← g .same, none, run-late size made (g .from) (y .place) (h .op) (h .c₁) (h .c₀) (g .then) (g .rest) (h .wants .next))
+      (refl, refl, refl, shows-leaves (g .then) (g .rest) (g .ready .shows))
+
+  -- ---- after a step, or the steps of a search; `left` is what was left of the budget
+
+  module _ (left : ℕ) (rest-of : left ≡ budget - made) (k m : List ℕ) (n : ℕ) (y : Wanted) (h : Wanting s k last n y (g .from)) (r : Sought)
+      (comes : Comes size left made (g .from) (g .then) (g .rest) table m (y .place) (h .c₁) (h .c₀) r) where
+    further : (to : Ctl) (d : Control) (u : State) → Stands s k last d to → GoodCtl to → GoesOn size left made (g .from) (g .then) (g .rest) table m (r .made) to u
+        → Going s table size budget last k m d u (made + r .made) x
+    further to d u stands good on =
+        let less : budget - (made + r .made) ≡ left - r .made = omega arith in
+        record {
+          from = to;
+          then = on .then;
+          rest = on .rest;
+          stands = stands;
+          good = good;
+          ready = on .ready;
+          same = rw less (sym (on .same) ∙ rw rest-of (g .same));
+        }
+
+    good-both : GoodCtl (h .c₁) × GoodCtl (h .c₀)
+    good-both = let z = wanted-asked (g .from) (y .place) (h .op) (h .c₁) (h .c₀) (h .wants .good) (h .wants .next) in (z .1, z .2)
+
+    pub going-yes : (d : Control) → d ≡ cond true (y .yes) (y .no) → (u : State) → r .looked ≡ Yes u → Going s table size budget last k m d u (made + r .made) x
+    unfolding Leads
+    going-yes d is u q = further (h .c₁) d u (rw is (h .shown .yes-shows)) (good-both .0) (rw q at (comes .leads))
+
+    pub going-no : (d : Control) → d ≡ cond false (y .yes) (y .no) → (u : State) → r .looked ≡ No u → Going s table size budget last k m d u (made + r .made) x
+    unfolding Leads
+    going-no d is u q = further (h .c₀) d u (rw is (h .shown .no-shows)) (good-both .1) (rw q at (comes .leads))
+
+    pub going-stops : (number : ℕ) (u : State) → r .looked ≡ Stop number u → (z : Ended) → z ≡ record { number = number; steps = made + r .made; place = endPlace number (y .place); st = u } → EndsAs m z x
+    unfolding Leads Ends
+    going-stops number u q z is = by (rw q at (comes .leads))
+      where
+        by : Stops size left made (g .from) (g .then) (g .rest) m (r .made) number (y .place) u → EndsAs m z x
+        by w = rw (is, ← g .same, ← rest-of, w .same) (refl, refl, refl, w .leaves)
+
+-- ---- the lines that a search has passed
+
+seek-lines : (s w : List ℕ) (last : ℕ) (c : Control) (place : ℕ) (f : Seek) (se : Search) (k : ℕ) (items : List Item) (frames : List Frame)
+    → Stands s w last c (seeking place f se k items frames) → c .lines ≡ k
+unfolding Stands
+seek-lines s w last c place f se k items frames h = h .1
+
+-- DF has passed fewer lines than the run can have
+pub lines-few : (s w : List ℕ) (last n : ℕ) (x : Wanted) (from : Ctl) → Wanting s w last n x from → x .what ≡ 8 → x .lines < n
+lines-few s w last n x from h eight = by (asks-look s w x (h .op) (h .wants .asks) (omega arith) (omega arith))
+  where
+    counted : (f : Seek) (se : Search) → Searching (x .place) f se (h .op) (h .c₁) (h .c₀) → x .lines < n
+    counted f se y =
+        let passed : x .no .lines ≡ suc (y .passed) =
+        seek-lines s w last (x .no) (x .place) f se (suc (y .passed)) (y .items) (y .frames) (rw (y .not-found) at (h .shown .no-shows)) in
+        let same : y .passed ≡ x .lines = asks-delete s w x f se (y .passed) (rw (y .is) at (h .wants .asks)) eight .1 in
+        omega (arith, h .shown .no-few)
+
+    by : (f : Seek) × (se : Search) × (i : ℕ) × (h .op ≡ lookOp f se i) → x .lines < n
+    by (f, se, i, o) = counted f se (wanted-asked from (x .place) (h .op) (h .c₁) (h .c₀) (h .wants .good) (h .wants .next) .0 .look f se i o)
+
+module _ (d : Control) (x : Wanted) (n m : ℕ) where
+  pub yes-lines : d ≡ cond true (x .yes) (x .no) → x .yes .lines ≤ n → n ≤ m → d .lines ≤ m
+  yes-lines q h few = rw q (omega arith)
+
+  pub no-lines : d ≡ cond false (x .yes) (x .no) → x .no .lines ≤ n → n ≤ m → d .lines ≤ m
+  no-lines q h few = rw q (omega arith)
+
+-- the start
+pub going-start : {s table : List ℕ} {budget last : ℕ} {w j : List ℕ} {st : State} (size : ℕ) (c : Control) (items : List Item) (e : Ed) (t : Tape)
+    → Stands s w last c (running items []) → Runnable s w last items → Ready table j st e t
+    → Going s table size budget last w j c st 0 (run (step size) budget 0 (running items []) e t)
+going-start {s} {table} {budget} size c items e t h d r =
+    let all : budget - 0 ≡ budget = omega arith in
+    record { from = running items []; then = e; rest = t; stands = h; good = (d .good, tt); ready = r; same = rw all }
+
+-- ---- the place of the end
+
+module _ (number steps place : ℕ) (st : State) where
+  pub done-place : number ≡ 0 → _≡_ {A = Ended} (record { number = number; steps = steps; place = 0; st = st }) (record { number = number; steps = steps; place = endPlace number place; st = st })
+  unfolding endPlace
+  done-place q = rw q
+
+  pub stop-place : (number ≡ 0 → ⊥) → _≡_ {A = Ended} (record { number = number; steps = steps; place = place; st = st }) (record { number = number; steps = steps; place = endPlace number place; st = st })
+  unfolding endPlace
+  stop-place some = by number some
+    where
+      by : (n : ℕ) → (n ≡ 0 → ⊥) → _≡_ {A = Ended} (record { number = n; steps = steps; place = place; st = st }) (record { number = n; steps = steps; place = endPlace n place; st = st })
+      by zero some = absurd (some refl)
+      by (suc n) some = refl
+
+-- the end of a run that is done has place 0
+pub stopped-place : (z : Ended) (number steps place : ℕ) (st : State) → z ≡ record { number = number; steps = steps; place = endPlace number place; st = st } → z .number ≡ 0 → z .place ≡ 0
+unfolding endPlace
+stopped-place z number steps place st is none =
+    let q : number ≡ 0 = sym (ap (λ (x : Ended). x .number) is) ∙ none in
+    ap (λ (x : Ended). x .place) is ∙ rw q

@@ -1,0 +1,186 @@
+-- The whole run: refusals in their order, the opening journal, the end. Assumes nothing.
+use mathlib.Core.Path.{_≡_, refl, sym, _∙_}
+use mathlib.Core.Bool.{Bool, true, false, not}
+use mathlib.Core.List.{List, [], _∷_, _++_, map, reverseAux}
+use Prim.Native.Nat.{ℕ, zero, suc, _+_, _-_, _*_, _≤_, _<_}
+use native.Mathlib.Omega.{arith}
+use lib.ListN.{length, replicate, length-append}
+use lib.Dec.{leb}
+use borrow.Author.Tests.{le-leb, lt-leb, leb-true}
+use Rattle.definitions.specs.Bytes.{Line, linesOf, lineBytes, linesBytes}
+use Rattle.definitions.specs.Table.{isTable, isScript}
+use Rattle.definitions.specs.Journal.{Record, kept, recordLength, journalLength, journalBytes}
+use Rattle.definitions.specs.Tape.{Tape, unread, bind, Need, readNeed}
+use Rattle.definitions.specs.Editor.{opening, furthest}
+use Rattle.definitions.specs.Edit.{step}
+use Rattle.definitions.specs.Control.{Item, running}
+use Rattle.definitions.specs.Script.{Script, items, refusedAt, readScript}
+use Rattle.definitions.specs.Run.{End, end, run, runItems, Answer, refusal, answerOf, ranItems, openingLength, workLength, ranTable, ranScript, runAnswer}
+use Rattle.definitions.specs.Run.{answerNumber, answerSteps, answerFurthest, answerPlace, answerLength, bufferAfter, outcome, outcomeFrom, outcomeOf}
+use Rattle.theorems.specs.GoodScripts.{good-commands}
+use Rattle.theorems.specs.JournalBytes.{lines-back}
+use Rattle.script.specs.Words.{ItemsAt}
+use Rattle.script.specs.Reading.{Reads}
+use Rattle.script.specs.declared.Decoded.{Decoded}
+use Rattle.script.specs.declared.Decoded.the-variants.{Items, Refused as Refused-at}
+use Rattle.script.specs.Depth.{deepest}
+use Rattle.control.proofs.Scripts.{items-proper}
+use Rattle.editor.specs.declared.State.{State}
+use Rattle.editor.specs.Shows.{Holds, Opens}
+use Rattle.editor.specs.Current.{PointIn}
+use Rattle.editor.proofs.Opening.{table-last}
+use Rattle.editor.proofs.Tables.{opens-table}
+use Rattle.changes.proofs.Points.{start-in}
+use Rattle.commands.specs.Ready.{Ready}
+use Rattle.run.specs.Answers.{numberOf, stepsOf, furthestOf, lengthOf, placeOf, outcomeWith, caseOf, Gives, Ran}
+use Rattle.run.specs.declared.Answer.{Answer as Answer-of}
+use Rattle.run.specs.Items.{Runnable, Ends, EndsAs}
+use Rattle.run.specs.declared.items.Ended.{Ended}
+use Rattle.run.specs.declared.Answer.the-variants.{Done, Stopped, Refused}
+
+-- ---- the opening journal
+
+-- a mark of two bytes a line
+kept-length : (ls : List Line) → journalLength (map kept ls) ≡ length (linesBytes ls) + 2 * length ls
+unfolding journalLength recordLength linesBytes lineBytes
+kept-length [] = refl
+kept-length (l ∷ ls) = omega (arith, kept-length ls, length-append (l ++ (10 ∷ [])) (linesBytes ls), length-append l (10 ∷ []))
+
+pub opening-length : (t : List ℕ) → isTable t ≡ true → openingLength (linesOf t) ≡ length t + 2 * length (linesOf t)
+unfolding openingLength
+opening-length t h = kept-length (linesOf t) ∙ rw (lines-back t (table-last t h))
+
+-- whether it has room
+module _ (bytes lines room : ℕ) where
+  pub too-short : room < bytes → false ≡ leb (bytes + 2 * lines) room
+  too-short h = sym (lt-leb (bytes + 2 * lines) room (omega arith))
+
+  pub no-marks : bytes ≤ room → room - bytes < 2 * lines → false ≡ leb (bytes + 2 * lines) room
+  no-marks h less = sym (lt-leb (bytes + 2 * lines) room (omega arith))
+
+  pub room-enough : bytes ≤ room → 2 * lines ≤ room - bytes → true ≡ leb (bytes + 2 * lines) room
+  room-enough h enough = sym (le-leb (bytes + 2 * lines) room (omega arith))
+
+opening-point : (ls : List Line) → PointIn ((opening (unread ls)) .0)
+unfolding opening bind
+opening-point ls = start-in [] (map kept ((readNeed (Need.next 1) (unread ls)) .0))
+
+-- the run begins in a state that the buffer shows
+pub opened-ready : {j : List ℕ} {st : State} (table : List ℕ) → isTable table ≡ true → Opens j st (opening (unread (linesOf table)))
+    → Ready table j st ((opening (unread (linesOf table))) .0) ((opening (unread (linesOf table))) .1)
+opened-ready table good h = record { shows = h; point = opening-point (linesOf table); old = opens-table table good }
+
+-- ---- the end
+
+-- the buffer has a journal
+pub ends-holds : (j : List ℕ) (r : Ended) (x : End) (t : Tape) → Ends j r x t → (b : List Record) × (a : List Record) × Holds j (r .st) b a
+unfolding Ends
+ends-holds j r (end number steps place e) t (a, b, c, w) = (w .before, w .rest, w .holds)
+
+module _ (buffer j k : List ℕ) (r : Ended) (n : ℕ) (long : length j ≡ length buffer)
+    (closes : (b : List Record) (a : List Record) → Holds j (r .st) b a
+    → (n ≡ journalLength (reverseAux b a)) × (k ≡ journalBytes (reverseAux b a) ++ replicate (length j - journalLength (reverseAux b a)) 0)) where
+  -- the values that the answer has, and the buffer's bytes
+  ended-outcome : (x : End) (t : Tape) → Ends j r x t → outcome (r .number) (r .steps) (r .st .furthest) n (r .place) k ≡ outcomeFrom buffer (answerOf x t)
+  unfolding Ends answerOf outcomeFrom answerNumber answerSteps answerFurthest answerPlace answerLength bufferAfter
+  ended-outcome (end number steps place e) t (a, b, c, w) =
+      let z = closes (w .before) (w .rest) (w .holds) in
+      rw (a, b, c, w .furthest, z .0, z .1, w .same, long)
+
+  ended-done : (x : End) (t : Tape) → Ends j r x t → r .number ≡ 0 → Done (r .steps) (r .st .furthest) n ≡ caseOf (answerOf x t)
+  unfolding Ends answerOf caseOf
+  ended-done (end number steps place e) t (a, b, c, w) none =
+      let z = closes (w .before) (w .rest) (w .holds) in
+      rw (sym a ∙ none, b, w .furthest, z .0, w .same)
+
+  ended-stopped : (x : End) (t : Tape) → Ends j r x t → (r .number ≡ 0 → ⊥) → Stopped (r .number) (r .steps) (r .st .furthest) n (r .place) ≡ caseOf (answerOf x t)
+  unfolding Ends answerOf caseOf
+  ended-stopped (end zero steps place e) t (a, b, c, w) some = absurd (some a)
+  ended-stopped (end (suc number) steps place e) t (a, b, c, w) some =
+      let z = closes (w .before) (w .rest) (w .holds) in
+      rw (a, b, c, w .furthest, z .0, w .same)
+
+  module _ (table : List ℕ) (budget size : ℕ) (same : size ≡ length buffer) (is : List Item)
+      (ends : EndsAs j r (run (step size) budget 0 (running is []) ((opening (unread (linesOf table))) .0) ((opening (unread (linesOf table))) .1))) where
+    pub gives-done : r .number ≡ 0 → (r .number ≡ 0 → r .place ≡ 0) → Gives buffer (ranItems (step (length buffer)) budget is (linesOf table)) (Done (r .steps) (r .st .furthest) n) k
+    unfolding ranItems runItems bind outcomeWith numberOf stepsOf furthestOf lengthOf placeOf
+    gives-done none at = record { values = rw (none, at none) at (ended-outcome _ _ (rw same at ends)); case = ended-done _ _ (rw same at ends) none }
+
+    pub gives-stopped : (r .number ≡ 0 → ⊥) → Gives buffer (ranItems (step (length buffer)) budget is (linesOf table)) (Stopped (r .number) (r .steps) (r .st .furthest) n (r .place)) k
+    unfolding ranItems runItems bind outcomeWith numberOf stepsOf furthestOf lengthOf placeOf
+    gives-stopped some = record { values = ended-outcome _ _ (rw same at ends); case = ended-stopped _ _ (rw same at ends) some }
+
+-- ---- refusals
+
+-- refused, the buffer is untouched
+refused : (buffer : List ℕ) (n place : ℕ) (a : Answer) → a ≡ refusal n place → Gives buffer a (Refused n place) buffer
+unfolding outcomeWith numberOf stepsOf furthestOf lengthOf placeOf outcomeFrom answerNumber answerSteps answerFurthest answerPlace answerLength bufferAfter caseOf
+refused buffer n place a q = record { values = rw q; case = rw q }
+
+module _ (buffer table : List ℕ) (good : isTable table ≡ true) (n : ℕ) (lines : length (linesOf table) ≡ n) (v : Bool) (fits : v ≡ leb (length table + 2 * n) (length buffer)) where
+  room-as : leb (openingLength (linesOf table)) (length buffer) ≡ v
+  room-as = rw (opening-length table good, lines) (sym fits)
+
+  pub has-room : v ≡ true → openingLength (linesOf table) ≤ length buffer
+  has-room is = leb-true (openingLength (linesOf table)) (length buffer) (room-as ∙ is)
+
+  module _ (budget : ℕ) (is : List Item) where
+    pub no-room : v ≡ false → Gives buffer (ranScript table budget (length buffer) (items is)) (Refused 9 0) buffer
+    unfolding ranScript ranTable
+    no-room q = refused buffer 9 0 _ (rw (good, room-as, q))
+
+    pub gives-script : v ≡ true → (r : Answer-of) (k : List ℕ) → Gives buffer (ranItems (step (length buffer)) budget is (linesOf table)) r k → Gives buffer (ranScript table budget (length buffer) (items is)) r k
+    unfolding ranScript ranTable
+    gives-script q r k g = rw (good, room-as, q) g
+
+pub not-table : (buffer table : List ℕ) (budget : ℕ) (is : List Item) → isTable table ≡ false → Gives buffer (ranScript table budget (length buffer) (items is)) (Refused 7 0) buffer
+unfolding ranScript
+not-table buffer table budget is q = refused buffer 7 0 _ (rw q)
+
+module _ (table script : List ℕ) (budget work : ℕ) (buffer : List ℕ) where
+  ran-as : (r : Answer-of) (k : List ℕ) → Gives buffer (runAnswer table script budget work (length buffer)) r k → Ran table script budget work buffer r k
+  unfolding outcomeOf
+  ran-as r k g = record { values = g .values; case = g .case }
+
+  pub not-script : (v : Bool) → v ≡ isScript script → v ≡ false → Ran table script budget work buffer (Refused 1 0) buffer
+  unfolding runAnswer
+  not-script v q is = ran-as _ _ (refused buffer 1 0 _ (rw (← q, is)))
+
+  module _ (form : isScript script ≡ true) where
+    pub small-work : work < 2 * length script + 64 → Ran table script budget work buffer (Refused 8 0) buffer
+    unfolding runAnswer workLength
+    small-work less = ran-as _ _ (refused buffer 8 0 _ (rw (form, lt-leb (2 * length script + 64) work less)))
+
+    module _ (enough : 2 * length script + 64 ≤ work) where
+      read-as : (x : Script) → readScript script ≡ x → runAnswer table script budget work (length buffer) ≡ ranScript table budget (length buffer) x
+      unfolding runAnswer workLength
+      read-as x q = rw (form, le-leb (2 * length script + 64) work enough, q)
+
+      pub refused-script : (n at : ℕ) → readScript script ≡ refusedAt n at → Ran table script budget work buffer (Refused n at) buffer
+      unfolding ranScript
+      refused-script n at q = ran-as _ _ (refused buffer n at _ (read-as (refusedAt n at) q))
+
+      pub read-items : (is : List Item) → readScript script ≡ items is → (r : Answer-of) (k : List ℕ) → Gives buffer (ranScript table budget (length buffer) (items is)) r k → Ran table script budget work buffer r k
+      read-items is q r k g = ran-as r k (rw (read-as (items is) q) g)
+
+-- the two ways of a test that is turned round
+pub not-true : (v : Bool) → not v ≡ true → v ≡ false
+not-true true h = sym h
+not-true false h = refl
+
+pub not-false : (v : Bool) → not v ≡ false → v ≡ true
+not-false true h = refl
+not-false false h = sym h
+
+-- the script's items are as the run asks
+pub runnable : (s w : List ℕ) (n : ℕ) (d : Decoded) → isScript s ≡ true → Reads s w (readScript s) d → d ≡ Items n → (is : List Item) × (readScript s ≡ items is) × Runnable s w n is
+unfolding Reads
+runnable s w n d form h q = by (rw q at h)
+  where
+    by : (is : List Item) × (readScript s ≡ items is) × ItemsAt s w 0 n is × (n + deepest 0 is ≤ length w) × (n ≤ 65536) → (is : List Item) × (readScript s ≡ items is) × Runnable s w n is
+    by (is, e, lie, room, short) =
+        (is, e, record { form = form; lie = lie; proper = items-proper s is form e; short = short; room = room; good = good-commands s form is e })
+
+pub unreadable : (s w : List ℕ) (n at : ℕ) (d : Decoded) → Reads s w (readScript s) d → d ≡ Refused-at n at → readScript s ≡ refusedAt n at
+unfolding Reads
+unreadable s w n at d h q = rw q at h

@@ -1,0 +1,3 @@
+pub mod Answers
+pub mod Items
+pub mod Demand3

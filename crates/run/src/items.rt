@@ -1,0 +1,97 @@
+// The items of a script, step by step.
+ghost use mathlib.Core.Path.{_≡_};
+ghost use mathlib.Core.List.{List, []};
+ghost use Prim.Native.Nat.{_≤_};
+ghost use lib.ListN.{length};
+ghost use Rattle.definitions.specs.Tape.{Tape};
+ghost use Rattle.definitions.specs.Editor.{Ed};
+ghost use Rattle.definitions.specs.Edit.{step};
+ghost use Rattle.definitions.specs.Control.{Item, running};
+ghost use Rattle.definitions.specs.Run.{run, endPlace};
+ghost use Rattle.commands.specs.Ready.{Ready};
+ghost use Rattle.run.specs.Items.{Runnable, EndsAs};
+use control::Next;
+use editor::State;
+use seeks::Looked;
+use steps::answer_step;
+
+// How the steps end: the number, the steps that were made, the place, and the journal buffer's numbers.
+pub struct Ended {
+    pub number: usize,
+    pub steps: usize,
+    pub place: usize,
+    pub st: State,
+}
+
+// A command has stopped the run. W does it with 0, and being done has place 0.
+fn stopped(number: usize, steps: usize, place: usize, st: State) -> Ended
+    ensures { λ r. ⌜ r ≡ record { number = number; steps = steps; place = endPlace number place; st = st } ⌝ }
+{
+    if number == 0 {
+        return Ended {
+            number,
+            steps,
+            place: 0,
+            st,
+        };
+    }
+    Ended {
+        number,
+        steps,
+        place,
+        st,
+    }
+}
+
+// Runs the items in the words below `end`, at most `budget` steps. The words above them hold the bodies that run.
+pub fn run_items(
+    script: &[u8],
+    table: &[u8],
+    w: &mut [u32],
+    end: usize,
+    budget: usize,
+    j: &mut [u8],
+    st: State,
+) -> Ended
+    requires { ⌜ ((items : List Item) × Runnable (now script) (now w) end items) × ((e : Ed) × (t : Tape) × Ready (now table) (now j) st e t) × (budget ≤ 4294967295) ⌝ }
+    ensures { λ r. ⌜ ((items : List Item) (e : Ed) (t : Tape) → Runnable (now (script .entry)) (now (w .entry)) end items → Ready (now (table .entry)) (now (j .entry)) st e t → EndsAs (now (j .exit)) r (run (step (length (now (j .entry)))) budget 0 (running items []) e t)) × (r .number ≡ 0 → r .place ≡ 0) ⌝ }
+{
+    let mut c = control::start();
+    let mut s = st;
+    let mut made: usize = 0;
+    loop {
+        let next = control::pull(w, end, c);
+        let Next::Want(x) = next else {
+            return Ended {
+                number: 0,
+                steps: made,
+                place: 0,
+                st: s,
+            };
+        };
+        if made >= budget {
+            return Ended {
+                number: 29,
+                steps: made,
+                place: x.place,
+                st: s,
+            };
+        }
+        let r = answer_step(script, table, w, x, j, s, budget - made);
+        made += r.made;
+        let looked = r.looked;
+        match looked {
+            Looked::Yes(on) => {
+                s = on;
+                c = control::go_on(x, true);
+            }
+            Looked::No(on) => {
+                s = on;
+                c = control::go_on(x, false);
+            }
+            Looked::Stop(n, last) => {
+                return stopped(n, made, x.place, last);
+            }
+        }
+    }
+}

@@ -1,0 +1,145 @@
+// The run: a script on a table, within a budget of steps; its journal, and how it ended.
+mod items;
+pub mod values;
+
+ghost use mathlib.Core.Path.{_≡_};
+ghost use mathlib.Core.Bool.{true};
+ghost use mathlib.Core.List.{List};
+ghost use Prim.Native.Nat.{_+_, _*_, _≤_};
+ghost use lib.ListN.{length};
+ghost use lib.Dec.{leb};
+ghost use Rattle.definitions.specs.Bytes.{linesOf};
+ghost use Rattle.definitions.specs.Table.{isTable};
+ghost use Rattle.definitions.specs.Edit.{step};
+ghost use Rattle.definitions.specs.Control.{Item};
+ghost use Rattle.definitions.specs.Script.{items as «items-of»};
+ghost use Rattle.definitions.specs.Run.{openingLength, ranItems, ranScript};
+ghost use Rattle.run.specs.Answers.{Gives, Ran};
+ghost use Rattle.run.specs.Items.{Runnable};
+use items::run_items;
+use script::Decoded;
+use text::Form;
+
+// How a run ends: done, stopped or refused.
+pub enum Answer {
+    Done {
+        steps: usize,
+        furthest: usize,
+        length: usize,
+    },
+    Stopped {
+        number: usize,
+        steps: usize,
+        furthest: usize,
+        length: usize,
+        place: usize,
+    },
+    Refused {
+        number: usize,
+        place: usize,
+    },
+}
+
+// Whether a journal buffer of `room` bytes has room for the opening journal of a table: its bytes, and a mark of two a line.
+fn opening_fits(bytes: usize, lines: usize, room: usize) -> bool
+    requires { ⌜ lines ≤ 65535 ⌝ }
+    ensures { λ r. ⌜ r ≡ leb (bytes + 2 * lines) room ⌝ }
+{
+    if room < bytes {
+        return false;
+    }
+    if room - bytes < 2 * lines {
+        return false;
+    }
+    true
+}
+
+// The run of the decoded items, from the opening journal to the closed one.
+fn run_table(
+    table: &[u8],
+    script: &[u8],
+    budget: usize,
+    work: &mut [u32],
+    end: usize,
+    journal: &mut [u8],
+) -> Answer
+    requires { ⌜ (isTable (now table) ≡ true) × (openingLength (linesOf (now table)) ≤ length (now journal)) × ((is : List Item) × Runnable (now script) (now work) end is) × (budget ≤ 4294967295) ⌝ }
+    ensures { λ r. ⌜ ((is : List Item) → Runnable (now (script .entry)) (now (work .entry)) end is → Gives (now (journal .entry)) (ranItems (step (length (now (journal .entry)))) budget is (linesOf (now (table .entry)))) r (now (journal .exit))) ⌝ }
+{
+    let st = editor::ends::open_journal(table, journal);
+    let ended = run_items(script, table, work, end, budget, journal, st);
+    let last = ended.st;
+    let number = ended.number;
+    let steps = ended.steps;
+    let furthest = last.furthest;
+    let length = editor::ends::close_journal(journal, last);
+    if number == 0 {
+        return Answer::Done {
+            steps,
+            furthest,
+            length,
+        };
+    }
+    Answer::Stopped {
+        number,
+        steps,
+        furthest,
+        length,
+        place: ended.place,
+    }
+}
+
+// The run of the decoded items on any bytes: 7 and 9 are tested before anything is written.
+fn run_decoded(
+    table: &[u8],
+    script: &[u8],
+    budget: usize,
+    work: &mut [u32],
+    end: usize,
+    journal: &mut [u8],
+) -> Answer
+    requires { ⌜ ((is : List Item) × Runnable (now script) (now work) end is) × (budget ≤ 4294967295) ⌝ }
+    ensures { λ r. ⌜ ((is : List Item) → Runnable (now (script .entry)) (now (work .entry)) end is → Gives (now (journal .entry)) (ranScript (now (table .entry)) budget (length (now (journal .entry))) («items-of» is)) r (now (journal .exit))) ⌝ }
+{
+    let form = text::table_form(table);
+    let Form::Lines(lines) = form else {
+        return Answer::Refused {
+            number: 7,
+            place: 0,
+        };
+    };
+    if opening_fits(table.len(), lines, journal.len()) {
+        return run_table(table, script, budget, work, end, journal);
+    }
+    Answer::Refused {
+        number: 9,
+        place: 0,
+    }
+}
+
+// Runs the script on the table. The journal comes to the start of its buffer, zeros after it; refused, the buffer is untouched. Only the work area is
+// left as it comes.
+pub fn run(table: &[u8], script: &[u8], budget: u32, work: &mut [u32], journal: &mut [u8]) -> Answer
+    ensures { λ r. ⌜ Ran (now (table .entry)) (now (script .entry)) budget (length (now (work .entry))) (now (journal .entry)) r (now (journal .exit)) ⌝ }
+{
+    if !text::is_script(script) {
+        return Answer::Refused {
+            number: 1,
+            place: 0,
+        };
+    }
+    if work.len() < 2 * script.len() + 64 {
+        return Answer::Refused {
+            number: 8,
+            place: 0,
+        };
+    }
+    let decoded = script::read_script(script, work);
+    match decoded {
+        Decoded::Items(end) => run_decoded(table, script, budget as usize, work, end, journal),
+        Decoded::Refused(n, place) => Answer::Refused {
+            number: n as usize,
+            place,
+        },
+    }
+}
