@@ -9,12 +9,79 @@
 extern "C" {
 #endif
 
-/* What a reader of journals answers. Both refusals are the loader's to mend. */
+/* What a run or a reader of journals answers, and who causes it. */
 enum {
-    ZED_DONE = 0,               /* written */
-    ZED_DESTINATION_SHORT = 10, /* the destination is too short */
-    ZED_NOT_A_JOURNAL = 11      /* the bytes are no list of records, or their old side has over 65,535 lines */
+    ZED_DONE = 0,
+
+    /* a run refused: the script's author; from 2 on the answer's place says where */
+    ZED_SCRIPT_MALFORMED = 1, /* over 16,384 bytes, a byte not from 32 to 126, a line over 255 bytes, or no LF (10) at the end */
+    ZED_UNKNOWN_COMMAND = 2,  /* unknown command */
+    ZED_BAD_ARGUMENT = 3,     /* an argument, a count or a counted command missing, unreadable or out of range */
+    ZED_BAD_QUALIFIER = 4,    /* a qualifier that cannot stand there */
+    ZED_BAD_BRACKET = 5,      /* a bracket unmatched, too deep or never closed */
+    ZED_NO_Z_LINE = 6,        /* inserted lines without their Z line */
+
+    /* a run refused: the table's keeper */
+    ZED_TABLE_MALFORMED = 7, /* no table: a byte not from 32 to 126, a line over 255 bytes, no LF at the end, over 65,535 lines */
+
+    /* a run or a reader refused: the loader */
+    ZED_WORK_SHORT = 8,         /* the work area is shorter than 2 * script_length + 64 */
+    ZED_JOURNAL_SHORT = 9,      /* the journal buffer is shorter than the table and two bytes a line */
+    ZED_DESTINATION_SHORT = 10, /* the destination of a reader is too short */
+    ZED_NOT_A_JOURNAL = 11,     /* the bytes are no list of records, or their old side has over 65,535 lines */
+
+    /* a run stopped: the script does not fit the table; the answer's place says at which command */
+    ZED_AT_EOF = 20,       /* the command needs a line, and the end-of-file line is current */
+    ZED_MET_EOF = 21,      /* a search forward, or a line number, met the end of the table */
+    ZED_NO_PREVIOUS = 22,  /* there is no previous line, or a search backward met the start of the table */
+    ZED_LINE_DELETED = 23, /* the numbered line is deleted */
+    ZED_NO_MATCH = 24,     /* the string does not match */
+    ZED_LINE_LONG = 25,    /* a line would be over 255 bytes */
+    ZED_JOURNAL_FULL = 26, /* the journal would be longer than its buffer */
+    ZED_POINT_AT_END = 27, /* the window is at the line's end, or at its start */
+    ZED_LINE_BEFORE = 28,  /* the last line to delete is before the first */
+    ZED_BUDGET_SPENT = 29  /* the next step would exceed the budget */
 };
+
+/* What a run comes to. */
+typedef struct zed_answer {
+    uint64_t number;   /* one of the numbers above: 0 done; 1 to 9 refused; 20 to 29 stopped */
+    uint64_t steps;    /* the steps made; refused: 0 */
+    uint64_t furthest; /* the highest source line read, the end-of-file line counting as lines + 1; refused: 0 */
+    uint64_t length;   /* the journal's length in bytes; refused: 0 */
+    uint64_t place;    /* the byte offset in the script that the number comes from; 0 where done, and for 1, 7, 8 and 9 */
+} zed_answer;
+
+/* Whether a run with this number was refused: nothing was run, and the journal buffer is untouched. */
+static inline int zed_is_refusal(uint64_t number)
+{
+    return number >= 1 && number <= 9;
+}
+
+/*
+ * Runs a script against a table and writes the journal of what was done.
+ *
+ * What to lend, for the time of the call only:
+ *   table, table_length      the door timing table. Any bytes may be given. They are read and not changed.
+ *   script, script_length    the script. Any bytes may be given. They are read and not changed.
+ *   budget                   the most steps to make.
+ *   work, work_length        a work area of 32-bit numbers; 2 * script_length + 64 of them are enough for every script of
+ *                            that length. It need not be cleared. What it holds afterwards means nothing.
+ *   journal, journal_length  where the journal goes: at least the table's length and two bytes a line, and room for what the
+ *                            script adds: a changed line adds its new text and 1, an inserted line its text and 3. It
+ *                            need not be cleared.
+ *   answer                   where the answer goes. All five numbers are always set.
+ * No two of these may overlap, but for table and script. No pointer may be null, not even where a length is 0. No length
+ * may be over PTRDIFF_MAX bytes.
+ *
+ * The result is the answer's number again. Afterwards
+ *   done or stopped   the first answer->length bytes of the journal buffer are the journal, the bytes past it are 0. A
+ *                     stopped run's journal has all that was done before the command that stopped. Only a run that is
+ *                     done (0) has done all that the script asks.
+ *   refused           the journal buffer is untouched.
+ */
+uint64_t zed_run(const uint8_t *table, size_t table_length, const uint8_t *script, size_t script_length, uint32_t budget, uint32_t *work,
+                 size_t work_length, uint8_t *journal, size_t journal_length, zed_answer *answer);
 
 /*
  * The readers of a journal:

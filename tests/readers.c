@@ -4,21 +4,11 @@
 #include <string.h>
 
 #include "../include/zed.h"
+#include "check.h"
 
 typedef uint32_t reader(const uint8_t *, size_t, uint8_t *, size_t, size_t *);
 
 enum { SIZE = 512, FILL = 7 };
-
-static int passed, failed;
-
-static void check(const char *name, int good) {
-    if (good) {
-        passed++;
-    } else {
-        failed++;
-        printf("failed: %s\n", name);
-    }
-}
 
 /* Runs a reader with a destination of `room` bytes and wants the number and the bytes given; every other byte stays as it was. */
 static void run(const char *name, reader *read, const char *journal, size_t length, size_t room, uint32_t number, const char *want) {
@@ -114,6 +104,5 @@ int main(void) {
     malformed("a zero byte after the journal", "==a\n", 5);
     limits();
 
-    printf("%d passed, %d failed\n", passed, failed);
-    return failed == 0 ? 0 : 1;
+    return checked();
 }

@@ -1,0 +1,95 @@
+#!/usr/bin/env python3
+"""Runs the editor beside sed and ed on the same edits, and prints how they compare.
+
+    bench/compare.py [ROUNDS]
+
+Builds bench/zedrun.c over the static library first (rt staticlib zed). Each command reads a table from a file and writes the new one; its best
+processor time of ROUNDS (10) is taken, start-up included. The three results must be the same bytes. Then how one run grows with the table.
+"""
+import os, resource, subprocess, sys, tempfile
+
+HERE = os.path.dirname(os.path.abspath(__file__))
+ROOT = os.path.dirname(HERE)
+ROUNDS = int(sys.argv[1]) if len(sys.argv) > 1 else 10
+SEASON = "F B/R02/; E/90/120/\nF B/R03/; D\nIS/R04 open 07:15 60/\n"
+
+def table(lines):
+    return "".join(f"R{i:05d} open {i // 60 % 24:02d}:{i % 60:02d} 90\n" for i in range(1, lines + 1))
+
+def season_table():
+    """16 KB of stops, each with the lines that the season's script looks for."""
+    stop = "R01 open 06:10 90\nR02 open 06:25 90\nR03 open 07:00 60\n"
+    return stop * (16384 // len(stop))
+
+# name, table, script for zed, for sed, for ed
+def jobs(lines):
+    every = table(lines)
+    near = f"R{lines - 5:05d}"
+    stops = 16384 // 54
+    return [
+        ("change every second line", every,
+         "RPT (E/90/120/; N; IFEOF AGP; N; IFEOF AGP)\n", "1~2s/90/120/\n", "1,$g/[13579] open/s/90/120/\nw OUT\nq\n"),
+        ("find one line near the end", every,
+         f"F/{near}/; E/90/120/\n", f"/{near}/s/90/120/\n", f"/{near}/s/90/120/\nw OUT\nq\n"),
+        ("delete a third of the lines", every,
+         "RPT (D; IFEOF AGP; N; IFEOF AGP; N; IFEOF AGP)\n", "1~3d\n", None),
+        ("the season's script over 16 KB", season_table(),
+         f"{stops}(F B/R02/; E/90/120/; F B/R03/; D; IS/R04 open 07:15 60/)\n",
+         "/^R02/s/90/120/\n/^R03/c\\\nR04 open 07:15 60\n", "g/^R02/s/90/120/\ng/^R03/s/.*/R04 open 07:15 60/\nw OUT\nq\n"),
+    ]
+
+def best(command, stdin, out):
+    least = None
+    for _ in range(ROUNDS):
+        before = resource.getrusage(resource.RUSAGE_CHILDREN)
+        with open(stdin) as i, open(out, "w") as o:
+            done = subprocess.run(command, stdin=i, stdout=o, stderr=subprocess.PIPE)
+        after = resource.getrusage(resource.RUSAGE_CHILDREN)
+        if done.returncode: sys.exit(f"{command}: status {done.returncode}: {done.stderr.decode()}")
+        took = after.ru_utime + after.ru_stime - before.ru_utime - before.ru_stime
+        least = took if least is None else min(least, took)
+    return 1000 * least
+
+def read(path):
+    with open(path, "rb") as f: return f.read()
+
+def write(path, text):
+    with open(path, "w") as f: f.write(text)
+
+def third(lines):
+    """ed has no steps of lines: the lines to delete are named from the last on."""
+    return "".join(f"{i}d\n" for i in range(1 + (lines - 1) // 3 * 3, 0, -3)) + "w OUT\nq\n"
+
+def compare(folder, zedrun, lines):
+    print(f"{'edit':32} {'zed ms':>8} {'sed ms':>8} {'ed ms':>9} {'sed/zed':>8} {'ed/zed':>8}")
+    old, script, sed, ed, out = (os.path.join(folder, n) for n in ("OLD", "ZED", "SED", "ED", "OUT"))
+    for name, text, z, s, e in jobs(lines):
+        e = (e or third(lines)).replace("OUT", out + ".ed")
+        write(old, text), write(script, z), write(sed, s), write(ed, e)
+        zt = best([zedrun, old, script], os.devnull, out + ".zed")
+        st = best(["sed", "-f", sed, old], os.devnull, out + ".sed")
+        et = best(["ed", "-s", old], ed, os.devnull)
+        if not read(out + ".zed") == read(out + ".sed") == read(out + ".ed"): sys.exit(f"{name}: the results differ")
+        print(f"{name:32} {zt:8.1f} {st:8.1f} {et:9.1f} {st / zt:8.2f} {et / zt:8.2f}")
+
+def grows(folder, zedrun, few, many):
+    print(f"\n{'one run, microseconds':32} {few:>8} {many:>8} {'grows by':>9}   lines grow by {many / few:.1f}")
+    old, script = os.path.join(folder, "OLD"), os.path.join(folder, "ZED")
+    for (name, t1, z1, _, _), (_, t2, z2, _, _) in list(zip(jobs(few), jobs(many)))[:3]:
+        took = []
+        for text, z in ((t1, z1), (t2, z2)):
+            write(old, text), write(script, z)
+            done = subprocess.run([zedrun, old, script, str(5 * ROUNDS)], stdout=subprocess.DEVNULL, stderr=subprocess.PIPE, check=True)
+            took.append(float(done.stderr))
+        print(f"{name:32} {took[0]:8.0f} {took[1]:8.0f} {took[1] / took[0]:9.2f}")
+
+def main():
+    os.chdir(ROOT)
+    subprocess.run(["rt", "staticlib", "zed"], check=True, stdout=subprocess.DEVNULL)
+    with tempfile.TemporaryDirectory() as folder:
+        zedrun = os.path.join(folder, "zedrun")
+        subprocess.run(["gcc", "-std=c11", "-O2", "-Iinclude", "-o", zedrun, "bench/zedrun.c", "loader/files.c", "target/staticlib/libzed.a"], check=True)
+        compare(folder, zedrun, 65535)
+        grows(folder, zedrun, 6553, 65535)
+
+if __name__ == "__main__": main()

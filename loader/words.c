@@ -1,0 +1,65 @@
+#include "words.h"
+#include "zed.h"
+
+struct meaning {
+    uint64_t number;
+    const char *words;
+    const char *whose;
+};
+
+static const char AUTHOR[] = "This is for the script's author to mend.";
+static const char KEEPER[] = "This is for the table's keeper to mend.";
+static const char LOADER[] = "This is for whoever runs the loader to mend.";
+static const char TABLE_OR_SCRIPT[] = "The script does not fit this table: its author should look at both.";
+
+static const struct meaning meanings[] = {
+    { ZED_SCRIPT_MALFORMED,
+      "The script is longer than 16,384 bytes, or has a byte that is not printable, a line of over 255 bytes, or no line end at its end.", AUTHOR },
+    { ZED_UNKNOWN_COMMAND, "There is no such command.", AUTHOR },
+    { ZED_BAD_ARGUMENT, "An argument, a count or a command is missing here, cannot be read, or is out of range.", AUTHOR },
+    { ZED_BAD_QUALIFIER, "This qualifier cannot stand here.", AUTHOR },
+    { ZED_BAD_BRACKET, "A bracket has no partner, or brackets stand too deep.", AUTHOR },
+    { ZED_NO_Z_LINE, "Inserted lines are not ended by a line Z.", AUTHOR },
+    { ZED_TABLE_MALFORMED,
+      "The table has a byte that is not printable, a line of over 255 bytes, no line end at its end, or more than 65,535 lines.", KEEPER },
+    { ZED_WORK_SHORT, "The work area is too short for this script.", LOADER },
+    { ZED_JOURNAL_SHORT, "The journal has less room than the table needs at the start.", LOADER },
+    { ZED_AT_EOF, "The command needs a line, and the end of the table is current.", TABLE_OR_SCRIPT },
+    { ZED_MET_EOF, "The end of the table was met: the line looked for is not there.", TABLE_OR_SCRIPT },
+    { ZED_NO_PREVIOUS, "The start of the table was met: the line looked for is not there.", TABLE_OR_SCRIPT },
+    { ZED_LINE_DELETED, "The line with this number is deleted.", TABLE_OR_SCRIPT },
+    { ZED_NO_MATCH, "The current line does not have the string.", TABLE_OR_SCRIPT },
+    { ZED_LINE_LONG, "The line would become longer than 255 bytes.", TABLE_OR_SCRIPT },
+    { ZED_JOURNAL_FULL, "The journal has no room for this change: give more with -r.", LOADER },
+    { ZED_POINT_AT_END, "The window is at the line's end, or at its start.", TABLE_OR_SCRIPT },
+    { ZED_LINE_BEFORE, "The last line to delete stands before the first.", TABLE_OR_SCRIPT },
+    { ZED_BUDGET_SPENT, "The steps allowed are spent: the script may run for ever, or -b is too small.", AUTHOR },
+};
+
+void say_number(FILE *out, uint64_t number)
+{
+    for (size_t i = 0; i < sizeof meanings / sizeof meanings[0]; i++) {
+        if (meanings[i].number == number) {
+            fprintf(out, "%s (%llu) %s\n", meanings[i].words, (unsigned long long)number, meanings[i].whose);
+            return;
+        }
+    }
+    fprintf(out, "The run ended with number %llu.\n", (unsigned long long)number);
+}
+
+void show_place(FILE *out, const char *name, const struct bytes *script, size_t place)
+{
+    int past = place >= script->length && script->length > 0;
+    /* what is missing at the script's end is shown at its last line end */
+    size_t at = past ? script->length - 1 : place, start = at, end = at, line = 1;
+
+    while (start > 0 && script->at[start - 1] != '\n')
+        start--;
+    for (size_t i = 0; i < start; i++)
+        line += script->at[i] == '\n';
+    while (end < script->length && script->at[end] != '\n')
+        end++;
+    fprintf(out, "%s, line %zu, column %zu%s:\n  ", name, line, at - start + 1, past ? ", the script's end" : "");
+    fwrite(script->at + start, 1, end - start, out);
+    fprintf(out, "\n  %*s^\n", (int)(at - start), "");
+}

@@ -1,0 +1,205 @@
+/*
+ * Runs the editor at each limit of document 01 and one past it: lines of 255 and 256 bytes, a journal buffer exact and one short for each kind
+ * of command that lengthens, the largest table and script, the deepest nesting, the work area, every budget of a run.
+ */
+#include <stdio.h>
+#include <stdlib.h>
+#include <string.h>
+
+#include "../include/zed.h"
+#include "check.h"
+
+enum { FILL = 7, GUARD = 16 };
+
+static void *lend(size_t bytes) {
+    uint8_t *at = malloc(bytes + GUARD);
+    if (at == NULL) exit(2);
+    memset(at, FILL, bytes + GUARD);
+    return at;
+}
+
+static int all_are(const uint8_t *at, size_t n, uint8_t b) {
+    for (size_t i = 0; i < n; i++) {
+        if (at[i] != b) return 0;
+    }
+    return 1;
+}
+
+/* A run with the buffers that it was lent; the bytes after each buffer must stay. */
+struct outcome {
+    zed_answer answer;
+    uint8_t *journal;
+    int kept; /* past the buffers nothing is touched; past the journal all is 0, or untouched where the run was refused */
+};
+
+static struct outcome run_bytes(const char *table, size_t table_length, const char *script, size_t script_length, uint32_t budget, size_t work_length,
+                                size_t room) {
+    struct outcome o;
+    uint32_t *work = lend(work_length * sizeof *work);
+    uint64_t number;
+
+    memset(&o, 0, sizeof o);
+    o.journal = lend(room);
+    number = zed_run((const uint8_t *)table, table_length, (const uint8_t *)script, script_length, budget, work, work_length, o.journal, room,
+                     &o.answer);
+    o.kept = number == o.answer.number && all_are((uint8_t *)(work + work_length), GUARD, FILL) && all_are(o.journal + room, GUARD, FILL) &&
+             o.answer.length <= room;
+    if (o.kept) {
+        o.kept = all_are(o.journal + o.answer.length, room - o.answer.length, zed_is_refusal(number) ? FILL : 0);
+    }
+    free(work);
+    return o;
+}
+
+static struct outcome run(const char *table, const char *script, uint32_t budget, size_t room) {
+    return run_bytes(table, strlen(table), script, strlen(script), budget, 2 * strlen(script) + 64, room);
+}
+
+/* The run comes to this number, place and journal (NULL: any). */
+static void wants(const char *name, struct outcome o, uint64_t number, uint64_t place, const char *journal) {
+    int good = o.kept && o.answer.number == number && o.answer.place == place;
+    if (good && journal != NULL) good = o.answer.length == strlen(journal) && memcmp(o.journal, journal, o.answer.length) == 0;
+    if (!good) printf("%s: number %llu, place %llu\n", name, (unsigned long long)o.answer.number, (unsigned long long)o.answer.place);
+    check(name, good);
+    free(o.journal);
+}
+
+/* `count` times `part`, and `end` after it. */
+static char *repeat(const char *part, size_t count, const char *end) {
+    size_t n = strlen(part);
+    char *text = malloc(n * count + strlen(end) + 1);
+    if (text == NULL) exit(2);
+    for (size_t i = 0; i < count; i++) memcpy(text + i * n, part, n);
+    strcpy(text + n * count, end);
+    return text;
+}
+
+/* Tables and scripts with lines of 255 bytes and of 256. */
+static void line_lengths(void) {
+    char *longest = repeat("x", 255, "\n"), *longer = repeat("x", 256, "\n");
+    char *comment = repeat(" ", 255, "\n"), *over = repeat(" ", 256, "\n");
+    wants("table line of 255", run(longest, "N\n", 9, 999), 0, 0, NULL);
+    wants("table line of 256", run(longer, "N\n", 9, 999), 7, 0, NULL);
+    wants("script line of 255", run("a\n", comment, 9, 999), 0, 0, "==a\n");
+    wants("script line of 256", run("a\n", over, 9, 999), 1, 0, NULL);
+    free(longest), free(longer), free(comment), free(over);
+}
+
+/* Changes to 255 bytes are done, to 256 are stopped with 25 and leave the record. */
+static void changed_lengths(void) {
+    static const char *const commands[] = { "A/a/xy/\n", "B/a/xy/\n", "E/a/xyz/\n", "AP/a/xy/\n", "BP/a/xy/\n", "EP/a/xyz/\n" };
+    char *fits = repeat("b", 252, "a\n"), *not = repeat("b", 253, "a\n"), *kept = repeat("b", 253, "a\n");
+    char journal[300];
+    snprintf(journal, sizeof journal, "==%s", kept);
+    for (size_t i = 0; i < sizeof commands / sizeof commands[0]; i++) {
+        wants("line becomes 255", run(fits, commands[i], 9, 999), 0, 0, NULL);
+        wants("line would become 256", run(not, commands[i], 9, 999), 25, 0, journal);
+    }
+    free(fits), free(not), free(kept);
+}
+
+/* A journal buffer of just the journal's length, and one byte shorter: then 26, and the journal is as before the command. */
+static void journal_rooms(void) {
+    static const struct {
+        const char *script, *before;
+        uint64_t place;
+    } cases[] = {
+        { "A/b/x/\n", "==abc\n==d\n", 0 },        { "B/b/x/\n", "==abc\n==d\n", 0 },      { "E/b/xy/\n", "==abc\n==d\n", 0 },
+        { "AP/b/x/\n", "==abc\n==d\n", 0 },       { "BP/b/x/\n", "==abc\n==d\n", 0 },     { "EP/b/x/\n", "==abc\n==d\n", 0 },
+        { "#\n", "==abc\n==d\n", 0 },             { "%\n", "==abc\n==d\n", 0 },           { "IS/x/\n", "==abc\n==d\n", 0 },
+        { "IC\n", "==abc\n==d\n", 0 },            { "I\nx\ny\nZ\n", "==abc\n==d\n", 0 },  { "I 2\nx\nZ\n", "==abc\n==d\n", 0 },
+        { "I *\nx\nZ\n", "==abc\n==d\n", 0 },     { "R\nx\nZ\n", "==abc\n==d\n", 0 },     { "R 1 2\nx\nZ\n", "==abc\n==d\n", 0 },
+        { "R 2 *\nx\ny\nZ\n", "==abc\n==d\n", 0 }, { "%;A/b/xx/\n", "<>abc\nAbc\n==d\n", 2 }, { "%;R\nlonger\nZ\n", "<>abc\nAbc\n==d\n", 2 },
+        { "IS/x/;P;E/x/yz/\n", "++x\n==abc\n==d\n", 8 }, { "IS/x/;P;R\nlonger\nZ\n", "++x\n==abc\n==d\n", 8 },
+    };
+    for (size_t i = 0; i < sizeof cases / sizeof cases[0]; i++) {
+        struct outcome o = run("abc\nd\n", cases[i].script, 99, 999), exact;
+        size_t length = (size_t)o.answer.length;
+        exact = run("abc\nd\n", cases[i].script, 99, length);
+        check(cases[i].script, o.kept && exact.kept && o.answer.number == 0 && memcmp(&o.answer, &exact.answer, sizeof o.answer) == 0 &&
+                                   memcmp(o.journal, exact.journal, length) == 0);
+        wants(cases[i].script, run("abc\nd\n", cases[i].script, 99, length - 1), 26, cases[i].place, cases[i].before);
+        free(o.journal), free(exact.journal);
+    }
+    wants("opening journal exact", run("abc\nd\n", "N\n", 9, 10), 0, 0, "==abc\n==d\n");
+    wants("opening journal one short", run("abc\nd\n", "N\n", 9, 9), 9, 0, NULL);
+    wants("no journal buffer for no lines", run("", "\n", 9, 0), 0, 0, "");
+}
+
+/* The largest table and one line more; the largest script and one byte more. */
+static void sizes(void) {
+    char *lines = repeat("\n", 65535, ""), *more = repeat("\n", 65536, "");
+    char *row = repeat(";", 254, "\n"), *last = repeat(";", 63, "\n"), *longer = repeat(";", 64, "\n");
+    char *script = repeat(row, 64, last), *over = repeat(row, 64, longer);
+    struct outcome o = run(lines, "M *\n", 9, 3 * 65535);
+    check("65,535 lines: furthest", o.answer.furthest == 65536 && o.answer.length == 3 * 65535);
+    wants("65,535 lines", o, 0, 0, NULL);
+    wants("65,536 lines", run(more, "M *\n", 9, 3 * 65536), 7, 0, NULL);
+    o = run(lines, "M 65535; D\n", 9, 3 * 65535);
+    check("the last line: its record", o.kept && memcmp(o.journal + 3 * 65534, "--\n", 3) == 0);
+    wants("the last line", o, 0, 0, NULL);
+    check("the script's own size", strlen(script) == 16384 && strlen(over) == 16385);
+    wants("script of 16,384 bytes", run("a\n", script, 9, 99), 0, 0, "==a\n");
+    wants("script of 16,385 bytes", run("a\n", over, 9, 99), 1, 0, NULL);
+    free(lines), free(more), free(row), free(last), free(longer), free(script), free(over);
+}
+
+/* Bodies in bodies as deep as lines and groups allow: 17 lines, each opening a group but the last. */
+static void nesting(void) {
+    static const struct {
+        const char *opener;
+        size_t bytes;
+    } openers[] = { { "IF//", 4 }, { "1 ", 2 }, { "1WH//", 5 }, { "2IF//", 5 }, { "1RPT ", 5 }, { "UL N//", 6 } };
+    for (size_t i = 0; i < sizeof openers / sizeof openers[0]; i++) {
+        char *row = repeat(openers[i].opener, 250 / openers[i].bytes, "(\n"), *rows = repeat(row, 16, "");
+        char *last = repeat(openers[i].opener, 250 / openers[i].bytes, "W\n"), *ends = repeat(")", 16, "\n");
+        char *script = malloc(strlen(rows) + strlen(last) + strlen(ends) + 1);
+        if (script == NULL) exit(2);
+        strcat(strcat(strcpy(script, rows), last), ends);
+        struct outcome o = run("a\n", script, UINT32_MAX, 99);
+        check("nested: every body is begun", o.answer.steps > 17 * (250 / openers[i].bytes));
+        wants("nested", o, 0, 0, "==a\n");
+        free(row), free(rows), free(last), free(ends), free(script);
+    }
+}
+
+/* A work area of just the length, and one number shorter: 8, before the script is decoded and before the table is looked at. */
+static void work_areas(void) {
+    wants("work area exact", run_bytes("a\n", 2, "N\n", 2, 9, 68, 99), 0, 0, "==a\n");
+    wants("work area one short", run_bytes("a\n", 2, "N\n", 2, 9, 67, 99), 8, 0, NULL);
+    wants("work area before the script", run_bytes("a\n", 2, "?\n", 2, 9, 67, 99), 8, 0, NULL);
+    wants("work area before the table", run_bytes("a", 1, "N\n", 2, 9, 67, 99), 8, 0, NULL);
+    wants("the script's form before the work area", run_bytes("a\n", 2, "N", 1, 9, 0, 99), 1, 0, NULL);
+    wants("the script before the table", run_bytes("a", 1, "?\n", 2, 9, 68, 0), 2, 0, NULL);
+    wants("the table before the journal buffer", run_bytes("a", 1, "N\n", 2, 9, 68, 0), 7, 0, NULL);
+}
+
+/* With every budget below a run's steps it stops with 29 and just so many steps; from there on it is done alike. */
+static void budgets(void) {
+    static const char table[] = "R01 open 06:10 90\nR02 open 06:25 90\nR03 open 07:00 60\n";
+    static const char script[] = "RPT (IFEOF AGP; UL/60/ E/90/120/; F/0/; 2(%;<); N)\nM 1; 2N; D 1 2; IS/x/\n";
+    struct outcome whole = run(table, script, UINT32_MAX, 999);
+    int good = whole.kept && whole.answer.number == 0 && whole.answer.steps > 20;
+    for (uint32_t budget = 0; good && budget <= whole.answer.steps + 1; budget++) {
+        struct outcome o = run(table, script, budget, 999);
+        if (budget < whole.answer.steps) {
+            good = o.kept && o.answer.number == 29 && o.answer.steps == budget;
+        } else {
+            good = o.kept && memcmp(&o.answer, &whole.answer, sizeof o.answer) == 0 && memcmp(o.journal, whole.journal, 999) == 0;
+        }
+        free(o.journal);
+    }
+    check("every budget of a run", good);
+    free(whole.journal);
+}
+
+int main(void) {
+    line_lengths();
+    changed_lengths();
+    journal_rooms();
+    sizes();
+    nesting();
+    work_areas();
+    budgets();
+    return checked();
+}

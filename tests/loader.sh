@@ -1,0 +1,178 @@
+#!/usr/bin/env bash
+# Runs the loader as a depot would: runs that are done, stopped and refused, a read-only folder, a full disc. Usage: tests/loader.sh ZEDLOAD
+# The last line is 'N passed, M failed'.
+set -u
+zedload=$(realpath "$1")
+home=$(mktemp -d)
+trap 'chmod -R u+w "$home"; rm -rf "$home"' EXIT
+cd "$home" || exit 1
+chmod 755 "$home"
+
+passed=0 failed=0
+check() { # NAME COMMAND..: the command must succeed
+    local name=$1
+    shift
+    if "$@"; then
+        passed=$((passed + 1))
+    else
+        failed=$((failed + 1))
+        echo "failed: $name"
+        sed 's/^/    /' out err
+    fi
+}
+status() { [ "$got" -eq "$1" ]; }
+says() { grep -qF -- "$1" out err; }
+silent() { ! grep -qiF -- "$1" out err; }
+same() { cmp -s "$1" "$2"; }
+absent() { [ ! -e "$1" ]; }
+only() { # the files of this folder, and no leftover beside them
+    [ "$(ls -A | sort | tr '\n' ' ')" = "$(printf '%s\n' "$@" out err table.first | sort | tr '\n' ' ')" ]
+}
+load() { # the loader's status is in `got`
+    "$zedload" "$@" >out 2>err
+    got=$?
+}
+fresh() { # an own folder with K1's table
+    cd "$home" || exit 1
+    mkdir "$1" && cd "$1" || exit 1
+    printf 'R01 open 06:10 90\nR02 open 06:25 90\nR03 open 07:00 60\n' >table
+    cp table table.first
+    printf 'F B/R02/; E/90/120/\nF B/R03/; D\nIS/R04 open 07:15 60/\nW\n' >season
+}
+
+fresh done
+load -l listing table season
+check "done: status" status 0
+check "done: says so" says "Done: table is updated. Steps 10, furthest line read 4"
+printf 'R01 open 06:10 90\nR02 open 06:25 120\nR04 open 07:15 60\n' >want
+check "done: the new table" same table want
+printf '==R01 open 06:10 90\n<>R02 open 06:25 90\nR02 open 06:25 120\n--R03 open 07:00 60\n++R04 open 07:15 60\n' >want
+check "done: the journal" same table.journal want
+printf '    1  R01 open 06:10 90\n    2 +R02 open 06:25 120\n ****  R04 open 07:15 60\n' >want
+check "done: the listing" same listing want
+rm want
+check "done: no other file" only table season table.journal listing
+
+fresh elsewhere
+chmod 640 table
+load -o new -j log table season
+check "elsewhere: status" status 0
+check "elsewhere: says so" says "Done: new is updated"
+check "elsewhere: the old table stays" same table table.first
+check "elsewhere: the new table has the old one's mode" test "$(stat -c %a new)" = 640
+check "elsewhere: no other file" only table season new log
+
+fresh stopped
+printf 'E/90/95/\nF /R09/\n' >season
+load table season
+check "stopped: status" status 1
+check "stopped: says so" says "Stopped: the table is not updated."
+check "stopped: in words" says "the line looked for is not there. (21)"
+check "stopped: line and column" says "season, line 2, column 1:"
+check "stopped: the mark" test "$(sed -n '/season, line/,$p' err | tail -n 2)" = "$(printf '  F /R09/\n  ^')"
+check "stopped: never says updated" silent "is updated"
+check "stopped: the table stays" same table table.first
+check "stopped: the journal is filed" grep -q '^R01 open 06:10 95$' table.journal
+
+fresh budget
+load -b 3 table season
+check "budget: status" status 1
+check "budget: in words" says "The steps allowed are spent"
+check "budget: the table stays" same table table.first
+
+fresh full
+load -r 3 table season
+check "journal full: status" status 1
+check "journal full: in words" says "give more with -r"
+check "journal full: the table stays" same table table.first
+
+fresh refused
+printf 'N; (N\n' >season
+load table season
+check "refused: status" status 2
+check "refused: says so" says "Refused: nothing was run, and no file is changed."
+check "refused: the script's end" says "season, line 1, column 6, the script's end:"
+check "refused: never says updated" silent "is updated"
+check "refused: the table stays" same table table.first
+check "refused: no journal" only table season
+
+fresh malformed
+printf 'no line end' >table
+cp table table.first
+load table season
+check "malformed: status" status 2
+check "malformed: whose matter" says "the table's keeper"
+check "malformed: the table stays" same table table.first
+check "malformed: no journal" only table season
+
+fresh overlong
+head -c 20000 /dev/zero | tr '\0' 'N' >season
+load table season
+check "overlong script: status" status 2
+check "overlong script: in words" says "longer than 16,384 bytes"
+
+fresh missing
+load nowhere season
+check "missing: status" status 3
+check "missing: says so" says "cannot be read"
+load -j table table season
+check "clash: status" status 3
+check "clash: says so" says "one and the same"
+check "clash: the table stays" same table table.first
+load -b 4294967296 table season
+check "budget out of range: status" status 3
+check "budget out of range: usage" says "usage:"
+load table
+check "usage: status" status 3
+
+fresh link
+mkdir real && mv table real/table && ln -s real/table table
+load table season
+check "link: status" status 0
+check "link: stays" test -L table
+check "link: its table is updated" grep -q 'R04 open' real/table
+
+# Nobody may write in the folder; root may, so the loader runs as nobody where the tests are root's.
+fresh readonly
+chmod 555 .
+touch "$home/ro.out" "$home/ro.err" && chmod 666 "$home/ro.out" "$home/ro.err"
+if [ "$(id -u)" -eq 0 ]; then
+    cp "$zedload" "$home/zedload" && chmod 755 "$home/zedload"
+    setpriv --reuid=65534 --regid=65534 --clear-groups "$home/zedload" table season >"$home/ro.out" 2>"$home/ro.err"
+else
+    "$zedload" table season >"$home/ro.out" 2>"$home/ro.err"
+fi
+got=$?
+chmod 755 .
+cp "$home/ro.out" out && cp "$home/ro.err" err
+check "read-only: status" status 3
+check "read-only: says so" says "could not be written"
+check "read-only: not updated" says "table is not updated"
+check "read-only: the table stays" same table table.first
+check "read-only: no other file" only table season
+
+# A full disc: files may not grow past 1 KiB, and the journal is longer.
+fresh disc
+for i in $(seq 100 160); do echo "R$i open 06:10 90"; done >table
+cp table table.first
+printf 'E/90/120/\n' >season
+(ulimit -f 1 && "$zedload" table season >out 2>err)
+got=$?
+check "full disc: status" status 3
+check "full disc: says so" says "could not be written"
+check "full disc: not updated" says "table is not updated"
+check "full disc: never says updated" silent "is updated"
+check "full disc: the table stays" same table table.first
+check "full disc: no other file" only table season
+
+# The folder of the new table is missing: the journal is filed all the same.
+fresh later
+printf 'N\n' >season
+load -o nowhere/new table season
+check "no folder for the new table: status" status 3
+check "no folder for the new table: not updated" says "is not updated"
+check "no folder for the new table: the journal is filed" test -s table.journal
+check "no folder for the new table: the table stays" same table table.first
+
+echo "$passed passed, $failed failed"
+[ "$failed" -eq 0 ]
