@@ -5,28 +5,22 @@ use borrow.Author.Needs.{needs}
 use Rattle.control.proofs.begin_search.Statement.{statement}
 use Rattle.control.proofs.begin_search.Tie as tie
 
--- src/lib.rt:157:9
 place-of-requires : tie.Need-place-of-requires
 place-of-requires c κs = search needs
 
--- src/lib.rt:158:8
 kind-of-requires : tie.Need-kind-of-requires
 kind-of-requires c κs = search needs
 
--- src/lib.rt:159:9
 wants-requires : tie.Need-wants-requires
 wants-requires c κs = tt
 
--- src/lib.rt:159:9
 returns : tie.Need-returns
 unfolding beginBy
 returns c = c .wants .ensures ∙ simp (sym (c .before .before .kind-of .ensures), eq-eqb _ _ (c .before .if1 .taken), c .before .before .before .place-of .ensures)
 
--- src/lib.rt:161:5
 wants-requires-2 : tie.Need-wants-requires-2
 wants-requires-2 c κs = tt
 
--- src/lib.rt:145:1
 returns-2 : tie.Need-returns-2
 unfolding beginBy
 returns-2 c = c .wants2 .ensures ∙ simp (sym (c .before .before .kind-of .ensures), ne-eqb _ _ (c .before .if1 .left), c .before .before .before .place-of .ensures)

@@ -7,95 +7,72 @@ use borrow.Author.Needs.{needs}
 use Rattle.control.proofs.else_item.Statement.{statement}
 use Rattle.control.proofs.else_item.Tie as tie
 
--- src/lib.rt:109:9
 here-requires : tie.Need-here-requires
 here-requires c κs = let p = c .before .before .pre .0 in readable (p .0) _ _ _ 0 _ _ 0 (p .2) (p .1) (c .before .before .pre .1) (p .3)
 
--- src/lib.rt:113:38
 add-stand : tie.Need-add-stand
 add-stand c = let p = c .before .before .before .before .pre .0 in omega (arith, stands-in (p .0) _ _ _ _ (p .1) (p .3 .stands))
 
--- src/lib.rt:113:9
 stand-requires : tie.Need-stand-requires
 stand-requires c κs = tt
 
--- src/lib.rt:113:9
 same-length : tie.Need-same-length
 same-length c = refl
 
--- src/lib.rt:113:9
 returns : tie.Need-returns
 returns c = (kept-none _ _, λ s items frames h. else-opens _ _ _ _ _ _ _ (c .before .before .here .ensures) (c .before .before .before .before .before .pre .1) _ (c .before .before .before .before .before .pre .2) s items frames h (c .stand .ensures) (c .before .if1 .taken))
 
--- src/lib.rt:117:13
 stand-requires-2 : tie.Need-stand-requires-2
 stand-requires-2 c κs = tt
 
--- src/lib.rt:117:13
 same-length-2 : tie.Need-same-length-2
 same-length-2 c = refl
 
--- src/lib.rt:117:13
 returns-2 : tie.Need-returns-2
 returns-2 c = (kept-none _ _, λ s items frames h. else-last _ _ _ _ _ _ _ (c .before .before .before .before .here .ensures) (c .before .before .before .before .before .before .before .pre .1) _ (c .before .before .before .before .before .before .before .pre .2) s items frames h (c .stand2 .ensures) (c .before .before .if2 .taken) (c .before .if3 .taken))
 
--- src/lib.rt:119:38
 sub-stand : tie.Need-sub-stand
 sub-stand c = search needs
 
--- src/lib.rt:119:9
 stand-requires-3 : tie.Need-stand-requires-3
 stand-requires-3 c κs = tt
 
--- src/lib.rt:119:9
 same-length-3 : tie.Need-same-length-3
 same-length-3 c = refl
 
--- src/lib.rt:119:9
 returns-3 : tie.Need-returns-3
 returns-3 c = (kept-none _ _, λ s items frames h. else-close _ _ _ _ _ _ _ (c .before .before .before .before .here .ensures) (c .before .before .before .before .before .before .before .pre .1) _ (c .before .before .before .before .before .before .before .pre .2) s items frames h (c .stand3 .ensures) (c .before .before .if2 .taken) (c .before .if3 .left))
 
--- src/lib.rt:123:13
 push-requires : tie.Need-push-requires
 push-requires c κs = let p = c .before .before .before .before .before .before .before .before .pre .0 in let i = stands-in (p .0) _ _ _ _ (p .1) (p .3 .stands) in omega (arith, i, c .before .before .before .before .before .before .before .before .pre .1, c .before .before .before .before .before .before .before .before .pre .2)
 
--- src/lib.rt:124:35
 add-stand-2 : tie.Need-add-stand-2
 add-stand-2 c = let p = c .before .before .before .before .before .before .before .before .before .before .before .pre .0 in omega (arith, stands-in (p .0) _ _ _ _ (p .1) (p .3 .stands))
 
--- src/lib.rt:124:13
 stand-requires-4 : tie.Need-stand-requires-4
 stand-requires-4 c κs = tt
 
--- src/lib.rt:124:13
 same-length-4 : tie.Need-same-length-4
 same-length-4 c = search needs
 
--- src/lib.rt:124:13
 returns-4 : tie.Need-returns-4
 returns-4 c = (kept-written _ _ _ _ _ (c .before .before .before .push .ensures) (omega arith), λ s items frames h. else-group _ _ _ _ _ _ _ (c .before .before .before .before .before .before .before .before .before .here .ensures) (c .before .before .before .before .before .before .before .before .before .before .before .before .pre .1) _ (c .before .before .before .before .before .before .before .before .before .before .before .before .pre .2) s items frames h _ (c .before .before .before .push .ensures) (c .stand4 .ensures) (c .before .before .before .before .before .before .if4 .taken) (c .before .before .before .before .before .if5 .taken))
 
--- src/lib.rt:126:9
 stand-requires-5 : tie.Need-stand-requires-5
 stand-requires-5 c κs = tt
 
--- src/lib.rt:126:9
 same-length-5 : tie.Need-same-length-5
 same-length-5 c = refl
 
--- src/lib.rt:126:9
 returns-5 : tie.Need-returns-5
 returns-5 c = (kept-none _ _, λ s items frames h. else-inner _ _ _ _ _ _ _ (c .before .before .before .before .before .here .ensures) (c .before .before .before .before .before .before .before .before .pre .1) _ (c .before .before .before .before .before .before .before .before .pre .2) s items frames h (c .stand5 .ensures) (c .before .before .if4 .taken) (c .before .if5 .left))
 
--- src/lib.rt:128:5
 stand-requires-6 : tie.Need-stand-requires-6
 stand-requires-6 c κs = tt
 
--- src/lib.rt:105:1
 same-length-6 : tie.Need-same-length-6
 same-length-6 c = refl
 
--- src/lib.rt:105:1
 returns-6 : tie.Need-returns-6
 returns-6 c = (kept-none _ _, λ s items frames h. else-plain _ _ _ _ _ _ _ (c .before .before .before .before .here .ensures) (c .before .before .before .before .before .before .before .pre .1) _ (c .before .before .before .before .before .before .before .pre .2) s items frames h (c .stand6 .ensures) (c .before .before .before .if1 .left) (c .before .before .if2 .left) (c .before .if4 .left))
 

@@ -4,51 +4,39 @@ use Rattle.control.proofs.Standing.{kept-none}
 use Rattle.control.proofs.item_step.Statement.{statement}
 use Rattle.control.proofs.item_step.Tie as tie
 
--- src/lib.rt:209:9
 run-item-requires : tie.Need-run-item-requires
 run-item-requires c κs = let p = c .before .before .before .pre in running-in (p .0 .0) _ _ _ (p .0 .1) (p .2) (p .0 .2) (c .before .if1 .taken)
 
--- src/lib.rt:209:9
 same-length : tie.Need-same-length
 same-length c = c .before .before .run-item .ensures .0 .as-long
 
--- src/lib.rt:209:9
 returns : tie.Need-returns
 returns c = (c .before .before .run-item .ensures .0, λ s from h. running-step _ _ _ _ (c .before .before .before .before .before .before .pre .2) s from h _ (c .before .before .before .before .if1 .taken) (c .before .before .run-item .ensures .1))
 
--- src/lib.rt:212:25
 skip-item-requires : tie.Need-skip-item-requires
 skip-item-requires c κs = let p = c .before .before .before .before .pre in skipping-in (p .0 .0) _ _ _ (p .0 .1) (p .2) (p .0 .2) (c .before .if2 .taken)
 
--- src/lib.rt:212:9
 same-length-2 : tie.Need-same-length-2
 same-length-2 c = refl
 
--- src/lib.rt:212:9
 returns-2 : tie.Need-returns-2
 returns-2 c = (kept-none _ _, λ s from h. skipping-step _ _ _ (c .before .before .before .before .before .pre .2) s from h _ (c .before .before .if2 .taken) (c .skip-item .ensures))
 
--- src/lib.rt:215:25
 else-item-requires : tie.Need-else-item-requires
 else-item-requires c κs = let p = c .before .before .before .before .before .pre in failing-in (p .0 .0) _ _ _ (p .0 .1) (p .2) (p .0 .2) (c .before .if3 .taken)
 
--- src/lib.rt:215:9
 same-length-3 : tie.Need-same-length-3
 same-length-3 c = c .before .before .else-item .ensures .0 .as-long
 
--- src/lib.rt:215:9
 returns-3 : tie.Need-returns-3
 returns-3 c = (c .before .before .else-item .ensures .0, λ s from h. failing-step _ _ _ _ (c .before .before .before .before .before .before .before .before .pre .2) s from h _ (c .before .before .before .before .if3 .taken) (c .before .before .else-item .ensures .1))
 
--- src/lib.rt:217:14
 line-item-requires : tie.Need-line-item-requires
 line-item-requires c κs = let p = c .before .before .before .before .before .pre in leaving-in (p .0 .0) _ _ _ (p .0 .1) (p .2) (p .0 .2) (p .1) (c .before .before .before .if1 .left) (c .before .before .if2 .left) (c .before .if3 .left)
 
--- src/lib.rt:203:1
 same-length-4 : tie.Need-same-length-4
 same-length-4 c = refl
 
--- src/lib.rt:203:1
 returns-4 : tie.Need-returns-4
 returns-4 c = (kept-none _ _, λ s from h. leaving-step _ _ _ (c .before .before .before .before .before .before .pre .2) s from h _ (c .before .before .before .before .before .before .pre .1) (c .before .before .before .before .if1 .left) (c .before .before .before .if2 .left) (c .before .before .if3 .left) (c .line-item .ensures))
 

@@ -4,23 +4,18 @@ use mathlib.Core.List.{[]}
 use Rattle.control.proofs.line_item.Statement.{statement}
 use Rattle.control.proofs.line_item.Tie as tie
 
--- src/lib.rt:135:9
 here-requires : tie.Need-here-requires
 here-requires c κs = let p = c .before .pre in readable (p .0) _ (p .1) _ 0 0 (p .2) 0 [] (p .3) (p .5) (outside (p .0) _ (p .1) _ (p .2) (p .3) (p .4))
 
--- src/lib.rt:139:9
 stand-requires : tie.Need-stand-requires
 stand-requires c κs = tt
 
--- src/lib.rt:139:9
 returns : tie.Need-returns
 returns c = λ s end d items h less. line-end _ _ _ _ (c .before .before .here .ensures) _ s end d items h less (c .stand .ensures) (c .before .if1 .taken)
 
--- src/lib.rt:141:5
 stand-requires-2 : tie.Need-stand-requires-2
 stand-requires-2 c κs = tt
 
--- src/lib.rt:131:1
 returns-2 : tie.Need-returns-2
 returns-2 c = λ s end d items h less. line-plain _ _ _ _ (c .before .before .here .ensures) _ s end d items h less (c .stand2 .ensures) (c .before .if1 .left)
 

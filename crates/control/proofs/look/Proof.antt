@@ -4,27 +4,21 @@ use borrow.Author.Needs.{needs}
 use Rattle.control.proofs.look.Statement.{statement}
 use Rattle.control.proofs.look.Tie as tie
 
--- src/lib.rt:227:9
 stand-requires : tie.Need-stand-requires
 stand-requires c κs = tt
 
--- src/lib.rt:229:16
 add-no : tie.Need-add-no
 add-no c = search needs
 
--- src/lib.rt:231:15
 kind-of-requires : tie.Need-kind-of-requires
 kind-of-requires c κs = let p = c .before .before .pre in in-search (p .0 .0) _ (p .0 .1) _ (p .0 .2) (p .1) (p .0 .3) .0
 
--- src/lib.rt:231:15
 sub-t8 : tie.Need-sub-t8
 sub-t8 c = let p = c .before .before .before .pre in omega (arith, c .kind-of .ensures, in-search (p .0 .0) _ (p .0 .1) _ (p .0 .2) (p .1) (p .0 .3))
 
--- src/lib.rt:232:16
 place-of-requires : tie.Need-place-of-requires
 place-of-requires c κs = let p = c .before .before .before .pre in in-search (p .0 .0) _ (p .0 .1) _ (p .0 .2) (p .1) (p .0 .3) .0
 
--- src/lib.rt:221:1
 returns : tie.Need-returns
 returns c = look-shows _ _ (c .before .before .before .before .pre .1) _ (c .before .kind-of .ensures) _ (c .place-of .ensures) _ (c .before .before .stand .ensures)
 

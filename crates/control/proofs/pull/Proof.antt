@@ -16,55 +16,42 @@ Inv-loop w₀ end mode point₀ w point = (point .mode < 4) × Kept w₀ w end �
 abbrev μ-loop : tie.MeasureT-loop
 μ-loop w₀ end mode point₀ w point = end - point .at
 
--- src/lib.rt:254:9
 look-requires : tie.Need-look-requires Inv-loop μ-loop
 look-requires c κs = let p = c .before .before .before .pre in ((p .0 .0, _, p .0 .1, p .0 .2), c .before .if1 .taken, p .1)
 
--- src/lib.rt:254:9
 same-length : tie.Need-same-length Inv-loop μ-loop
 same-length c = refl
 
--- src/lib.rt:254:9
 returns : tie.Need-returns Inv-loop μ-loop
 returns c = (kept-none _ _, λ s from h. c .look .ensures s _ from h)
 
--- src/lib.rt:257:5
 loop-holds : tie.Need-loop-holds Inv-loop μ-loop
 loop-holds c = let p = c .before .before .pre in (few-modes (p .0 .0) _ _ _ (p .0 .1) (c .if1 .left) (p .0 .2), kept-none _ _, λ s from h. record { to = from; shows = h; same = refl })
 
--- src/lib.rt:258:13
 item-step-requires : tie.Need-item-step-requires Inv-loop μ-loop
 item-step-requires c κs = let p = c .before .before .before .before .before .before .pre in let k = (c .before .before .before .loop .inv .2 (p .0 .0) (p .0 .1) (p .0 .2)) in ((p .0 .0, k .to, k .shows), c .before .before .before .loop .inv .0, c .before .if2 .taken)
 
--- src/lib.rt:260:22
 enum-known-step : tie.Need-enum-known-step Inv-loop μ-loop
 enum-known-step c = search needs
 
--- src/lib.rt:257:5
 loop-less : tie.Need-loop-less Inv-loop μ-loop
 loop-less c = let p = c .before .before .before .before .before .before .before .before .before .before .before .before .pre in let k = (c .before .before .before .before .before .before .before .before .before .loop .inv .2 (p .0 .0) (p .0 .1) (p .0 .2)) in omega (arith, c .before .before .before .before .before .before .before .if2 .taken, came-further (p .0 .0) _ _ _ _ _ _ (c .before .step .given .1) (c .before .before .before .before .before .item-step .ensures .1 (p .0 .0)) (k .to) (k .shows))
 
--- src/lib.rt:257:5
 loop-again : tie.Need-loop-again Inv-loop μ-loop
 loop-again c = let p = c .before .before .before .before .before .before .before .before .before .before .before .before .pre in let k = (c .before .before .before .before .before .before .before .before .before .loop .inv .2 (p .0 .0) (p .0 .1) (p .0 .2)) in (came-further (p .0 .0) _ _ _ _ _ _ (c .before .step .given .1) (c .before .before .before .before .before .item-step .ensures .1 (p .0 .0)) (k .to) (k .shows) .1, kept-twice _ _ _ _ (c .before .before .before .before .before .before .before .before .before .loop .inv .1) (c .before .before .before .before .before .item-step .ensures .0), λ s from h. came-on s _ _ _ _ _ _ (c .before .step .given .1) (c .before .before .before .before .before .item-step .ensures .1 s) from (c .before .before .before .before .before .before .before .before .before .loop .inv .2 s from h))
 
--- src/lib.rt:263:25
 enum-known-step-2 : tie.Need-enum-known-step-2 Inv-loop μ-loop
 enum-known-step-2 c = search needs
 
--- src/lib.rt:264:17
 same-length-2 : tie.Need-same-length-2 Inv-loop μ-loop
 same-length-2 c = kept-twice _ _ _ _ (c .before .before .before .before .before .before .before .before .before .loop .inv .1) (c .before .before .before .before .before .item-step .ensures .0) .as-long
 
--- src/lib.rt:264:17
 returns-2 : tie.Need-returns-2 Inv-loop μ-loop
 returns-2 c = (kept-twice _ _ _ _ (c .before .before .before .before .before .before .before .before .before .loop .inv .1) (c .before .before .before .before .before .item-step .ensures .0), λ s from h. came-next s _ _ _ _ _ _ _ (c .before .step2 .given .1) (c .before .before .before .before .before .item-step .ensures .1 s) from (c .before .before .before .before .before .before .before .before .before .loop .inv .2 s from h))
 
--- src/lib.rt:248:1
 same-length-3 : tie.Need-same-length-3 Inv-loop μ-loop
 same-length-3 c = c .before .before .loop .inv .1 .as-long
 
--- src/lib.rt:248:1
 returns-3 : tie.Need-returns-3 Inv-loop μ-loop
 returns-3 c = (c .before .before .loop .inv .1, λ s from h. came-end s _ _ _ _ from (c .before .before .loop .inv .0) (c .if2 .left) (c .before .before .loop .inv .2 s from h))
 

@@ -6,47 +6,36 @@ use borrow.Author.Needs.{needs}
 use Rattle.control.proofs.skip_item.Statement.{statement}
 use Rattle.control.proofs.skip_item.Tie as tie
 
--- src/lib.rt:89:9
 here-requires : tie.Need-here-requires
 here-requires c κs = let p = c .before .pre .0 in readable (p .0) _ (p .1) _ 0 _ _ 0 (p .3) (p .2) (p .5) (p .4)
 
--- src/lib.rt:93:38
 add-stand : tie.Need-add-stand
 add-stand c = let p = c .before .before .before .pre .0 in omega (arith, stands-in (p .0) _ (p .1) _ _ (p .2) (p .4 .stands))
 
--- src/lib.rt:93:9
 stand-requires : tie.Need-stand-requires
 stand-requires c κs = tt
 
--- src/lib.rt:93:9
 returns : tie.Need-returns
 returns c = λ s end items frames h less. skip-opens _ _ _ _ _ _ (c .before .before .here .ensures) _ (c .before .before .before .before .pre .1) s end items frames (c .stand .ensures) (c .before .if1 .taken) h less
 
--- src/lib.rt:97:13
 stand-requires-2 : tie.Need-stand-requires-2
 stand-requires-2 c κs = tt
 
--- src/lib.rt:97:13
 returns-2 : tie.Need-returns-2
 returns-2 c = λ s end items frames h less. skip-last _ _ _ _ _ _ (c .before .before .before .before .here .ensures) _ (c .before .before .before .before .before .before .pre .1) s end items frames (c .stand2 .ensures) (c .before .before .if2 .taken) (c .before .if3 .taken) h less
 
--- src/lib.rt:99:38
 sub-stand : tie.Need-sub-stand
 sub-stand c = search needs
 
--- src/lib.rt:99:9
 stand-requires-3 : tie.Need-stand-requires-3
 stand-requires-3 c κs = tt
 
--- src/lib.rt:99:9
 returns-3 : tie.Need-returns-3
 returns-3 c = λ s end items frames h less. skip-close _ _ _ _ _ _ (c .before .before .before .before .here .ensures) _ (c .before .before .before .before .before .before .pre .1) s end items frames (c .stand3 .ensures) (c .before .before .if2 .taken) (c .before .if3 .left) h less
 
--- src/lib.rt:101:5
 stand-requires-4 : tie.Need-stand-requires-4
 stand-requires-4 c κs = tt
 
--- src/lib.rt:85:1
 returns-4 : tie.Need-returns-4
 returns-4 c = λ s end items frames h less. skip-other _ _ _ _ _ _ (c .before .before .before .here .ensures) _ (c .before .before .before .before .before .pre .1) s end items frames (c .stand4 .ensures) (c .before .before .if1 .left) (c .before .if2 .left) h less
 

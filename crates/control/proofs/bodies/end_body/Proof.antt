@@ -7,123 +7,93 @@ use borrow.Author.Needs.{needs}
 use Rattle.control.proofs.bodies.end_body.Statement.{statement}
 use Rattle.control.proofs.bodies.end_body.Tie as tie
 
--- src/bodies.rt:115:20
 sub-j : tie.Need-sub-j
 sub-j c = search needs
 
--- src/bodies.rt:115:13
 add-j : tie.Need-add-j
 add-j c = let p = c .before .pre in omega (arith, closing-in (p .0) _ _ (p .1) _ _ (p .2) (p .3) (p .4) (p .5) (p .6) (p .7) (p .8))
 
--- src/bodies.rt:116:16
 mul-word : tie.Need-mul-word
 mul-word c = let p = c .before .pre in omega (arith, closing-in (p .0) _ _ (p .1) _ _ (p .2) (p .3) (p .4) (p .5) (p .6) (p .7) (p .8))
 
--- src/bodies.rt:116:16
 slice-read-word : tie.Need-slice-read-word
 slice-read-word c = let p = c .before .before .pre in omega (arith, closing-in (p .0) _ _ (p .1) _ _ (p .2) (p .3) (p .4) (p .5) (p .6) (p .7) (p .8))
 
--- src/bodies.rt:117:16
 cast-item : tie.Need-cast-item
 cast-item c = search needs
 
--- src/bodies.rt:118:9
 kind-of-requires : tie.Need-kind-of-requires
 kind-of-requires c κs = let p = c .before .before .before .pre in item-in (p .0) _ _ _ _ (p .3) (p .4) (p .5) (p .6) (closing-top (p .0) _ _ (p .1) _ _ (p .2) (p .3) (p .4) (p .5) (p .6) (p .7) (p .8))
 
--- src/bodies.rt:119:36
 sub-stand : tie.Need-sub-stand
 sub-stand c = search needs
 
--- src/bodies.rt:119:9
 stand-requires : tie.Need-stand-requires
 stand-requires c κs = tt
 
--- src/bodies.rt:121:9
 same-length : tie.Need-same-length
 same-length c = refl
 
--- src/bodies.rt:121:9
 returns : tie.Need-returns
 returns c = (kept-none _ _, λ s at items g place o body frames h. end-low _ _ _ _ _ _ _ refl refl (c .before .before .kind-of .ensures) _ s at items g place _ (c .before .stand .ensures) refl o body frames h (c .if1 .taken))
 
--- src/bodies.rt:123:9
 opener-end-requires : tie.Need-opener-end-requires
 opener-end-requires c κs = let p = c .before .before .before .before .before .before .before .pre in (item-in (p .0) _ _ _ _ (p .3) (p .4) (p .5) (p .6) (closing-top (p .0) _ _ (p .1) _ _ (p .2) (p .3) (p .4) (p .5) (p .6) (p .7) (p .8)), λ low other. item-two (p .0) _ _ _ _ (p .3) (p .4) (p .5) (p .6) (closing-top (p .0) _ _ (p .1) _ _ (p .2) (p .3) (p .4) (p .5) (p .6) (p .7) (p .8)) _ (c .before .before .before .kind-of .ensures) low other)
 
--- src/bodies.rt:124:9
 stand-requires-2 : tie.Need-stand-requires-2
 stand-requires-2 c κs = tt
 
--- src/bodies.rt:125:9
 place-of-requires : tie.Need-place-of-requires
 place-of-requires c κs = let p = c .before .before .before .before .before .before .before .before .before .before .pre in item-in (p .0) _ _ _ _ (p .3) (p .4) (p .5) (p .6) (closing-top (p .0) _ _ (p .1) _ _ (p .2) (p .3) (p .4) (p .5) (p .6) (p .7) (p .8))
 
--- src/bodies.rt:129:13
 same-length-2 : tie.Need-same-length-2
 same-length-2 c = refl
 
--- src/bodies.rt:129:13
 returns-2 : tie.Need-returns-2
 returns-2 c = (kept-none _ _, λ s at items g place o body frames h. end-last _ _ _ _ _ _ _ refl refl (c .before .before .before .before .before .before .before .before .before .kind-of .ensures) _ s at items g place _ (c .before .before .before .before .before .before .before .before .stand .ensures) refl o body frames h (c .before .if2 .taken) _ refl (c .if3 .taken))
 
--- src/bodies.rt:131:16
 sub-w : tie.Need-sub-w
 sub-w c = search needs
 
--- src/bodies.rt:131:9
 mul-w : tie.Need-mul-w
 mul-w c = let p = c .before .before .before .before .before .before .before .before .before .before .before .before .before .pre in omega (arith, closing-in (p .0) _ _ (p .1) _ _ (p .2) (p .3) (p .4) (p .5) (p .6) (p .7) (p .8))
 
--- src/bodies.rt:131:9
 slice-write-w : tie.Need-slice-write-w
 slice-write-w c = let p = c .before .before .before .before .before .before .before .before .before .before .before .before .before .pre in omega (arith, closing-in (p .0) _ _ (p .1) _ _ (p .2) (p .3) (p .4) (p .5) (p .6) (p .7) (p .8))
 
--- src/bodies.rt:132:9
 wants-requires : tie.Need-wants-requires
 wants-requires c κs = tt
 
--- src/bodies.rt:132:9
 same-length-3 : tie.Need-same-length-3
 same-length-3 c = search needs
 
--- src/bodies.rt:132:9
 returns-3 : tie.Need-returns-3
 returns-3 c = (kept-set _ _ _ _ (omega arith), λ s at items g place o body frames h. again-times _ _ _ _ _ _ _ refl refl (c .before .before .before .before .before .before .before .before .before .before .kind-of .ensures) _ s at items g place _ (c .before .before .before .before .before .before .opener-end .ensures) _ (c .before .before .before .before .before .stand2 .ensures) _ (c .before .before .before .place-of .ensures) (c .before .before .before .before .before .before .before .before .if1 .left) (c .before .before .if2 .taken) _ refl (c .before .if3 .left) _ refl (c .wants .ensures) o body frames h)
 
--- src/bodies.rt:135:9
 wants-requires-2 : tie.Need-wants-requires-2
 wants-requires-2 c κs = tt
 
--- src/bodies.rt:135:9
 same-length-4 : tie.Need-same-length-4
 same-length-4 c = refl
 
--- src/bodies.rt:135:9
 returns-4 : tie.Need-returns-4
 returns-4 c = (kept-none _ _, λ s at items g place o body frames h. again-forever _ _ _ _ _ _ _ refl refl (c .before .before .before .before .before .before .before .before .before .before .kind-of .ensures) _ s at items g place _ (c .before .before .before .before .before .before .opener-end .ensures) _ (c .before .before .before .before .before .stand2 .ensures) _ (c .before .before .before .place-of .ensures) (c .before .if4 .taken) (c .wants2 .ensures) o body frames h)
 
--- src/bodies.rt:138:9
 same-length-5 : tie.Need-same-length-5
 same-length-5 c = refl
 
--- src/bodies.rt:138:9
 returns-5 : tie.Need-returns-5
 returns-5 c = (kept-none _ _, λ s at items g place o body frames h. end-once _ _ _ _ _ _ _ refl refl (c .before .before .before .before .before .before .before .before .before .before .kind-of .ensures) _ s at items g place _ (c .before .before .before .before .before .before .before .before .before .stand .ensures) refl o body frames h (c .before .before .if2 .left) (c .before .if4 .left) (c .if5 .taken))
 
--- src/bodies.rt:140:11
 test-of-requires : tie.Need-test-of-requires
 test-of-requires c κs = search needs
 
--- src/bodies.rt:140:5
 wants-requires-3 : tie.Need-wants-requires-3
 wants-requires-3 c κs = tt
 
--- src/bodies.rt:111:1
 same-length-6 : tie.Need-same-length-6
 same-length-6 c = refl
 
--- src/bodies.rt:111:1
 returns-6 : tie.Need-returns-6
 returns-6 c = (kept-none _ _, λ s at items g place o body frames h. again-loop _ _ _ _ _ _ _ refl refl (c .before .before .before .before .before .before .before .before .before .before .before .before .kind-of .ensures) _ s at items g place _ (c .before .before .before .before .before .before .before .before .opener-end .ensures) _ (c .before .before .before .before .before .before .before .stand2 .ensures) _ (c .before .before .before .before .before .place-of .ensures) (c .before .before .if5 .left) _ (c .before .test-of .ensures .1 (c .before .before .if5 .left)) _ (c .before .before .before .before .before .before .before .before .before .before .before .stand .ensures) (c .wants3 .ensures) o body frames h)
 

@@ -4,35 +4,27 @@ use Rattle.control.proofs.Leaving.{group-none, group-is}
 use Rattle.control.proofs.bodies.is_group.Statement.{statement}
 use Rattle.control.proofs.bodies.is_group.Tie as tie
 
--- src/bodies.rt:60:17
 mul-item : tie.Need-mul-item
 mul-item c = search needs
 
--- src/bodies.rt:60:17
 shared-slice-read-item : tie.Need-shared-slice-read-item
 shared-slice-read-item c = search needs
 
--- src/bodies.rt:60:16
 cast-item : tie.Need-cast-item
 cast-item c = search needs
 
--- src/bodies.rt:61:37
 kind-of-requires : tie.Need-kind-of-requires
 kind-of-requires c κs = search needs
 
--- src/bodies.rt:61:9
 opener-end-requires : tie.Need-opener-end-requires
 opener-end-requires c κs = let p = c .before .before .before .pre .0 in (item-in (p .0) _ _ _ (p .1) (p .2) (p .3) (p .4) (p .5) (p .6), λ low other. item-two (p .0) _ _ _ (p .1) (p .2) (p .3) (p .4) (p .5) (p .6) _ (c .kind-of .ensures) low other)
 
--- src/bodies.rt:63:9
 returns : tie.Need-returns
 returns c = λ s d g place o body h. group-none _ _ _ _ _ (c .before .before .kind-of .ensures) (c .before .opener-end .ensures) s d g place o body h (c .if1 .taken)
 
--- src/bodies.rt:65:5
 kind-of-requires-2 : tie.Need-kind-of-requires-2
 kind-of-requires-2 c κs = search needs
 
--- src/bodies.rt:56:1
 returns-2 : tie.Need-returns-2
 returns-2 c = λ s d g place o body h. group-is _ _ _ _ _ (c .before .before .before .kind-of .ensures) (c .before .before .opener-end .ensures) s d g place o body h (c .before .if1 .left) _ (c .kind-of2 .ensures)
 

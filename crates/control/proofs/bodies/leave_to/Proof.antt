@@ -16,47 +16,36 @@ Inv-loop w end next depth d₀ d = (d ≤ depth) × ((s : List ℕ) (items : Lis
 abbrev μ-loop : tie.MeasureT-loop
 μ-loop w end next depth d₀ d = d
 
--- src/bodies.rt:74:5
 loop-holds : tie.Need-loop-holds Inv-loop μ-loop
 loop-holds c = (omega arith, λ s items frames h. left-start s _ _ _ _ items frames h)
 
--- src/bodies.rt:75:9
 sub-d : tie.Need-sub-d Inv-loop μ-loop
 sub-d c = omega (arith, c .loop-test .taken)
 
--- src/bodies.rt:76:29
 add-is-group : tie.Need-add-is-group Inv-loop μ-loop
 add-is-group c = let p = c .before .before .before .pre in omega (arith, c .before .loop .inv .0, c .loop-test .taken, stands-in (p .0) _ _ _ _ (p .1) (p .3 .stands))
 
--- src/bodies.rt:76:12
 is-group-requires : tie.Need-is-group-requires Inv-loop μ-loop
 is-group-requires c κs = let p = c .before .before .before .pre in left-looked (p .0) _ _ _ _ (p .1) (p .2) (p .3) _ (c .loop-test .taken) (c .before .loop .inv .0) (c .before .loop .inv .1 (p .0) (p .1) (p .2) (p .3))
 
--- src/bodies.rt:77:45
 sub-stand : tie.Need-sub-stand Inv-loop μ-loop
 sub-stand c = omega (arith, c .before .before .before .loop .inv .0)
 
--- src/bodies.rt:77:13
 stand-requires : tie.Need-stand-requires Inv-loop μ-loop
 stand-requires c κs = tt
 
--- src/bodies.rt:77:13
 returns : tie.Need-returns Inv-loop μ-loop
 returns c = (λ s items frames h. left-group s _ _ _ _ items frames h _ (c .before .before .before .loop-test .taken) (c .before .before .before .before .loop .inv .0) (c .before .before .before .before .loop .inv .1 s items frames h) _ (c .before .before .is-group .ensures) (c .before .if1 .taken) _ (c .stand .ensures), ap (λ (x : Control). x .lines) (c .stand .ensures))
 
--- src/bodies.rt:74:5
 loop-less : tie.Need-loop-less Inv-loop μ-loop
 loop-less c = omega (arith, c .before .before .loop-test .taken)
 
--- src/bodies.rt:74:5
 loop-again : tie.Need-loop-again Inv-loop μ-loop
 loop-again c = (omega (arith, c .before .before .before .loop .inv .0), λ s items frames h. left-more s _ _ _ _ items frames h _ (c .before .before .loop-test .taken) (c .before .before .before .loop .inv .0) (c .before .before .before .loop .inv .1 s items frames h) _ (c .before .is-group .ensures) (c .if1 .left))
 
--- src/bodies.rt:80:5
 stand-requires-2 : tie.Need-stand-requires-2 Inv-loop μ-loop
 stand-requires-2 c κs = tt
 
--- src/bodies.rt:69:1
 returns-2 : tie.Need-returns-2 Inv-loop μ-loop
 returns-2 c = (λ s items frames h. left-none s _ _ _ _ items frames h _ (omega (arith, c .before .loop-test .left)) _ (c .stand2 .ensures) (c .before .before .loop .inv .1 s items frames h), ap (λ (x : Control). x .lines) (c .stand2 .ensures))
 

@@ -6,107 +6,81 @@ use borrow.Author.Needs.{needs}
 use Rattle.control.proofs.bodies.start_body.Statement.{statement}
 use Rattle.control.proofs.bodies.start_body.Tie as tie
 
--- src/bodies.rt:80:9
 kind-of-requires : tie.Need-kind-of-requires
 kind-of-requires c κs = let p = c .before .before .pre in omega (arith, opening-in (p .0) _ _ _ _ _ (p .1) (p .2) (p .3) (p .4) (p .5))
 
--- src/bodies.rt:81:9
 place-of-requires : tie.Need-place-of-requires
 place-of-requires c κs = let p = c .before .before .before .before .pre in omega (arith, opening-in (p .0) _ _ _ _ _ (p .1) (p .2) (p .3) (p .4) (p .5))
 
--- src/bodies.rt:82:30
 add-stand : tie.Need-add-stand
 add-stand c = let p = c .before .before .before .before .before .pre in omega (arith, opening-in (p .0) _ _ _ _ _ (p .1) (p .2) (p .3) (p .4) (p .5))
 
--- src/bodies.rt:82:9
 stand-requires : tie.Need-stand-requires
 stand-requires c κs = tt
 
--- src/bodies.rt:84:13
 times-at-requires : tie.Need-times-at-requires
 times-at-requires c κs = let p = c .before .before .before .before .before .before .before .before .pre in (omega (arith, opening-in (p .0) _ _ _ _ _ (p .1) (p .2) (p .3) (p .4) (p .5)), λ other. opening-two (p .0) _ _ _ _ _ (p .1) (p .2) (p .3) (p .4) (p .5) (omega (arith, c .before .before .before .before .before .kind-of .ensures, c .before .if1 .taken)) (λ e. other (c .before .before .before .before .before .kind-of .ensures ∙ e)))
 
--- src/bodies.rt:86:29
 stand-requires-2 : tie.Need-stand-requires-2
 stand-requires-2 c κs = tt
 
--- src/bodies.rt:86:13
 same-length : tie.Need-same-length
 same-length c = refl
 
--- src/bodies.rt:86:13
 returns : tie.Need-returns
 returns c = (kept-none _ _, λ s place o items frames h. start-none _ _ _ _ _ _ (c .before .before .before .before .before .before .before .before .kind-of .ensures) _ s place _ (c .before .before .times-at .ensures) (c .before .if2 .taken) (c .before .before .before .before .if1 .taken) _ (c .stand2 .ensures) refl o items frames h)
 
--- src/bodies.rt:88:33
 sub-push : tie.Need-sub-push
 sub-push c = omega (arith, c .before .if2 .left)
 
--- src/bodies.rt:88:9
 push-requires : tie.Need-push-requires
 push-requires c κs = let p = c .before .before .before .before .before .before .before .before .before .before .before .pre in omega (arith, opening-in (p .0) _ _ _ _ _ (p .1) (p .2) (p .3) (p .4) (p .5), opening-few (p .0) _ _ _ _ _ (p .1) (p .2) (p .3) (p .4) (p .5) _ _ (c .before .before .before .before .before .before .before .before .kind-of .ensures) (c .before .before .before .before .if1 .taken) (c .before .before .times-at .ensures))
 
--- src/bodies.rt:89:9
 wants-requires : tie.Need-wants-requires
 wants-requires c κs = tt
 
--- src/bodies.rt:89:9
 same-length-2 : tie.Need-same-length-2
 same-length-2 c = search needs
 
--- src/bodies.rt:89:9
 returns-2 : tie.Need-returns-2
 returns-2 c = (kept-written _ _ _ _ _ (c .before .before .before .push .ensures) (omega arith), λ s place o items frames h. start-times _ _ _ _ _ _ (c .before .before .before .before .before .before .before .before .before .before .before .before .kind-of .ensures) _ s place _ _ (c .before .before .before .push .ensures) _ (c .before .before .before .before .before .before .before .before .before .before .place-of .ensures) _ (c .before .before .before .before .before .before .before .before .before .stand .ensures) _ (c .before .before .before .before .before .before .times-at .ensures) (c .before .before .before .before .before .if2 .left) refl (c .before .before .before .before .before .before .before .before .if1 .taken) (c .wants .ensures) o items frames h)
 
--- src/bodies.rt:91:5
 push-requires-2 : tie.Need-push-requires-2
 push-requires-2 c κs = let p = c .before .before .before .before .before .before .before .before .pre in omega (arith, opening-in (p .0) _ _ _ _ _ (p .1) (p .2) (p .3) (p .4) (p .5))
 
--- src/bodies.rt:93:9
 wants-requires-2 : tie.Need-wants-requires-2
 wants-requires-2 c κs = tt
 
--- src/bodies.rt:93:9
 same-length-3 : tie.Need-same-length-3
 same-length-3 c = search needs
 
--- src/bodies.rt:93:9
 returns-3 : tie.Need-returns-3
 returns-3 c = (kept-written _ _ _ _ _ (c .before .before .before .before .push2 .ensures) (omega arith), λ s place o items frames h. start-round _ _ _ _ _ _ (c .before .before .before .before .before .before .before .before .before .before .kind-of .ensures) _ s place _ 0 (c .before .before .before .before .push2 .ensures) _ (c .before .before .before .before .before .before .before .before .place-of .ensures) _ (c .before .before .before .before .before .before .before .stand .ensures) (c .before .before .before .before .before .before .if1 .left) (c .before .if3 .taken) (c .wants2 .ensures) o items frames h)
 
--- src/bodies.rt:95:9
 test-of-requires : tie.Need-test-of-requires
 test-of-requires c κs = c .if3 .left
 
--- src/bodies.rt:97:44
 stand-requires-3 : tie.Need-stand-requires-3
 stand-requires-3 c κs = tt
 
--- src/bodies.rt:97:9
 wants-requires-3 : tie.Need-wants-requires-3
 wants-requires-3 c κs = tt
 
--- src/bodies.rt:97:9
 same-length-4 : tie.Need-same-length-4
 same-length-4 c = search needs
 
--- src/bodies.rt:97:9
 returns-4 : tie.Need-returns-4
 returns-4 c = (kept-written _ _ _ _ _ (c .before .before .before .before .before .before .before .push2 .ensures) (omega arith), λ s place o items frames h. start-branch _ _ _ _ _ _ (c .before .before .before .before .before .before .before .before .before .before .before .before .before .kind-of .ensures) _ s place _ 0 (c .before .before .before .before .before .before .before .push2 .ensures) _ (c .before .before .before .before .before .before .before .before .before .before .before .place-of .ensures) _ (c .before .before .before .before .before .before .before .before .before .before .stand .ensures) _ _ (c .wants3 .ensures) (c .before .before .before .before .if3 .left) (c .before .before .if4 .taken) (c .before .before .before .test-of .ensures .0 (c .before .before .if4 .taken)) (c .before .stand3 .ensures) o items frames h)
 
--- src/bodies.rt:99:33
 stand-requires-4 : tie.Need-stand-requires-4
 stand-requires-4 c κs = tt
 
--- src/bodies.rt:99:5
 wants-requires-4 : tie.Need-wants-requires-4
 wants-requires-4 c κs = tt
 
--- src/bodies.rt:76:1
 same-length-5 : tie.Need-same-length-5
 same-length-5 c = search needs
 
--- src/bodies.rt:76:1
 returns-5 : tie.Need-returns-5
 returns-5 c = (kept-written _ _ _ _ _ (c .before .before .before .before .before .before .before .push2 .ensures) (omega arith), λ s place o items frames h. start-loop _ _ _ _ _ _ (c .before .before .before .before .before .before .before .before .before .before .before .before .before .kind-of .ensures) _ s place _ 0 (c .before .before .before .before .before .before .before .push2 .ensures) _ (c .before .before .before .before .before .before .before .before .before .before .before .place-of .ensures) _ (c .before .before .before .before .before .before .before .before .before .before .stand .ensures) _ _ (c .wants4 .ensures) (c .before .before .if4 .left) (c .before .before .before .test-of .ensures .1 (c .before .before .if4 .left)) (c .before .stand4 .ensures) o items frames h)
 

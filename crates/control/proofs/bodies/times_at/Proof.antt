@@ -4,32 +4,25 @@ use borrow.Author.Needs.{needs}
 use Rattle.control.proofs.bodies.times_at.Statement.{statement}
 use Rattle.control.proofs.bodies.times_at.Tie as tie
 
--- src/bodies.rt:43:16
 mul-result : tie.Need-mul-result
 mul-result c = search needs
 
--- src/bodies.rt:43:16
 shared-slice-read-result : tie.Need-shared-slice-read-result
 shared-slice-read-result c = search needs
 
--- src/bodies.rt:43:9
 returns : tie.Need-returns
 unfolding timesAt
 returns c = simp (eq-eqb _ _ (c .before .if1 .taken))
 
--- src/bodies.rt:45:7
 add-result : tie.Need-add-result
 add-result c = search needs
 
--- src/bodies.rt:45:5
 mul-result-2 : tie.Need-mul-result-2
 mul-result-2 c = search needs
 
--- src/bodies.rt:45:5
 shared-slice-read-result-2 : tie.Need-shared-slice-read-result-2
 shared-slice-read-result-2 c = c .before .before .pre .1 (c .before .if1 .left)
 
--- src/bodies.rt:38:1
 returns-2 : tie.Need-returns-2
 unfolding timesAt
 returns-2 c = simp (ne-eqb _ _ (c .before .if1 .left))

@@ -4,55 +4,42 @@ use Rattle.control.proofs.Reading.{seen-few, seen-simple, seen-seek, se
 use Rattle.control.proofs.items.here.Statement.{statement}
 use Rattle.control.proofs.items.here.Tie as tie
 
--- src/items.rt:77:16
 mul-kind : tie.Need-mul-kind
 mul-kind c = omega (arith, seen-in _ _ (c .before .pre))
 
--- src/items.rt:77:16
 shared-slice-read-kind : tie.Need-shared-slice-read-kind
 shared-slice-read-kind c = seen-in _ _ (c .before .before .pre)
 
--- src/items.rt:81:19
 add-t8 : tie.Need-add-t8
 add-t8 c = omega (arith, seen-in _ _ (c .before .before .before .pre))
 
--- src/items.rt:79:9
 returns : tie.Need-returns
 returns c = seen-few _ _ (c .if1 .taken)
 
--- src/items.rt:87:19
 simple-end-requires : tie.Need-simple-end-requires
 simple-end-requires c κs = (seen-in _ _ (c .before .before .before .before .pre), λ low. seen-two _ _ (c .before .before .before .before .pre) low (omega (arith, c .if2 .taken)))
 
--- src/items.rt:85:9
 returns-2 : tie.Need-returns-2
 returns-2 c = seen-simple _ _ (c .before .before .if1 .left) (c .before .if2 .taken) _ (c .simple-end .ensures)
 
--- src/items.rt:93:21
 add-t10 : tie.Need-add-t10
 add-t10 c = omega (arith, seen-in _ _ (c .before .before .before .before .before .pre))
 
--- src/items.rt:93:19
 mul-t11 : tie.Need-mul-t11
 mul-t11 c = omega (arith, seen-two _ _ (c .before .before .before .before .before .pre) (omega (arith, c .before .if2 .left)) (c .if3 .taken))
 
--- src/items.rt:93:19
 shared-slice-read-t13 : tie.Need-shared-slice-read-t13
 shared-slice-read-t13 c = seen-two _ _ (c .before .before .before .before .before .before .pre) (omega (arith, c .before .before .if2 .left)) (c .before .if3 .taken)
 
--- src/items.rt:93:19
 cast-t14 : tie.Need-cast-t14
 cast-t14 c = omega (arith, c .shared-slice-known3 .given (c .before .before .before .before .before .before .args .k + 1))
 
--- src/items.rt:91:9
 returns-3 : tie.Need-returns-3
 returns-3 c = seen-seek _ _ (c .before .before .if2 .left) (c .before .if3 .taken)
 
--- src/items.rt:98:15
 opener-end-requires : tie.Need-opener-end-requires
 opener-end-requires c κs = (seen-in _ _ (c .before .before .before .before .before .pre), λ low other. seen-search _ _ (c .before .before .before .before .before .pre) low other)
 
--- src/items.rt:73:1
 returns-4 : tie.Need-returns-4
 returns-4 c = seen-opener _ _ (c .before .if3 .left) _ (c .opener-end .ensures)
 

@@ -6,50 +6,39 @@ use borrow.Author.Needs.{needs}
 use Rattle.control.proofs.items.opener_end.Statement.{statement}
 use Rattle.control.proofs.items.opener_end.Tie as tie
 
--- src/items.rt:61:16
 add-result : tie.Need-add-result
 add-result c = search needs
 
--- src/items.rt:61:9
 returns : tie.Need-returns
 unfolding openerEnd
 returns c = simp (eq-eqb _ _ (c .if1 .taken))
 
--- src/items.rt:64:16
 add-result-2 : tie.Need-add-result-2
 add-result-2 c = search needs
 
--- src/items.rt:64:9
 returns-2 : tie.Need-returns-2
 unfolding openerEnd
 returns-2 c = simp (ne-eqb _ _ (c .before .if1 .left), lt-ltb _ _ (c .if2 .taken))
 
--- src/items.rt:67:16
 add-result-3 : tie.Need-add-result-3
 add-result-3 c = search needs
 
--- src/items.rt:67:9
 returns-3 : tie.Need-returns-3
 unfolding openerEnd
 returns-3 c = simp (ne-eqb _ _ (c .before .before .if1 .left), le-ltb _ _ (c .before .if2 .left), eq-eqb _ _ (c .if3 .taken))
 
--- src/items.rt:69:7
 add-result-4 : tie.Need-add-result-4
 add-result-4 c = search needs
 
--- src/items.rt:69:5
 mul-result : tie.Need-mul-result
 mul-result c = search needs
 
--- src/items.rt:69:5
 shared-slice-read-result : tie.Need-shared-slice-read-result
 shared-slice-read-result c = c .before .before .before .before .pre .1 (c .before .before .if2 .left) (c .before .if3 .left)
 
--- src/items.rt:69:5
 cast-result : tie.Need-cast-result
 cast-result c = omega (arith, c .shared-slice-known .given (c .before .before .before .before .args .k + 1))
 
--- src/items.rt:56:1
 returns-4 : tie.Need-returns-4
 unfolding openerEnd
 returns-4 c = simp (ne-eqb _ _ (c .before .before .before .if1 .left), le-ltb _ _ (c .before .before .if2 .left), ne-eqb _ _ (c .before .if3 .left))
