@@ -1,6 +1,7 @@
 #!/usr/bin/env bash
-# Runs the examples of a guide: tests/examples.sh GUIDE PROGRAM. An example is a block ```table, a block ```script and a block ```prints; the test
-# program must print the last of them. The last line is 'N passed, M failed'.
+# Runs the examples of a guide by the test program: tests/examples.sh GUIDE PROGRAM. An example is a block ```table, a block ```script and a block
+# ```prints, which the program must print. Then the program's own limits: its files at their longest, one byte longer, and missing.
+# The last line is 'N passed, M failed'.
 set -u
 guide=$(realpath "$1") program=$(realpath "$2")
 home=$(mktemp -d)
@@ -28,5 +29,30 @@ for prints in *.prints; do
 done
 # a guide whose blocks are not found proves nothing
 [ "$passed" -gt 0 ] || failed=$((failed + 1))
+
+# OLD of 16,384 bytes and EDITS of 8,128 are read; a byte more, or a missing file, is a message on standard error and nothing on standard output
+sized() { head -c $(($1 - 1)) /dev/zero | tr '\0' '\n'; echo; }
+limit() { # NAME OLD-BYTES EDITS-BYTES WANT: a length of 0 leaves the file out; WANT is `runs` or the file that the message names
+    local name=$1 want=$4
+    rm -rf limit && mkdir limit
+    [ "$2" -eq 0 ] || sized "$2" >limit/OLD
+    [ "$3" -eq 0 ] || sized "$3" >limit/EDITS
+    (cd limit && "$program" >../got 2>../said)
+    if [ "$want" = runs ] && [ ! -s said ] && [ "$(tail -n 1 got)" = "end 0 steps 0 read 1 at 0" ]; then
+        passed=$((passed + 1))
+    elif [ "$want" != runs ] && [ ! -s got ] && grep -q "$want" said; then
+        passed=$((passed + 1))
+    else
+        failed=$((failed + 1))
+        echo "test program, $name: it prints"
+        head -n 3 got said
+    fi
+}
+limit "OLD and EDITS at their longest" 16384 8128 runs
+limit "OLD one byte too long" 16385 8128 OLD
+limit "EDITS one byte too long" 16384 8129 EDITS
+limit "no OLD" 0 8128 OLD
+limit "no EDITS" 16384 0 EDITS
+
 echo "$passed passed, $failed failed"
 [ "$failed" -eq 0 ]
