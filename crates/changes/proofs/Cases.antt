@@ -22,15 +22,12 @@ use Rattle.editor.proofs.Answers.{step-still}
 use Rattle.changes.specs.Current.{LinesOf, LinesAt, spliced}
 use Rattle.changes.specs.declared.Current.{Current}
 use Rattle.changes.proofs.Texts.{and-left, and-right, is-text}
+use Rattle.text.proofs.Ends.{is-text as byte-text}
 use Rattle.editor.proofs.Texts.{current-good}
 use Rattle.changes.proofs.Splicing.{text-length}
 use Rattle.changes.proofs.Commands.{eof-stops, end-stops}
 
 -- ---- bytes in another case
-
-byte-text : (b : ℕ) → 32 ≤ b → b ≤ 126 → isText b ≡ true
-unfolding isText
-byte-text b h k = rw (le-leb 32 b h, le-leb b 126 k)
 
 moved-text : (t : Bool) (b x : ℕ) → isText b ≡ true → (t ≡ true → isText x ≡ true) → isText (cond t x b) ≡ true
 moved-text true b x h f = f refl

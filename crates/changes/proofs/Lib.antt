@@ -1,7 +1,6 @@
--- `Written`, `Lines`, `Texts`: bytes and lines. `Place`: where the current record's lines stand. `Building`, `Putting`, `Rewriting`, `Splicing`: the
+-- `Written`, `Texts`: bytes. `Place`: where the current record's lines stand. `Building`, `Putting`, `Rewriting`, `Splicing`: the
 -- record written anew. `Bounds`: where a string is found. `Commands`, `Cases`, `Altering`: the commands. `Points`: p stays within the line.
 pub mod Written
-pub mod Lines
 pub mod Texts
 pub mod Place
 pub mod Building

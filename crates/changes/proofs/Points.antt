@@ -18,7 +18,7 @@ use Rattle.definitions.specs.Search.{holds}
 use Rattle.editor.specs.Records.{Live}
 use Rattle.editor.specs.Shows.{afterOf, GroundedAt}
 use Rattle.editor.specs.Current.{PointIn}
-use Rattle.changes.proofs.Lines.{eq-same}
+use Rattle.text.proofs.Lines.{equal-is}
 use Rattle.changes.proofs.Texts.{splice-length}
 use Rattle.changes.proofs.Bounds.{place-inside}
 
@@ -151,7 +151,7 @@ unfolding change current
 change-text o l = go (eqLine o l) refl
   where
     go : (t : Bool) → eqLine o l ≡ t → current (cond t (kept o) (changed o l)) ≡ l
-    go true q = eq-same o l q
+    go true q = equal-is o l q
     go false q = refl
 
 rewrite-text : (r : Record) (l : Line) → Live r → current (rewrite r l) ≡ l

@@ -6,7 +6,8 @@ use mathlib.Core.List.{List, _∷_, _++_, reverseAux, append-assoc}
 use lib.ListN.{length, take, drop, length-append, length-drop, length-replicate, take-append-drop, replicate-append-replicate}
 use lib.Seq.{length-take-le, paste}
 use Rattle.gap.specs.Gap.{zeros, cleared}
-use Rattle.gap.proofs.Laws.{paste-parts, clear-parts}
+use Rattle.gap.proofs.Laws.{clear-parts}
+use Rattle.text.proofs.Pastes.{paste-parts}
 use Rattle.definitions.specs.Journal.{Record, oldOf, journalLength}
 use Rattle.editor.specs.Records.{enc, encAll, encBefore, Good}
 use Rattle.editor.specs.Shows.{Holds}

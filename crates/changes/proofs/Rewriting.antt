@@ -10,7 +10,7 @@ use borrow.Author.Tests.{le-leb, lt-leb}
 use Rattle.definitions.specs.Bytes.{Line, eqLine, isLine}
 use Rattle.definitions.specs.Journal.{Record, kept, changed, deleted, inserted, change, rewrite, oldOf, journalLength}
 use Rattle.definitions.specs.Tape.{Tape, restLines}
-use Rattle.definitions.specs.Editor.{Ed, ed, edited, journal, current}
+use Rattle.definitions.specs.Editor.{Ed, ed, edited, journal}
 use Rattle.definitions.specs.Edit.{within}
 use Rattle.editor.specs.Records.{enc, mark, Good, Live}
 use Rattle.editor.specs.Shows.{Holds, Shows, Answers, Answered}
@@ -23,7 +23,7 @@ use Rattle.editor.proofs.Reading.{reachOf}
 use Rattle.editor.proofs.Answers.{shown-reach, journal-is, shows-of, shows-leaves}
 use Rattle.changes.specs.Current.{part, firstLine, LinesOf, LinesAt, written, Put, retexted}
 use Rattle.changes.specs.declared.Current.{Current}
-use Rattle.changes.proofs.Lines.{eq-same}
+use Rattle.text.proofs.Lines.{equal-is}
 use Rattle.changes.proofs.Written.{first-written}
 
 -- ---- a record in the place of the current one
@@ -53,8 +53,8 @@ module _ (l : Line) (fine : isLine l ≡ true) where
 
   to-kept : (r : Record) → Live r → (mark r ≡ 43 → ⊥) → eqLine (firstLine r) l ≡ true → (rewrite r l ≡ kept l) × (oldOf (kept l) ≡ oldOf r)
   unfolding rewrite change oldOf
-  to-kept (kept m) v e q = rw (q, eq-same m l q) (refl, refl)
-  to-kept (changed o n) v e q = rw (q, eq-same o l q) (refl, refl)
+  to-kept (kept m) v e q = rw (q, equal-is m l q) (refl, refl)
+  to-kept (changed o n) v e q = rw (q, equal-is o l q) (refl, refl)
   to-kept (deleted m) v e q = absurd v
   to-kept (inserted m) v e q = absurd (e refl)
 

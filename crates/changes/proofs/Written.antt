@@ -5,7 +5,7 @@ use native.Mathlib.Omega.{arith}
 use mathlib.Core.List.{List, [], _∷_, _++_, append-assoc}
 use lib.ListN.{length, take, drop, getD, set, length-append, length-drop, take-append-drop}
 use lib.Seq.{drop-cons, drop-drop, set-at, take-at, length-take-le, paste}
-use Rattle.gap.proofs.Laws.{paste-parts}
+use Rattle.text.proofs.Pastes.{paste-parts}
 use Rattle.changes.specs.Current.{written}
 
 module _ (d x : List ℕ) (k : ℕ) {r q : List ℕ} (was : r ≡ written d x) (long : length x ≡ k) where

@@ -16,29 +16,12 @@ use super::Current;
 use editor::Moved;
 use editor::State;
 
-// Are the lines equal.
-fn same_line(a: &[u8], b: &[u8]) -> bool
-    ensures { λ r. ⌜ r ≡ eqLine (now (a .entry)) (now (b .entry)) ⌝ }
-{
-    if a.len() != b.len() {
-        return false;
-    }
-    let mut i: usize = 0;
-    while i < a.len() {
-        if a[i] != b[i] {
-            return false;
-        }
-        i += 1;
-    }
-    true
-}
-
 // Are the bytes of j from `from` to `to` the first len bytes of line.
 fn is_same(j: &[u8], from: usize, to: usize, line: &[u8], len: usize) -> bool
     requires { ⌜ (from ≤ to) × (to ≤ length (now j)) × (len ≤ length (now line)) ⌝ }
     ensures { λ r. ⌜ r ≡ eqLine (part (now (j .entry)) from to) (take len (now (line .entry))) ⌝ }
 {
-    same_line(&j[from..to], &line[..len])
+    text::same(&j[from..to], &line[..len])
 }
 
 // One byte of a record.
@@ -56,7 +39,7 @@ fn plain_record(rec: &mut [u8], mark: u8, line: &[u8], len: usize)
 {
     put_byte(rec, 0, mark);
     put_byte(rec, 1, mark);
-    gap::copy_in(rec, 2, line, 0, len);
+    text::copies::copy_in(rec, 2, line, 0, len);
     put_byte(rec, len + 2, 10);
 }
 
@@ -67,9 +50,9 @@ fn changed_record(rec: &mut [u8], j: &[u8], from: usize, n: usize, line: &[u8], 
 {
     put_byte(rec, 0, 60);
     put_byte(rec, 1, 62);
-    gap::copy_in(rec, 2, j, from, n);
+    text::copies::copy_in(rec, 2, j, from, n);
     put_byte(rec, n + 2, 0);
-    gap::copy_in(rec, n + 3, line, 0, len);
+    text::copies::copy_in(rec, n + 3, line, 0, len);
     put_byte(rec, n + len + 3, 10);
 }
 
@@ -84,7 +67,7 @@ fn put_record(j: &mut [u8], st: State, end: usize, rec: &[u8], n: usize, q: usiz
         return Moved::Stop(26, st);
     }
     let to = end - n;
-    gap::copy_in(j, to, rec, 0, n);
+    text::copies::copy_in(j, to, rec, 0, n);
     let mut s = st;
     s.back = to;
     s.p = q;
@@ -139,10 +122,10 @@ fn splice_line(
     requires { ⌜ (from + i + n ≤ to) × (to ≤ length (now j)) × (m ≤ length (now new)) × ((to - from - n) + m ≤ length (now line)) ⌝ }
     ensures { λ _. ⌜ now (line .exit) ≡ written (now (line .entry)) (splice (part (now (j .entry)) from to) i n (take m (now (new .entry)))) ⌝ }
 {
-    gap::copy_in(line, 0, j, from, i);
-    gap::copy_in(line, i, new, 0, m);
+    text::copies::copy_in(line, 0, j, from, i);
+    text::copies::copy_in(line, i, new, 0, m);
     let rest = from + i + n;
-    gap::copy_in(line, i + m, j, rest, to - rest);
+    text::copies::copy_in(line, i + m, j, rest, to - rest);
 }
 
 // The first m bytes of `new` come for the n bytes of the current line from place i on, and p becomes q.

@@ -1,5 +1,5 @@
 -- The current line's text: of the table until its first change, and of the journal afterwards. Assumes nothing.
-use mathlib.Core.Path.{_≡_, refl, sym, ap, _∙_}
+use mathlib.Core.Path.{_≡_, sym, ap, _∙_}
 use mathlib.Core.Bool.{true}
 use Prim.Native.Nat.{ℕ, _+_, _-_, _≤_, _<_}
 use native.Mathlib.Omega.{arith}
@@ -21,15 +21,11 @@ use Rattle.editor.proofs.Records.{line-short, old-bytes-nil, old-bytes-
 use Rattle.editor.proofs.Held.{held-mark}
 use Rattle.editor.proofs.Reading.{reverse-append}
 use Rattle.editor.proofs.Answers.{journal-is, shown-record}
+use Rattle.text.proofs.Lines.{lines-bytes-append}
 use Rattle.editor.proofs.Opening.{table-last}
 use Rattle.editor.proofs.Texts.{text-size, current-good}
 
 -- ---- a kept line in the table
-
-lines-append : (x y : List Line) → linesBytes (x ++ y) ≡ linesBytes x ++ linesBytes y
-unfolding linesBytes
-lines-append [] y = refl
-lines-append (l ∷ x) y = rw (lines-append x y) (sym (append-assoc (lineBytes l) (linesBytes x) (linesBytes y)))
 
 -- the table from the source line of a kept record on
 table-from : (table : List ℕ) (b : List Record) (l : Line) (a : List Record) → isTable table ≡ true → oldSide (reverseAux b (kept l ∷ a)) ≡ linesOf table
@@ -40,7 +36,7 @@ table-from table b l a good q =
     let A : List ℕ = (l ++ (10 ∷ [])) ++ linesBytes (oldSide a) in
     let whole : table ≡ B ++ A =
     sym (lines-back table (table-last table good)) ∙ ap linesBytes (sym q ∙ ap oldSide (reverse-append b [] (kept l ∷ a)) ∙ old-append (reverseAux b []) (kept l ∷ a))
-    ∙ lines-append (oldSide (reverseAux b [])) (l ∷ oldSide a) in
+    ∙ lines-bytes-append (oldSide (reverseAux b [])) (l ∷ oldSide a) in
     let long : length B ≡ oldBytes b = omega (arith, old-bytes-reverse b [], old-bytes-nil) in
     rw whole (drop-at B A (oldBytes b) long ∙ append-assoc l (10 ∷ []) (linesBytes (oldSide a)))
 

@@ -10,7 +10,7 @@ use Rattle.gap.proofs.Laws.{gap-of, down-parts, up-parts}
 use Rattle.definitions.specs.Bytes.{Line}
 use Rattle.definitions.specs.Journal.{Record, oldOf, oldSide}
 use Rattle.definitions.specs.Editor.{sources}
-use Rattle.gap.specs.Lines.{lineLength, lineStart}
+use Rattle.text.specs.Feeds.{lineLength, lineStart}
 use Rattle.editor.specs.Records.{enc, encAll, encBefore, mark, Good, oldBytes}
 use Rattle.editor.specs.Shows.{Holds, Placed, Stays}
 use Rattle.editor.specs.declared.State.{State}

@@ -10,7 +10,7 @@ use lib.Seq.{paste, set-at, length-take-le}
 use lib.Dec.{leb}
 use borrow.Author.Tests.{le-leb, lt-leb}
 use Rattle.gap.specs.Gap.{zeros}
-use Rattle.gap.proofs.Laws.{paste-parts}
+use Rattle.text.proofs.Pastes.{paste-parts}
 use Rattle.definitions.specs.Bytes.{Line, isLine}
 use Rattle.definitions.specs.Journal.{Record, kept, inserted, recordLength, journalLength}
 use Rattle.definitions.specs.Tape.{Tape, restLines}

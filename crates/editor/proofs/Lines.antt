@@ -7,7 +7,7 @@ use mathlib.Core.List.{List, [], _∷_, _++_}
 use lib.ListN.{length, getD, List·getD-append}
 use lib.Seq.{getD-append-add}
 use borrow.Author.Tests.{ne-eqb}
-use Rattle.gap.specs.Lines.{lineLength, lineStart}
+use Rattle.text.specs.Feeds.{lineLength, lineStart}
 
 -- no line feed
 unfoldable pub NoLF : List ℕ → Type 0

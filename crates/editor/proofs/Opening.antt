@@ -10,7 +10,8 @@ use lib.Seq.{sets-eq, paste, take-append-le, take-take, take-suc, drop-at, drop-
 use lib.Dec.{eqb, leb}
 use borrow.Author.Tests.{eq-eqb, eqb-true, leb-true}
 use Rattle.gap.specs.Gap.{zeros, cleared}
-use Rattle.gap.specs.Lines.{lineStart}
+use Rattle.text.specs.Feeds.{lineStart}
+use Rattle.text.proofs.Lines.{other-byte}
 use Rattle.gap.proofs.Laws.{clear-parts}
 use Rattle.definitions.specs.Bytes.{Line, before, linesOf, lastByte, isLine, allLines, areLines}
 use Rattle.definitions.specs.Table.{isTable}
@@ -95,10 +96,6 @@ lines-feed : (x : ℕ) (t : List ℕ) → eqb x 10 ≡ true → linesOf (x ∷ t
 unfolding linesOf
 lines-feed x t e = rw (e, linesOf)
 
-lines-byte : (x : ℕ) (t : List ℕ) → eqb x 10 ≡ false → linesOf (x ∷ t) ≡ before x (linesOf t)
-unfolding linesOf
-lines-byte x t e = rw (e, linesOf)
-
 before-first : (x : ℕ) (u : Line) (ls us : List Line) → us ≡ u ∷ ls → before x us ≡ (x ∷ u) ∷ ls
 unfolding before
 before-first x u ls us e = ap (before x) e
@@ -111,7 +108,7 @@ line-back t u ls zero h e = e
 line-back t u ls (suc k) h e = go (eqb (getD t k 0) 10) refl (line-back t (getD t k 0 ∷ u) ls k (omega arith))
   where
     longer : eqb (getD t k 0) 10 ≡ false → linesOf (drop k t) ≡ (getD t k 0 ∷ u) ∷ ls
-    longer q = ap linesOf (drop-cons t k 0 (omega arith)) ∙ lines-byte (getD t k 0) (drop (suc k) t) q ∙ before-first (getD t k 0) u ls (linesOf (drop (suc k) t)) e
+    longer q = ap linesOf (drop-cons t k 0 (omega arith)) ∙ other-byte (getD t k 0) (drop (suc k) t) q ∙ before-first (getD t k 0) u ls (linesOf (drop (suc k) t)) e
 
     go : (b : Bool) → eqb (getD t k 0) 10 ≡ b
         → (linesOf (drop k t) ≡ (getD t k 0 ∷ u) ∷ ls → linesOf (drop (lineStart t k) t) ≡ (take (k - lineStart t k) (drop (lineStart t k) t) ++ (getD t k 0 ∷ u)) ∷ ls)
@@ -158,7 +155,7 @@ kept-more x t = go (eqb x 10) refl
   where
     go : (b : Bool) → eqb x 10 ≡ b → length (keptLines t) ≤ length (keptLines (x ∷ t))
     go true e = rw (lines-feed x t e) (empty-more (linesOf t))
-    go false e = rw (lines-byte x t e) (before-more x (linesOf t))
+    go false e = rw (other-byte x t e) (before-more x (linesOf t))
 
 kept-less : (t : List ℕ) (i : ℕ) → length (keptLines (drop i t)) ≤ length (keptLines t)
 kept-less t zero = omega arith

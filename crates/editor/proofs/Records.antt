@@ -14,7 +14,8 @@ use Rattle.definitions.specs.Bytes.{Line, lineBytes, linesBytes, isText, allTex
 use Rattle.definitions.specs.Journal.{Record, kept, changed, deleted, inserted, oldOf, oldSide, recordLength, journalLength}
 use Rattle.definitions.specs.Editor.{sources}
 use Rattle.theorems.specs.RecordLaws.{old-kept}
-use Rattle.gap.specs.Lines.{lineLength, lineStart}
+use Rattle.text.specs.Feeds.{lineLength, lineStart}
+use Rattle.text.proofs.Ends.{text-is}
 use Rattle.editor.specs.Records.{body, enc, encAll, encBefore, mark, Good, Goods, oldBytes}
 use Rattle.editor.proofs.Lines.{NoLF, noLF-append, line-of, back-over}
 
@@ -24,12 +25,6 @@ pub both : (a b : Bool) → a && b ≡ true → (a ≡ true) × (b ≡ true)
 both true true h = (refl, refl)
 both true false h = absurd (let z : _≡_ {A = ℕ} 0 1 = cc in omega arith)
 both false b h = absurd (let z : _≡_ {A = ℕ} 0 1 = cc in omega arith)
-
-pub text-byte : (b : ℕ) → isText b ≡ true → (32 ≤ b) × (b ≤ 126)
-unfolding isText
-text-byte b h =
-    let t : (leb 32 b ≡ true) × (leb b 126 ≡ true) = both (leb 32 b) (leb b 126) h in
-    (leb-true 32 b (t .0), leb-true b 126 (t .1))
 
 -- every byte is of text
 unfoldable pub Text : List ℕ → Type 0
@@ -41,7 +36,7 @@ unfolding allText Text
 texts [] h = tt
 texts (b ∷ l) h =
     let t : (isText b ≡ true) × (allText l ≡ true) = both (isText b) (allText l) h in
-    let u : (32 ≤ b) × (b ≤ 126) = text-byte b (t .0) in
+    let u : (32 ≤ b) × (b ≤ 126) = text-is b (t .0) in
     (u .0, u .1, texts l (t .1))
 
 pub line-text : (l : Line) → isLine l ≡ true → Text l

@@ -6,6 +6,7 @@ use mathlib.Core.List.{List, [], _∷_, _++_, append-assoc}
 use lib.ListN.{length, drop, getD, length-append, length-drop}
 use lib.Seq.{getD-drop}
 use Rattle.definitions.specs.Journal.{Record, kept, changed, deleted, inserted}
+use Rattle.text.specs.Feeds.{placeOf}
 use Rattle.editor.specs.Records.{enc, mark, Good, oldBytes, zeroPlace}
 use Rattle.editor.proofs.Records.{marked, three-bytes, old-bytes-one, line-text}
 use Rattle.editor.proofs.Striking.{zero-of}
@@ -22,7 +23,7 @@ module _ (j : List ℕ) (at : ℕ) where
 
   -- the place of the 0 after the old text
   pub zero-place : (o n z : List ℕ) → Good (changed o n) → drop at j ≡ enc (changed o n) ++ z → zeroPlace (drop at j) ≡ 2 + length o
-  unfolding zeroPlace
+  unfolding placeOf
   zero-place o n z good is =
       let R : List ℕ = n ++ ((10 ∷ []) ++ z) in
       let q : drop at j ≡ 60 ∷ 62 ∷ (o ++ (0 ∷ R)) = is ∙ simp append-assoc in

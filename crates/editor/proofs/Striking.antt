@@ -1,15 +1,15 @@
 -- Deletion of the line of the record before the gap. Assumes nothing.
 use mathlib.Core.Path.{_≡_, refl, sym, ap, _∙_}
-use Prim.Native.Nat.{ℕ, suc, _+_, _-_, _≤_, _<_}
+use Prim.Native.Nat.{ℕ, suc, _+_, _-_, _≤_}
 use native.Mathlib.Omega.{arith}
-use native.Mathlib.Numerals.{add-one}
 use mathlib.Core.List.{List, [], _∷_, _++_, append-assoc}
-use lib.ListN.{length, drop, getD, set, length-append, length-replicate, replicate-append-replicate, drop-of-length-le}
-use lib.Seq.{set-at, drop-at, drop-cons}
-use borrow.Author.Tests.{eq-eqb, ne-eqb}
+use lib.ListN.{length, drop, getD, set, length-append, length-replicate, replicate-append-replicate}
+use lib.Seq.{set-at, drop-at}
+use borrow.Author.Tests.{ne-eqb}
 use Rattle.gap.specs.Gap.{zeros, cleared}
 use Rattle.gap.proofs.Laws.{clear-parts}
 use Rattle.definitions.specs.Journal.{Record, kept, changed, deleted, inserted, erase}
+use Rattle.text.specs.Feeds.{placeOf}
 use Rattle.editor.specs.Records.{enc, encAll, encBefore, mark, zeroPlace}
 use Rattle.editor.specs.Shows.{Holds, HoldsCut}
 use Rattle.editor.specs.declared.State.{State}
@@ -18,21 +18,8 @@ use Rattle.editor.proofs.Held.{held-near-mark, held-less, held-length}
 
 -- ---- the place of a 0
 
-module _ (l : List ℕ) (i : ℕ) where
-  pub zero-hit : i < length l → getD l i 0 ≡ 0 → i + zeroPlace (drop i l) ≡ i
-  unfolding zeroPlace
-  zero-hit h e = rw (drop-cons l i 0 h, eq-eqb (getD l i 0) 0 e) (omega arith)
-
-  pub zero-miss : i < length l → (getD l i 0 ≡ 0 → ⊥) → i + zeroPlace (drop i l) ≡ (i + 1) + zeroPlace (drop (i + 1) l)
-  unfolding zeroPlace
-  zero-miss h e = rw (drop-cons l i 0 h, ne-eqb (getD l i 0) 0 e, add-one i) (omega arith)
-
-  pub zero-none : length l ≤ i → i + zeroPlace (drop i l) ≡ i
-  unfolding zeroPlace
-  zero-none h = rw (drop-of-length-le l {i = i} h) (omega arith)
-
 pub zero-of : (l z : List ℕ) → Text l → zeroPlace (l ++ (0 ∷ z)) ≡ length l
-unfolding Text zeroPlace
+unfolding Text placeOf
 zero-of [] z t = refl
 zero-of (x ∷ l) z t = rw (ne-eqb x 0 (λ e. omega (arith, t .0)), zero-of l z (t .2))
 
@@ -50,7 +37,7 @@ module _ {j : List ℕ} {st : State} {f : ℕ} {o n : List ℕ} {b a : List Reco
   cut-front = length-append (encBefore b) (45 ∷ 45 ∷ o) ∙ (let q : length (encBefore b) + suc (suc (length o)) ≡ f + (2 + length o) = omega (arith, h .start) in q)
 
   pub cut-place : zeroPlace (drop f j) ≡ 2 + length o
-  unfolding zeroPlace
+  unfolding placeOf
   cut-place =
       let q : drop f j ≡ 45 ∷ 45 ∷ (o ++ (0 ∷ after)) = rw (cut-bytes, append-assoc (encBefore b) (45 ∷ 45 ∷ o) (0 ∷ after)) (drop-at (encBefore b) (45 ∷ 45 ∷ (o ++ (0 ∷ after))) f (h .start)) in
       rw (q, zero-of o after (line-text o (h .record-good .0))) (omega arith)

@@ -12,7 +12,7 @@ use Rattle.definitions.specs.Journal.{Record, kept, changed, deleted, inserted}
 use Rattle.definitions.specs.Tape.{Tape, restLines}
 use Rattle.definitions.specs.Editor.{Ed, ed, current}
 use Rattle.definitions.specs.Edit.{Op, need, act, withLine, insertLines, within, step}
-use Rattle.gap.specs.Lines.{lineLength}
+use Rattle.text.specs.Feeds.{lineLength}
 use Rattle.editor.specs.Records.{enc, encAll, Good, zeroPlace}
 use Rattle.editor.specs.Shows.{Holds, Shows, Stays, TextAt, Answers, Answered}
 use Rattle.editor.specs.declared.State.{State}

@@ -2,9 +2,10 @@
 use mathlib.Core.Path.{_≡_}
 use mathlib.Core.Bool.{true, cond}
 use mathlib.Core.List.{List, [], _∷_, _++_}
-use Prim.Native.Nat.{ℕ, suc}
+use Prim.Native.Nat.{ℕ}
 use lib.ListN.{length}
 use lib.Dec.{eqb}
+use Rattle.text.specs.Feeds.{placeOf}
 use Rattle.definitions.specs.Bytes.{linesBytes, isLine}
 use Rattle.definitions.specs.Journal.{Record, kept, changed, deleted, inserted, oldSide}
 
@@ -60,9 +61,8 @@ oldBytes rs = length (linesBytes (oldSide rs))
 -- ---- walking bytes
 
 -- the place of the first 0; the length where there is none
-unfoldable pub zeroPlace : List ℕ → ℕ
-zeroPlace [] = 0
-zeroPlace (x ∷ l) = cond (eqb x 0) 0 (suc (zeroPlace l))
+abbrev pub zeroPlace : List ℕ → ℕ
+zeroPlace l = placeOf 0 l
 
 -- ---- the end
 

@@ -24,7 +24,7 @@ pub fn put_line(j: &mut [u8], st: State, s: &[u8], from: usize, n: usize) -> Sta
     j[f] = 43;
     j[f + 1] = 43;
     let at = f + 2;
-    gap::copy_in(j, at, s, from, n);
+    text::copies::copy_in(j, at, s, from, n);
     let end = at + n;
     j[end] = 10;
     let mut r = st;
@@ -90,7 +90,7 @@ pub fn put_copy(j: &mut [u8], st: State, from: usize, n: usize) -> State
     j[f] = 43;
     j[f + 1] = 43;
     let at = f + 2;
-    gap::copy_back(j, at, from, n);
+    text::copies::copy_down(j, at, from, n);
     let end = at + n;
     j[end] = 10;
     let mut r = st;

@@ -21,7 +21,7 @@ fn put_kept(j: &mut [u8], o: usize, t: &[u8], from: usize, n: usize) -> usize
     ensures { λ r. ⌜ (now (j .exit) ≡ take r (now (j .entry)) ++ (61 ∷ 61 ∷ (take n (drop from (now (t .entry))) ++ drop o (now (j .entry))))) × (r + (n + 2) ≡ o) ⌝ }
 {
     let at = o - n;
-    gap::copy_in(j, at, t, from, n);
+    text::copies::copy_in(j, at, t, from, n);
     let a = at - 2;
     j[a] = 61;
     j[a + 1] = 61;
@@ -43,7 +43,7 @@ fn write_opening(t: &[u8], j: &mut [u8]) -> Opened
     let mut o = j.len();
     let mut lines: usize = 0;
     while 0 < i {
-        let from = crate::walk::record_start(t, i);
+        let from = text::feeds::line_start(t, i - 1);
         let n = i - from;
         o = put_kept(j, o, t, from, n);
         i = from;

@@ -6,7 +6,7 @@ ghost use Prim.Native.Nat.{ℕ, _+_, _-_, _≤_, _<_};
 ghost use lib.ListN.{length, drop};
 ghost use Rattle.definitions.specs.Journal.{Record};
 ghost use Rattle.definitions.specs.Editor.{land};
-ghost use Rattle.gap.specs.Lines.{lineLength, lineStart};
+ghost use Rattle.text.specs.Feeds.{lineLength};
 ghost use Rattle.editor.specs.Records.{enc, Good, oldBytes, zeroPlace};
 ghost use Rattle.editor.specs.Shows.{Holds, Placed, Stays, beforeOf, afterOf, reachedBy, TextAt};
 
@@ -15,29 +15,7 @@ pub fn record_end(j: &[u8], at: usize) -> usize
     requires { ⌜ at ≤ length (now j) ⌝ }
     ensures { λ r. ⌜ r ≡ at + lineLength (drop at (now (j .entry))) ⌝ }
 {
-    let mut i = at;
-    while i < j.len() {
-        if j[i] == 10 {
-            return i + 1;
-        }
-        i += 1;
-    }
-    i
-}
-
-// The start of the record that ends at `end`.
-pub fn record_start(j: &[u8], end: usize) -> usize
-    requires { ⌜ (0 < end) × (end ≤ length (now j)) ⌝ }
-    ensures { λ r. ⌜ r ≡ lineStart (now (j .entry)) (end - 1) ⌝ }
-{
-    let mut i = end - 1;
-    while 0 < i {
-        if j[i - 1] == 10 {
-            return i;
-        }
-        i -= 1;
-    }
-    0
+    text::feeds::line_after(j, at)
 }
 
 // The place of the next 0 from `at` on, or the end.
@@ -45,14 +23,7 @@ pub fn zero_after(j: &[u8], at: usize) -> usize
     requires { ⌜ at ≤ length (now j) ⌝ }
     ensures { λ r. ⌜ r ≡ at + zeroPlace (drop at (now (j .entry))) ⌝ }
 {
-    let mut i = at;
-    while i < j.len() {
-        if j[i] == 0 {
-            return i;
-        }
-        i += 1;
-    }
-    i
+    text::feeds::place_after(j, at, 0)
 }
 
 // Where the text of the current line stands.

@@ -1,66 +1,32 @@
 -- The laws of moving bytes over a gap of zeros. Assumes nothing.
-use mathlib.Core.Path.{_≡_, refl, ap, _∙_}
-use Prim.Native.Nat.{ℕ, zero, suc, _+_, _-_, _≤_, _<_}
-use native.Mathlib.Omega.{arith}
+use mathlib.Core.Path.{_≡_, sym, ap, _∙_}
+use mathlib.Core.Logic.{⊎-elim}
+use Prim.Native.Nat.{ℕ, suc, _+_, _-_, _≤_, _<_, min}
+use native.Mathlib.Nat.{le-of-eq, eq-zero-or-pos}
 use native.Mathlib.Numerals.{add-one}
-use mathlib.Core.List.{List, [], _∷_, _++_, append-assoc}
-use lib.ListN.{length, take, drop, getD, set, length-append, length-drop, length-replicate, getD-replicate, drop-of-length-le, List·getD-append}
-use native.Mathlib.Nat.{le-of-eq}
-use lib.Seq.{take-suc, drop-cons, set-at, getD-at, getD-take, take-at, drop-at, length-take-le, take-all, getD-drop, getD-append-add, paste, paste-suc, length-paste-head}
+use native.Mathlib.Omega.{arith}
+use mathlib.Core.List.{List, _++_, append-assoc}
+use lib.ListN.{length, take, drop, getD, set, length-append, length-drop, length-replicate, getD-replicate, replicate-append-replicate, take-append-drop}
+use lib.Seq.{paste, paste-suc, take-at, drop-at, take-all, drop-append-le, length-take-le}
+use Rattle.text.proofs.Pastes.{paste-parts}
 use Rattle.gap.specs.Gap.{zeros, ZeroGap, movedDown, movedUp, cleared}
 
-rep-snoc : (g : ℕ) (l : List ℕ) → zeros g ++ (0 ∷ l) ≡ 0 ∷ (zeros g ++ l)
-rep-snoc zero l = refl
-rep-snoc (suc g) l = ap (λ (r : List ℕ). 0 ∷ r) (rep-snoc g l)
+-- ---- bytes that are cleared
 
-module _ (p : List ℕ) (g d : ℕ) (r : List ℕ) (n m : ℕ) (at : length p ≡ n) (far : n + g ≡ m) where
-  len-pz : length (p ++ zeros g) ≡ m
-  len-pz = simp (length-append, length-replicate) (omega arith)
+pub clear-step : (d : List ℕ) (from i n : ℕ) → from + n ≤ length d → i < n
+    → set (paste d from (zeros n) i) (from + i) 0 ≡ paste d from (zeros n) (i + 1)
+clear-step d from i n hd h =
+    let in-z : i < length (zeros n) = simp length-replicate (omega arith) in
+    let z : getD (zeros n) i 0 ≡ 0 = getD-replicate n i 0 0 h in
+    let q : set (paste d from (zeros n) i) (from + i) (getD (zeros n) i 0) ≡ paste d from (zeros n) (suc i) = paste-suc d from (zeros n) i 0 (omega arith) in-z in
+    rw (add-one i) (rw z at q)
 
-  -- a byte hops down over g zeros
-  hop-down : set (set (p ++ (zeros g ++ (d ∷ r))) m 0) n (getD (p ++ (zeros g ++ (d ∷ r))) m 0) ≡ p ++ (d ∷ (zeros g ++ r))
-  hop-down = rw (← append-assoc p (zeros g) (d ∷ r), getD-at (p ++ zeros g) d r 0 m len-pz, set-at (p ++ zeros g) d r 0 m len-pz, append-assoc p (zeros g) (0 ∷ r), rep-snoc g r, set-at p 0 (zeros g ++ r) d n at)
+pub clear-parts : (A M Z : List ℕ) (at n : ℕ) → length A ≡ at → length M ≡ n → cleared at n (A ++ (M ++ Z)) ≡ A ++ (zeros n ++ Z)
+unfolding cleared
+clear-parts A M Z at n la lm = paste-parts A M Z (zeros n) at n la lm ∙ rw (take-all n (zeros n) (le-of-eq (length-replicate n 0)))
 
-  -- and up
-  hop-up : set (set (p ++ (d ∷ (zeros g ++ r))) n 0) m (getD (p ++ (d ∷ (zeros g ++ r))) n 0) ≡ p ++ (zeros g ++ (d ∷ r))
-  hop-up = rw (getD-at p d (zeros g ++ r) 0 n at, set-at p d (zeros g ++ r) 0 n at, ← rep-snoc g r, ← append-assoc p (zeros g) (0 ∷ r), set-at (p ++ zeros g) 0 r d m len-pz, append-assoc p (zeros g) (d ∷ r))
+-- ---- What callers use: a buffer that is written as parts.
 
-pub down-zero : (f b : ℕ) (x : List ℕ) → ZeroGap f b x → x ≡ movedDown f b 0 x
-unfolding ZeroGap movedDown
-down-zero f b x z = z
-
-pub down-step : (f b i : ℕ) (x : List ℕ) → f ≤ b → b + i < length x
-    → set (set (movedDown f b i x) (b + i) 0) (f + i) (getD (movedDown f b i x) (b + i) 0) ≡ movedDown f b (i + 1) x
-unfolding movedDown
-down-step f b i x h k =
-    let D : List ℕ = drop b x in
-    let inD : i < length D = simp length-drop (omega arith) in
-    let p : List ℕ = take f x ++ take i D in
-    let lp : length p ≡ f + i = simp length-append (rw (length-take-le f x (omega arith), length-take-le i D (omega arith))) in
-    rw (drop-cons D i 0 inD, ← append-assoc (take f x) (take i D) (zeros (b - f) ++ (getD D i 0 ∷ drop (suc i) D)))
-    (hop-down p (b - f) (getD D i 0) (drop (suc i) D) (f + i) (b + i) lp (omega arith)
-    ∙ rw (add-one i, take-suc D i 0) (simp append-assoc))
-
-pub up-zero : (f b : ℕ) (x : List ℕ) → ZeroGap f b x → f ≤ length x → x ≡ movedUp f f b x
-unfolding ZeroGap movedUp
-up-zero f b x z h =
-    let A : List ℕ = take f x in
-    let la : length A ≡ f = length-take-le f x h in
-    z ∙ rw (take-all f A (omega arith), drop-of-length-le A {i = f} (omega arith))
-
-pub up-step : (m f b : ℕ) (x : List ℕ) → m < f → f ≤ b → b ≤ length x
-    → set (set (movedUp (m + 1) f b x) m 0) (m + (b - f)) (getD (movedUp (m + 1) f b x) m 0) ≡ movedUp m f b x
-unfolding movedUp
-up-step m f b x h k l =
-    let A : List ℕ = take f x in
-    let la : length A ≡ f = length-take-le f x (omega arith) in
-    let inA : m < length A = omega arith in
-    let r : List ℕ = drop (suc m) A ++ drop b x in
-    rw (add-one m, take-suc A m 0 inA, append-assoc (take m A) (getD A m 0 ∷ []) (zeros (b - f) ++ r))
-    (hop-up (take m A) (b - f) (getD A m 0) r m (m + (b - f)) (length-take-le m A (omega arith)) refl
-    ∙ rw (drop-cons A m 0 inA))
-
--- What callers use: a buffer that is written as parts.
 module _ (A B : List ℕ) (g f b : ℕ) (at : length A ≡ f) (far : f + g ≡ b) where
   drop-gap : drop b (A ++ (zeros g ++ B)) ≡ B
   drop-gap =
@@ -87,72 +53,86 @@ up-parts A M Z g m f b at mid far =
     let la : length (A ++ M) ≡ f = simp length-append (omega arith) in
     rw (take-at (A ++ M) (zeros g ++ Z) f la, drop-gap (A ++ M) Z g f b la far, gap-wide (A ++ M) Z g f b la far, take-at A M m at, drop-at A M m at)
 
--- ---- bytes that are written
+-- ---- bytes moved by a copy; k of them are not written over, and cleared then
 
-pub copy-step : (d s : List ℕ) (at from i n : ℕ) → at + n ≤ length d → from + n ≤ length s → i < n
-    → set (paste d at (drop from s) i) (at + i) (getD s (from + i) 0) ≡ paste d at (drop from s) (i + 1)
-copy-step d s at from i n hd hs h =
-    let in-s : i < length (drop from s) = simp length-drop (omega arith) in
-    rw (add-one i, ← getD-drop from s i 0) (paste-suc d at (drop from s) i 0 (omega arith) in-s)
+two-gaps : (a b g : ℕ) → a + b ≡ g → zeros g ≡ zeros a ++ zeros b
+two-gaps a b g e = sym (replicate-append-replicate a b 0 ∙ ap zeros e)
 
-pub clear-step : (d : List ℕ) (from i n : ℕ) → from + n ≤ length d → i < n
-    → set (paste d from (zeros n) i) (from + i) 0 ≡ paste d from (zeros n) (i + 1)
-clear-step d from i n hd h =
-    let in-z : i < length (zeros n) = simp length-replicate (omega arith) in
-    let z : getD (zeros n) i 0 ≡ 0 = getD-replicate n i 0 0 h in
-    let q : set (paste d from (zeros n) i) (from + i) (getD (zeros n) i 0) ≡ paste d from (zeros n) (suc i) = paste-suc d from (zeros n) i 0 (omega arith) in-z in
-    rw (add-one i) (rw z at q)
+module _ (A M Z : List ℕ) (n g k r : ℕ) (lm : length M ≡ n) (sum : k + r ≡ g) where
+  -- down: the gap and M are O, which is written over, r zeros, and L
+  down-by : (O L : List ℕ) (f b : ℕ) → length A ≡ f → f + g ≡ b → length O ≡ n → length L ≡ k → zeros g ++ M ≡ O ++ (zeros r ++ L)
+      → cleared (b + n - k) k (paste (A ++ (zeros g ++ (M ++ Z))) f (M ++ Z) n) ≡ A ++ (M ++ (zeros g ++ Z))
+  down-by O L f b la far lv lw cut =
+      let is : A ++ (zeros g ++ (M ++ Z)) ≡ A ++ (O ++ (zeros r ++ (L ++ Z))) =
+      ap (λ (l : List ℕ). A ++ l) (sym (append-assoc (zeros g) M Z) ∙ ap (λ (l : List ℕ). l ++ Z) cut ∙ simp append-assoc) in
+      let near : length (A ++ (M ++ zeros r)) ≡ b + n - k = simp (length-append, length-replicate) (omega arith) in
+      let turn : r + k ≡ g = omega arith in
+      rw (is, paste-parts A O (zeros r ++ (L ++ Z)) (M ++ Z) f n la lv, take-at M Z n lm, two-gaps r k g turn)
+      (ap (cleared (b + n - k) k) (let e : A ++ (M ++ (zeros r ++ (L ++ Z))) ≡ (A ++ (M ++ zeros r)) ++ (L ++ Z) = simp append-assoc in e)
+      ∙ clear-parts (A ++ (M ++ zeros r)) L Z (b + n - k) k near lw ∙ simp append-assoc)
 
--- What callers use: a part of a buffer that is written over.
-pub paste-parts : (A M Z s : List ℕ) (at n : ℕ) → length A ≡ at → length M ≡ n → paste (A ++ (M ++ Z)) at s n ≡ A ++ (take n s ++ Z)
-paste-parts A M Z s at n la lm =
-    let l : length (A ++ M) ≡ at + n = simp length-append (omega arith) in
-    let d : drop (at + n) (A ++ (M ++ Z)) ≡ Z = rw (← append-assoc A M Z) (drop-at (A ++ M) Z (at + n) l) in
-    rw (take-at A (M ++ Z) at la, d) (append-assoc A (take n s) Z)
+  -- up: M and the gap are L, r zeros, and O, which is written over
+  up-by : (L O : List ℕ) (lo b : ℕ) → length A ≡ lo → lo + n + g ≡ b → length O ≡ n → length L ≡ k → M ++ zeros g ≡ L ++ (zeros r ++ O)
+      → cleared lo k (paste ((A ++ M) ++ (zeros g ++ Z)) (b - n) (M ++ (zeros g ++ Z)) n) ≡ A ++ (zeros g ++ (M ++ Z))
+  up-by L O lo b la far lv lw cut =
+      let is : (A ++ M) ++ (zeros g ++ Z) ≡ (A ++ (L ++ zeros r)) ++ (O ++ Z) =
+      (let e : (A ++ M) ++ (zeros g ++ Z) ≡ A ++ ((M ++ zeros g) ++ Z) = simp append-assoc in e) ∙ ap (λ (l : List ℕ). A ++ (l ++ Z)) cut ∙ simp append-assoc in
+      let near : length (A ++ (L ++ zeros r)) ≡ b - n = simp (length-append, length-replicate) (omega arith) in
+      rw (is, paste-parts (A ++ (L ++ zeros r)) O Z (M ++ (zeros g ++ Z)) (b - n) n near lv, take-at M (zeros g ++ Z) n lm, two-gaps k r g sum)
+      (ap (cleared lo k) (let e : (A ++ (L ++ zeros r)) ++ (M ++ Z) ≡ A ++ (L ++ (zeros r ++ (M ++ Z))) = simp append-assoc in e)
+      ∙ clear-parts A L (zeros r ++ (M ++ Z)) lo k la lw ∙ simp append-assoc)
 
-pub clear-parts : (A M Z : List ℕ) (at n : ℕ) → length A ≡ at → length M ≡ n → cleared at n (A ++ (M ++ Z)) ≡ A ++ (zeros n ++ Z)
-unfolding cleared
-clear-parts A M Z at n la lm = paste-parts A M Z (zeros n) at n la lm ∙ rw (take-all n (zeros n) (le-of-eq (length-replicate n 0)))
+-- the bytes that are left of M: all where the gap is wider, or else as many as the gap is wide
+module _ (A M Z : List ℕ) (n g k : ℕ) (lm : length M ≡ n) (least : k ≡ min n g) where
+  down-both : (f b : ℕ) → length A ≡ f → f + g ≡ b → cleared (b + n - k) k (paste (A ++ (zeros g ++ (M ++ Z))) f (M ++ Z) n) ≡ A ++ (M ++ (zeros g ++ Z))
+  down-both f b la far = ⊎-elim wide narrow (eq-zero-or-pos (n - g))
+    where
+      wide : n - g ≡ 0 → cleared (b + n - k) k (paste (A ++ (zeros g ++ (M ++ Z))) f (M ++ Z) n) ≡ A ++ (M ++ (zeros g ++ Z))
+      wide z =
+          let two : zeros g ≡ zeros n ++ zeros (g - n) = two-gaps n (g - n) g (omega arith) in
+          down-by A M Z n g k (g - n) lm (omega arith) (zeros n) M f b la far (length-replicate n 0) (omega arith) (rw two (append-assoc (zeros n) (zeros (g - n)) M))
 
--- a byte past what is written over
-pub past-paste : (d s : List ℕ) (at n k : ℕ) → at ≤ length d → n ≤ length s → at + n ≤ k → getD (paste d at s n) k 0 ≡ getD d k 0
-past-paste d s at n k hd hs h =
-    let m : ℕ = k - (at + n) in
-    let is : k ≡ at + n + m = omega arith in
-    let long : length (take at d ++ take n s) ≡ at + n = length-paste-head d at s n hd hs in
-    let seam : getD (paste d at s n) (length (take at d ++ take n s) + m) 0 ≡ getD (drop (at + n) d) m 0 = getD-append-add (take at d ++ take n s) (drop (at + n) d) m 0 in
-    rw is (rw long at seam ∙ getD-drop (at + n) d m 0)
+      narrow : 0 < n - g → cleared (b + n - k) k (paste (A ++ (zeros g ++ (M ++ Z))) f (M ++ Z) n) ≡ A ++ (M ++ (zeros g ++ Z))
+      narrow z =
+          let over : length (zeros g ++ take (n - g) M) ≡ n = simp (length-append, length-replicate) (rw (length-take-le (n - g) M (omega arith)) (omega arith)) in
+          let left : length (drop (n - g) M) ≡ k = simp length-drop (omega arith) in
+          let cut : zeros g ++ M ≡ (zeros g ++ take (n - g) M) ++ drop (n - g) M = sym (append-assoc (zeros g) (take (n - g) M) (drop (n - g) M) ∙ rw (take-append-drop (n - g) M)) in
+          down-by A M Z n g k 0 lm (omega arith) (zeros g ++ take (n - g) M) (drop (n - g) M) f b la far over left cut
 
-pub copy-back-step : (d : List ℕ) (at from i n : ℕ) → at + n ≤ from → from + n ≤ length d → i < n
-    → set (paste d at (drop from d) i) (at + i) (getD (paste d at (drop from d) i) (from + i) 0) ≡ paste d at (drop from d) (i + 1)
-copy-back-step d at from i n h hd lt =
-    let in-s : i ≤ length (drop from d) = simp length-drop (omega arith) in
-    rw (past-paste d (drop from d) at i (from + i) (omega arith) in-s (omega arith)) (copy-step d d at from i n (omega arith) hd lt)
+  up-both : (lo b : ℕ) → length A ≡ lo → lo + n + g ≡ b → cleared lo k (paste ((A ++ M) ++ (zeros g ++ Z)) (b - n) (M ++ (zeros g ++ Z)) n) ≡ A ++ (zeros g ++ (M ++ Z))
+  up-both lo b la far = ⊎-elim wide narrow (eq-zero-or-pos (n - g))
+    where
+      wide : n - g ≡ 0 → cleared lo k (paste ((A ++ M) ++ (zeros g ++ Z)) (b - n) (M ++ (zeros g ++ Z)) n) ≡ A ++ (zeros g ++ (M ++ Z))
+      wide z = up-by A M Z n g k (g - n) lm (omega arith) M (zeros n) lo b la far (length-replicate n 0) (omega arith) (ap (λ (l : List ℕ). M ++ l) (two-gaps (g - n) n g (omega arith)))
 
--- ---- a byte that has not moved yet
+      narrow : 0 < n - g → cleared lo k (paste ((A ++ M) ++ (zeros g ++ Z)) (b - n) (M ++ (zeros g ++ Z)) n) ≡ A ++ (zeros g ++ (M ++ Z))
+      narrow z =
+          let over : length (drop g M ++ zeros g) ≡ n = simp (length-append, length-drop, length-replicate) (omega arith) in
+          let left : length (take g M) ≡ k = length-take-le g M (omega arith) ∙ omega arith in
+          let cut : M ++ zeros g ≡ take g M ++ (drop g M ++ zeros g) = sym (sym (append-assoc (take g M) (drop g M) (zeros g)) ∙ rw (take-append-drop g M)) in
+          up-by A M Z n g k 0 lm (omega arith) (take g M) (drop g M ++ zeros g) lo b la far over left cut
 
-pub down-byte : (f b i : ℕ) (x : List ℕ) → f ≤ b → b + i < length x → getD (movedDown f b i x) (b + i) 0 ≡ getD x (b + i) 0
-unfolding movedDown
-down-byte f b i x h k =
+-- the same of a buffer with a gap
+pub down-copied : (x : List ℕ) (f b n k : ℕ) → f ≤ b → b + n ≤ length x → ZeroGap f b x → k ≡ min n (b - f)
+    → cleared (b + n - k) k (paste x f (drop b x) n) ≡ movedDown f b n x
+unfolding ZeroGap movedDown
+down-copied x f b n k order fits z least =
     let D : List ℕ = drop b x in
-    let inD : i < length D = simp length-drop (omega arith) in
-    let p : List ℕ = (take f x ++ take i D) ++ zeros (b - f) in
-    let lp : length p ≡ b + i = simp (length-append, length-replicate) (rw (length-take-le f x (omega arith), length-take-le i D (omega arith)) (omega arith)) in
-    let is : take f x ++ (take i D ++ (zeros (b - f) ++ drop i D)) ≡ p ++ (getD D i 0 ∷ drop (suc i) D) = rw (drop-cons D i 0 inD) (simp append-assoc) in
-    rw is (getD-at p (getD D i 0) (drop (suc i) D) 0 (b + i) lp ∙ getD-drop b x i 0)
+    let la : length (take f x) ≡ f = length-take-le f x (omega arith) in
+    let lm : length (take n D) ≡ n = length-take-le n D (simp length-drop (omega arith)) in
+    let is : x ≡ take f x ++ (zeros (b - f) ++ (take n D ++ drop n D)) = z ∙ rw (take-append-drop n D) in
+    let both = down-both (take f x) (take n D) (drop n D) n (b - f) k lm least f b la (omega arith) in
+    rw (← is, take-append-drop n D) at both
 
-pub up-byte : (m f b i : ℕ) (x : List ℕ) → i < m → m ≤ f → f ≤ length x → getD (movedUp m f b x) i 0 ≡ getD x i 0
-unfolding movedUp
-up-byte m f b i x h k l =
-    let long : length (take m (take f x)) ≡ m = length-take-le m (take f x) (rw (length-take-le f x l) k) in
-    List·getD-append (take m (take f x)) (zeros (b - f) ++ (drop m (take f x) ++ drop b x)) 0 i (omega arith)
-    ∙ getD-take m (take f x) i 0 h ∙ getD-take f x i 0 (omega arith)
-
--- one byte more is moved up
-pub up-move : (j x : List ℕ) (m f b g : ℕ) → j ≡ movedUp m f b x → 0 < m → m ≤ f → f ≤ b → b ≤ length x → g ≡ b - f
-    → set (set j (m - 1) 0) (m - 1 + g) (getD j (m - 1) 0) ≡ movedUp (m - 1) f b x
-up-move j x m f b g is some low order fits wide =
-    let n : ℕ = m - 1 in
-    let up : m ≡ n + 1 = omega arith in
-    let now : j ≡ movedUp (n + 1) f b x = is ∙ ap (λ (i : ℕ). movedUp i f b x) up in
-    rw (wide, now) (up-step n f b x (omega arith) order fits)
+pub up-copied : (x : List ℕ) (lo f b k : ℕ) → lo ≤ f → f ≤ b → b ≤ length x → ZeroGap f b x → k ≡ min (f - lo) (b - f)
+    → cleared lo k (paste x (b - (f - lo)) (drop lo x) (f - lo)) ≡ movedUp lo f b x
+unfolding ZeroGap movedUp
+up-copied x lo f b k low order fits z least =
+    let F : List ℕ = take f x in
+    let lf : length F ≡ f = length-take-le f x (omega arith) in
+    let la : length (take lo F) ≡ lo = length-take-le lo F (omega arith) in
+    let lm : length (drop lo F) ≡ f - lo = simp length-drop (omega arith) in
+    let is : x ≡ (take lo F ++ drop lo F) ++ (zeros (b - f) ++ drop b x) = z ∙ rw (take-append-drop lo F) in
+    let from : drop lo x ≡ drop lo F ++ (zeros (b - f) ++ drop b x) = ap (drop lo) z ∙ drop-append-le lo F (zeros (b - f) ++ drop b x) (omega arith) in
+    let both = up-both (take lo F) (drop lo F) (drop b x) (f - lo) (b - f) k lm least lo b la (omega arith) in
+    rw (← is, ← from) at both

@@ -1,3 +1,2 @@
--- `Laws` has the laws of what `specs/Gap.antt` defines, `Lines` those of `specs/Lines.antt`.
+-- `Laws`: bytes that are cleared, and bytes moved over a gap of zeros.
 pub mod Laws
-pub mod Lines

@@ -4,7 +4,7 @@ use Prim.Native.Nat.{ℕ, _+_, _-_, _≤_, _<_}
 use native.Mathlib.Omega.{arith}
 use mathlib.Core.List.{List, [], _∷_, _++_, reverseAux, append-assoc}
 use lib.ListN.{length, drop, getD, length-append}
-use Rattle.gap.specs.Lines.{lineLength}
+use Rattle.text.specs.Feeds.{placeOf, lineLength}
 use Rattle.definitions.specs.Journal.{Record, kept, changed, deleted, inserted, erase, recordLength, journalLength}
 use Rattle.definitions.specs.Editor.{land}
 use Rattle.editor.specs.Records.{enc, encAll, zeroPlace}
@@ -29,7 +29,7 @@ freed-inserted m (inserted l) rs h is = omega (arith, enc-length (inserted l))
 
 -- where the 0 of a changed line's record stands
 zero-place : {j : List ℕ} {at : ℕ} (o n : List ℕ) (rs : List Record) → Stands j at (changed o n ∷ rs) → zeroPlace (drop at j) ≡ 2 + length o
-unfolding zeroPlace encAll
+unfolding placeOf encAll
 zero-place {j} {at} o n rs h =
     let q : drop at j ≡ 60 ∷ 62 ∷ (o ++ (0 ∷ ((n ++ (10 ∷ [])) ++ encAll rs))) = h .bytes ∙ simp append-assoc in
     rw (q, zero-of o ((n ++ (10 ∷ [])) ++ encAll rs) (line-text o (h .good .0 .0))) (omega arith)

@@ -7,7 +7,7 @@ use mathlib.Core.List.{List, [], _∷_}
 use lib.ListN.{length, drop, getD}
 use lib.Dec.{eqb}
 use borrow.Author.Tests.{eqb-true, eqb-false}
-use Rattle.gap.specs.Lines.{lineLength}
+use Rattle.text.specs.Feeds.{lineLength}
 use Rattle.definitions.specs.Journal.{Record}
 use Rattle.definitions.specs.Tape.{Tape}
 use Rattle.definitions.specs.Editor.{Ed, sources, Through, isDeleted, afterSource}

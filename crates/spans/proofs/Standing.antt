@@ -5,7 +5,7 @@ use native.Mathlib.Omega.{arith}
 use mathlib.Core.List.{List, [], _∷_, _++_, reverseAux}
 use lib.ListN.{length, drop, getD, length-append, length-drop}
 use lib.Seq.{drop-at, drop-cons, drop-drop}
-use Rattle.gap.specs.Lines.{lineLength}
+use Rattle.text.specs.Feeds.{lineLength}
 use Rattle.definitions.specs.Journal.{Record}
 use Rattle.definitions.specs.Editor.{sources}
 use Rattle.editor.specs.Records.{enc, encAll, mark}

@@ -1,34 +1,36 @@
--- What a line's end found in a slice says, and the steps of the loop that finds it. Assumes nothing.
+-- What a line's end found in a slice says, and how it is found. Assumes nothing.
 use mathlib.Core.Path.{_≡_, refl, sym, ap, _∙_}
 use mathlib.Core.Bool.{Bool, true, false, cond, _&&_}
 use mathlib.Core.Option.{Option, none, some}
 use mathlib.Core.Logic.{_⊎_, inl, inr, ⊎-elim}
 use mathlib.Core.List.{List, _∷_, _++_}
-use Prim.Native.Nat.{ℕ, zero, suc, _+_, _-_, _≤_, _<_}
-use native.Mathlib.Nat.{add-zero, add-suc, suc-add}
+use Prim.Native.Nat.{ℕ, zero, suc, _+_, _-_, _≤_, _<_, min}
+use native.Mathlib.Nat.{add-zero, add-suc, suc-add, sub-zero, eq-zero-or-pos}
 use native.Mathlib.Numerals.{add-one, sub-one}
 use native.Mathlib.Omega.{arith}
 use lib.ListN.{length, take, drop, getD, length-append, length-drop, drop-of-length-le}
 use lib.Seq.{drop-cons, take-at, drop-at, drop-drop, take-append-add}
 use lib.Dec.{leb, leb·suc-suc, leb·suc-zero}
-use borrow.Author.Tests.{eq-eqb, ne-eqb, le-leb, lt-leb}
+use borrow.Author.Tests.{eq-eqb, ne-eqb, le-leb, lt-leb, leb-true}
 use Rattle.definitions.specs.Bytes.{Line, isText, lineBytes, allText, isLine}
+use Rattle.text.specs.Words.{textRun}
 use Rattle.text.specs.Lines.{upToLF, cutAt, endOf, lineEnd, part}
 use Rattle.text.specs.declared.LineEnd.{LineEnd}
 use Rattle.text.specs.declared.LineEnd.the-variants.{At, Bad}
-use Rattle.text.proofs.Lines.{Plain, and-false, cut-of, first-cut, text-not-lf}
+use Rattle.text.proofs.Texts.{run-within, run-text, run-other}
+use Rattle.text.proofs.Lines.{Plain, and-true, and-false, cut-of, first-cut, text-not-lf}
 
--- ---- the loop of `line_end`: what is found from `i` on, where the LF is among the next `room` bytes at the latest
+-- ---- how it is found: what is found from `i` on, where the LF is among the next `room` bytes at the latest
 
-unfoldable pub endWithin : ℕ → ℕ → Option Line → LineEnd
+unfoldable endWithin : ℕ → ℕ → Option Line → LineEnd
 endWithin room i none = Bad
 endWithin room i (some l) = cond (allText l && leb (suc (length l)) room) (At (i + length l)) Bad
 
-unfoldable pub endFrom : ℕ → ℕ → List ℕ → LineEnd
+unfoldable endFrom : ℕ → ℕ → List ℕ → LineEnd
 unfolding endWithin
 endFrom room i bs = endWithin room i (upToLF bs)
 
-pub end-start : (at : ℕ) (bs : List ℕ) → lineEnd at bs ≡ endFrom 256 at bs
+end-start : (at : ℕ) (bs : List ℕ) → lineEnd at bs ≡ endFrom 256 at bs
 unfolding lineEnd endFrom isLine
 end-start at bs = go (upToLF bs)
   where
@@ -37,11 +39,11 @@ end-start at bs = go (upToLF bs)
     go (some l) = rw (leb·suc-suc)
 
 module _ (s : List ℕ) (room i : ℕ) where
-  pub end-none : length s ≤ i → endFrom room i (drop i s) ≡ Bad
+  end-none : length s ≤ i → endFrom room i (drop i s) ≡ Bad
   unfolding endFrom upToLF
   end-none h = rw (drop-of-length-le s {i = i} h)
 
-  pub end-full : room ≡ 0 → endFrom room i (drop i s) ≡ Bad
+  end-full : room ≡ 0 → endFrom room i (drop i s) ≡ Bad
   unfolding endFrom
   end-full f = rw f (go (upToLF (drop i s)))
     where
@@ -50,12 +52,12 @@ module _ (s : List ℕ) (room i : ℕ) where
       go (some l) = rw (leb·suc-zero (length l), and-false)
 
   module _ (h : i < length s) where
-    pub end-here : getD s i 0 ≡ 10 → 0 < room → endFrom room i (drop i s) ≡ At i
+    end-here : getD s i 0 ≡ 10 → 0 < room → endFrom room i (drop i s) ≡ At i
     unfolding endFrom upToLF allText
     end-here e k = rw (drop-cons s i 0 h, eq-eqb (getD s i 0) 10 e, le-leb 1 room k, add-zero i)
 
     module _ (e : getD s i 0 ≡ 10 → ⊥) where
-      pub end-wrong : isText (getD s i 0) ≡ false → endFrom room i (drop i s) ≡ Bad
+      end-wrong : isText (getD s i 0) ≡ false → endFrom room i (drop i s) ≡ Bad
       unfolding endFrom upToLF allText
       end-wrong f = rw (drop-cons s i 0 h, ne-eqb (getD s i 0) 10 e) (go (upToLF (drop (suc i) s)))
         where
@@ -63,7 +65,7 @@ module _ (s : List ℕ) (room i : ℕ) where
           go none = refl
           go (some l) = rw f
 
-    pub end-on : isText (getD s i 0) ≡ true → 0 < room → endFrom room i (drop i s) ≡ endFrom (room - 1) (i + 1) (drop (i + 1) s)
+    end-on : isText (getD s i 0) ≡ true → 0 < room → endFrom room i (drop i s) ≡ endFrom (room - 1) (i + 1) (drop (i + 1) s)
     unfolding endFrom upToLF allText
     end-on f k = rw (drop-cons s i 0 h, text-not-lf (getD s i 0) f, add-one i) (go room k (upToLF (drop (suc i) s)))
       where
@@ -76,6 +78,10 @@ pub is-text : (b : ℕ) → 32 ≤ b → b ≤ 126 → isText b ≡ true
 unfolding isText
 is-text b h k = rw (le-leb 32 b h, le-leb b 126 k)
 
+pub text-is : (b : ℕ) → isText b ≡ true → (32 ≤ b) × (b ≤ 126)
+unfolding isText
+text-is b h = let f = and-true (leb 32 b) (leb b 126) h in (leb-true 32 b (f .0), leb-true b 126 (f .1))
+
 pub text-low : (b : ℕ) → b < 32 → isText b ≡ false
 unfolding isText
 text-low b h = rw (lt-leb 32 b h)
@@ -83,6 +89,40 @@ text-low b h = rw (lt-leb 32 b h)
 pub text-high : (b : ℕ) → 126 < b → isText b ≡ false
 unfolding isText
 text-high b h = rw (lt-leb b 126 h, and-false)
+
+-- over n bytes of text
+end-over : (s : List ℕ) (n room i : ℕ) → i + n ≤ length s → n ≤ room → ((k : ℕ) → k < n → isText (getD s (i + k) 0) ≡ true)
+    → endFrom room i (drop i s) ≡ endFrom (room - n) (i + n) (drop (i + n) s)
+end-over s zero room i h k f = rw (sub-zero room, add-zero i)
+end-over s (suc n) room i h k f =
+    let first : isText (getD s i 0) ≡ true = rw (add-zero i) at (f 0 (omega arith)) in
+    let to : i + 1 + n ≡ i + suc n = omega arith in
+    let left : room - 1 - n ≡ room - suc n = omega arith in
+    end-on s room i (omega arith) first (omega arith)
+    ∙ end-over s n (room - 1) (i + 1) (omega arith) (omega arith) (λ m l. let e : i + (m + 1) ≡ i + 1 + m = omega arith in rw e at (f (m + 1) (omega arith)))
+    ∙ rw (to, left)
+
+pub end-outside : (s : List ℕ) (at : ℕ) → length s ≤ at → lineEnd at (drop at s) ≡ Bad
+end-outside s at h = end-start at (drop at s) ∙ end-none s 256 at h
+
+-- the end of a line by the first byte that is not text, which is looked for up to `stop`
+module _ (s : List ℕ) (at stop i : ℕ) (some : at < length s) (cut : stop ≡ at + min (length s - at) 256) (is : i ≡ at + textRun (take (stop - at) (drop at s))) where
+  past-text : lineEnd at (drop at s) ≡ endFrom (256 - (i - at)) i (drop i s)
+  past-text =
+      let n : ℕ = textRun (take (stop - at) (drop at s)) in
+      let far : at + n ≤ stop = run-within s at stop (omega arith) (omega arith) in
+      let left : 256 - n ≡ 256 - (i - at) = omega arith in
+      end-start at (drop at s) ∙ end-over s n 256 at (omega arith) (omega arith) (run-text s at stop (omega arith) (omega arith)) ∙ rw (left, ← is)
+
+  pub end-at : i < stop → getD s i 0 ≡ 10 → lineEnd at (drop at s) ≡ At i
+  end-at h e = past-text ∙ end-here s (256 - (i - at)) i (omega arith) e (omega arith)
+
+  pub end-other : i < stop → (getD s i 0 ≡ 10 → ⊥) → lineEnd at (drop at s) ≡ Bad
+  end-other h e = past-text ∙ end-wrong s (256 - (i - at)) i (omega arith) e (rw is (run-other s at stop (omega arith) (omega arith) (omega arith)))
+
+  pub end-stop : stop ≤ i → lineEnd at (drop at s) ≡ Bad
+  end-stop h =
+      past-text ∙ ⊎-elim (λ z. end-none s (256 - (i - at)) i (omega arith)) (λ z. end-full s (256 - (i - at)) i (omega arith)) (eq-zero-or-pos (length s - at - 256))
 
 -- ---- what an end says of the bytes
 

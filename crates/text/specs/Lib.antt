@@ -1,2 +1,4 @@
 pub mod Lines
 pub mod Buffer
+pub mod Words
+pub mod Feeds

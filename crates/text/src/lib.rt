@@ -1,4 +1,8 @@
 // Bytes and lines: upper case, where a line ends, the forms of tables and scripts, comparing and copying.
+pub mod copies;
+pub mod feeds;
+pub mod runs;
+
 ghost use mathlib.Core.Path.{_≡_};
 ghost use Prim.Native.Nat.{_+_, _≤_};
 ghost use lib.ListN.{length, drop};
@@ -43,23 +47,12 @@ pub fn line_end(s: &[u8], at: usize) -> LineEnd
         return LineEnd::Bad;
     }
     // The LF is byte 256 of a line at the latest.
-    let mut stop = s.len();
-    if 256 < stop - at {
-        stop = at + 256;
-    }
-    let mut i = at;
-    while i < stop {
-        let b = s[i];
-        if b < 32 {
-            if b == 10 {
-                return LineEnd::At(i);
-            }
-            return LineEnd::Bad;
+    let stop = at + copies::lesser(s.len() - at, 256);
+    let i = runs::text_to(s, at, stop);
+    if i < stop {
+        if s[i] == 10 {
+            return LineEnd::At(i);
         }
-        if 126 < b {
-            return LineEnd::Bad;
-        }
-        i += 1;
     }
     LineEnd::Bad
 }
@@ -131,9 +124,5 @@ pub fn copy(src: &[u8], dest: &mut [u8], at: usize)
     requires { ⌜ at + length (now src) ≤ length (now dest) ⌝ }
     ensures { λ _. ⌜ now (dest .exit) ≡ laid (now (dest .entry)) at (now (src .entry)) ⌝ }
 {
-    let mut i: usize = 0;
-    while i < src.len() {
-        dest[at + i] = src[i];
-        i += 1;
-    }
+    copies::copy_in(dest, at, src, 0, src.len());
 }

@@ -1,78 +1,48 @@
-use mathlib.Core.Path.{_≡_, refl}
-use Prim.Native.Nat.{ℕ, _+_, _-_, _≤_}
+-- `gap::shift_up` meets its contract: the bytes are copied up, and those of them that are left are cleared. Assumes nothing.
+use mathlib.Core.Path.{_∙_}
 use native.Mathlib.Omega.{arith}
-use lib.ListN.{length, length-set}
-use Rattle.gap.specs.Gap.{movedUp}
-use Rattle.gap.proofs.Laws.{up-zero, up-step}
+use borrow.Author.Needs.{needs}
+use Rattle.gap.proofs.Laws.{up-copied}
 use Rattle.gap.proofs.shift_up.Statement.{statement}
 use Rattle.gap.proofs.shift_up.Tie as tie
 
-abbrev Inv-loop : tie.InvT-loop
-Inv-loop j₀ lo f b g m₀ j m = (lo ≤ m) × (m ≤ f) × (g ≡ b - f) × (j ≡ movedUp m f b j₀) × (length j ≡ length j₀)
+sub-n : tie.Need-sub-n
+sub-n c = search needs
 
-abbrev μ-loop : tie.MeasureT-loop
-μ-loop j₀ lo f b g m₀ j m = m
+sub-copy-up : tie.Need-sub-copy-up
+sub-copy-up c = search needs
 
-sub-g : tie.Need-sub-g Inv-loop μ-loop
-sub-g c = omega arith
+copy-up-requires : tie.Need-copy-up-requires
+copy-up-requires c κs = search needs
 
-loop-holds : tie.Need-loop-holds Inv-loop μ-loop
-loop-holds c = (omega arith, omega arith, refl, up-zero (c .args .f) (c .args .b) (c .args .j .now) (c .pre .3) (omega arith), refl)
+sub-lesser : tie.Need-sub-lesser
+sub-lesser c = search needs
 
-sub-m : tie.Need-sub-m Inv-loop μ-loop
-sub-m c = omega arith
+lesser-requires : tie.Need-lesser-requires
+lesser-requires c κs = search needs
 
-slice-read-c : tie.Need-slice-read-c Inv-loop μ-loop
-slice-read-c c = omega arith
+clear-requires : tie.Need-clear-requires
+clear-requires c κs = search needs
 
-slice-write-j : tie.Need-slice-write-j Inv-loop μ-loop
-slice-write-j c = omega arith
+same-length : tie.Need-same-length
+same-length c = search needs
 
-add-j : tie.Need-add-j Inv-loop μ-loop
-add-j c = omega arith
-
-slice-write-j-2 : tie.Need-slice-write-j-2 Inv-loop μ-loop
-slice-write-j-2 c = simp length-set (omega arith)
-
-loop-less : tie.Need-loop-less Inv-loop μ-loop
-loop-less c = omega arith
-
-loop-again : tie.Need-loop-again Inv-loop μ-loop
-loop-again c =
-    let l = c .before .before .loop in
-    let a = c .before .before .before .args in
-    let m : ℕ = l .m - 1 in
-    let up : l .m ≡ m + 1 = omega arith in
-    let is : l .j ≡ movedUp (m + 1) (a .f) (a .b) (a .j .now) = rw up at (l .inv .3) in (
-      omega arith,
-      omega arith,
-      refl,
-      rw is (up-step m (a .f) (a .b) (a .j .now) (omega arith) (omega arith) (omega arith)),
-      simp length-set (l .inv .4),
-    )
-
-same-length : tie.Need-same-length Inv-loop μ-loop
-same-length c = c .before .loop .inv .4
-
-returns : tie.Need-returns Inv-loop μ-loop
+returns : tie.Need-returns
 returns c =
-    let done : c .before .loop .m ≡ c .before .before .args .lo = omega arith in
-    rw (done) at (c .before .loop .inv .3)
+    let p = c .before .before .before .before .before .before .before .before .before .before in
+    let a = p .args in
+    let k = c .before .before .before .before .lesser in
+    c .before .before .clear .ensures ∙ rw (c .before .before .before .before .before .before .before .copy-up .ensures) (up-copied (a .j .now) (a .lo) (a .f) (a .b) (k .result) (omega arith) (omega arith) (omega arith) (p .pre .3) (k .ensures))
 
 pub shift-up-spec : {M : Type 1} → statement M
 shift-up-spec =
     tie.close
     (tie.spec
-    Inv-loop
-    μ-loop
-    sub-g
-    loop-holds
-    sub-m
-    slice-read-c
-    slice-write-j
-    add-j
-    slice-write-j-2
-    loop-less
-    loop-again
+    sub-n
+    sub-copy-up
+    copy-up-requires
+    sub-lesser
+    lesser-requires
+    clear-requires
     same-length
     returns)

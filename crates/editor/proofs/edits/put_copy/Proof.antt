@@ -27,8 +27,8 @@ add-at c =
     let s = c .before in
     omega (arith, s .pre .4, held-length (s .pre .0 .2))
 
-copy-back-requires : tie.Need-copy-back-requires
-copy-back-requires c κs =
+copy-down-requires : tie.Need-copy-down-requires
+copy-down-requires c κs =
     let s = c .before .before in
     (omega (arith, s .pre .1, s .pre .4), simp length-set (s .pre .2))
 
@@ -40,7 +40,7 @@ add-end c =
 slice-write-j-3 : tie.Need-slice-write-j-3
 slice-write-j-3 c =
     let s = c .before .before .before .before .before in
-    omega (arith, s .pre .4, held-length (s .pre .0 .2), simp length-set at (c .before .before .copy-back .kept .0))
+    omega (arith, s .pre .4, held-length (s .pre .0 .2), simp length-set at (c .before .before .copy-down .kept .0))
 
 add-r : tie.Need-add-r
 add-r c =
@@ -48,12 +48,12 @@ add-r c =
     omega (arith, s .pre .4, held-length (s .pre .0 .2))
 
 same-length : tie.Need-same-length
-same-length c = simp length-set (c .before .before .copy-back .kept .0 ∙ simp length-set)
+same-length c = simp length-set (c .before .before .copy-down .kept .0 ∙ simp length-set)
 
 returns : tie.Need-returns
 returns c =
     let s = c .before .before .before .before .before in
-    (put-copy-holds (s .args .j .now) _ (s .args .st) _ (s .args .from) (s .args .n) (s .pre .1) (s .pre .2) (s .pre .3) (s .pre .4) (put-is _ _ _ _ (c .before .before .copy-back .ensures)) refl refl refl refl refl refl, record { furthest = refl; lines = refl; p = refl })
+    (put-copy-holds (s .args .j .now) _ (s .args .st) _ (s .args .from) (s .args .n) (s .pre .1) (s .pre .2) (s .pre .3) (s .pre .4) (put-is _ _ _ _ (c .before .before .copy-down .ensures)) refl refl refl refl refl refl, record { furthest = refl; lines = refl; p = refl })
 
 pub put-copy-spec : {M : Type 1} → statement M
 put-copy-spec =
@@ -63,7 +63,7 @@ put-copy-spec =
     add-j
     slice-write-j-2
     add-at
-    copy-back-requires
+    copy-down-requires
     add-end
     slice-write-j-3
     add-r

@@ -13,16 +13,19 @@ abbrev μ-loop : tie.MeasureT-loop
 μ-loop t j₀ i₀ o₀ lines₀ j i o lines = i
 
 -- a line has a byte at least, its line feed
-low : (c : tie.After-record-start Inv-loop μ-loop) → c .record-start .result < c .before .before .loop .i
-low c = writing-low (c .before .before .loop .inv .0) (c .before .loop-test .taken) (c .record-start .result) (c .record-start .ensures)
+low : (c : tie.After-line-start Inv-loop μ-loop) → c .line-start .result < c .before .before .loop .i
+low c = writing-low (c .before .before .loop .inv .0) (c .before .loop-test .taken) (c .line-start .result) (c .line-start .ensures)
 
 loop-holds : tie.Need-loop-holds Inv-loop μ-loop
 loop-holds c =
     let s = c .before .before in
     (writing-start (s .args .t .now) (s .args .j .now) (s .pre .0), refl)
 
-record-start-requires : tie.Need-record-start-requires Inv-loop μ-loop
-record-start-requires c κs = (c .loop-test .taken, c .before .loop .inv .0 .within)
+sub-line-start : tie.Need-sub-line-start Inv-loop μ-loop
+sub-line-start c = omega arith
+
+line-start-requires : tie.Need-line-start-requires Inv-loop μ-loop
+line-start-requires c κs = omega (arith, c .before .loop .inv .0 .within)
 
 sub-n : tie.Need-sub-n Inv-loop μ-loop
 sub-n c = omega (arith, low c)
@@ -30,7 +33,7 @@ sub-n c = omega (arith, low c)
 put-kept-requires : tie.Need-put-kept-requires Inv-loop μ-loop
 put-kept-requires c κs =
     let b = c .before .before in
-    writing-fits (b .before .loop .inv .0) (b .loop-test .taken) (c .before .record-start .result) (c .before .record-start .ensures) (b .before .before .before .before .pre .1)
+    writing-fits (b .before .loop .inv .0) (b .loop-test .taken) (c .before .line-start .result) (c .before .line-start .ensures) (b .before .before .before .before .pre .1)
 
 add-lines : tie.Need-add-lines Inv-loop μ-loop
 add-lines c =
@@ -45,7 +48,7 @@ loop-again c =
     let f = c .before .before .before .before in
     let l = f .before .before .loop in
     let r = c .before .before .put-kept in
-    (writing-next (l .inv .0) (f .before .loop-test .taken) (f .record-start .result) (f .record-start .ensures) (r .last .0) (r .result) (r .ensures .0) (r .ensures .1), r .kept .0 ∙ l .inv .1)
+    (writing-next (l .inv .0) (f .before .loop-test .taken) (f .line-start .result) (f .line-start .ensures) (r .last .0) (r .result) (r .ensures .0) (r .ensures .1), r .kept .0 ∙ l .inv .1)
 
 same-length : tie.Need-same-length Inv-loop μ-loop
 same-length c = c .before .loop .inv .1
@@ -60,7 +63,8 @@ write-opening-spec =
     Inv-loop
     μ-loop
     loop-holds
-    record-start-requires
+    sub-line-start
+    line-start-requires
     sub-n
     put-kept-requires
     add-lines

@@ -3,30 +3,30 @@ use Prim.Native.Nat.{_+_, _-_, _≤_, _<_}
 use native.Mathlib.Omega.{arith}
 use lib.ListN.{length, drop, length-set}
 use lib.Seq.{paste, paste-zero}
-use Rattle.gap.proofs.Laws.{copy-step}
-use Rattle.gap.proofs.copy_in.Statement.{statement}
-use Rattle.gap.proofs.copy_in.Tie as tie
+use Rattle.text.proofs.Pastes.{copy-step}
+use Rattle.text.proofs.copies.bytes_in.Statement.{statement}
+use Rattle.text.proofs.copies.bytes_in.Tie as tie
 
 abbrev Inv-loop : tie.InvT-loop
-Inv-loop j₀ at s from n i₀ j i = (i ≤ n) × (j ≡ paste j₀ at (drop from s) i) × (length j ≡ length j₀)
+Inv-loop d₀ at s from n i₀ d i = (i ≤ n) × (d ≡ paste d₀ at (drop from s) i) × (length d ≡ length d₀)
 
 abbrev μ-loop : tie.MeasureT-loop
-μ-loop j₀ at s from n i₀ j i = n - i
+μ-loop d₀ at s from n i₀ d i = n - i
 
 loop-holds : tie.Need-loop-holds Inv-loop μ-loop
-loop-holds c = (omega arith, paste-zero (c .args .j .now) (c .args .at) (drop (c .args .from) (c .args .s .now)), refl)
+loop-holds c = (omega arith, paste-zero (c .args .d .now) (c .args .at) (drop (c .args .from) (c .args .s .now)), refl)
 
-add-j : tie.Need-add-j Inv-loop μ-loop
-add-j c = omega arith
+add-d : tie.Need-add-d Inv-loop μ-loop
+add-d c = omega arith
 
-shared-slice-read-j : tie.Need-shared-slice-read-j Inv-loop μ-loop
-shared-slice-read-j c = omega arith
+shared-slice-read-d : tie.Need-shared-slice-read-d Inv-loop μ-loop
+shared-slice-read-d c = omega arith
 
-add-j-2 : tie.Need-add-j-2 Inv-loop μ-loop
-add-j-2 c = omega arith
+add-d-2 : tie.Need-add-d-2 Inv-loop μ-loop
+add-d-2 c = omega arith
 
-slice-write-j : tie.Need-slice-write-j Inv-loop μ-loop
-slice-write-j c = omega arith
+slice-write-d : tie.Need-slice-write-d Inv-loop μ-loop
+slice-write-d c = omega arith
 
 add-i : tie.Need-add-i Inv-loop μ-loop
 add-i c = omega arith
@@ -38,10 +38,10 @@ loop-again : tie.Need-loop-again Inv-loop μ-loop
 loop-again c =
     let l = c .before .before .loop in
     let a = c .before .before .before .args in
-    let le : a .at + a .n ≤ length (a .j .now) = omega arith in
+    let le : a .at + a .n ≤ length (a .d .now) = omega arith in
     let les : a .from + a .n ≤ length (a .s .now) = omega arith in
     let lt : l .i < a .n = omega arith in
-    (omega arith, rw (l .inv .1) (copy-step (a .j .now) (a .s .now) (a .at) (a .from) (l .i) (a .n) le les lt), simp length-set (l .inv .2))
+    (omega arith, rw (l .inv .1) (copy-step (a .d .now) (a .s .now) (a .at) (a .from) (l .i) (a .n) le les lt), simp length-set (l .inv .2))
 
 same-length : tie.Need-same-length Inv-loop μ-loop
 same-length c = c .before .loop .inv .2
@@ -51,17 +51,17 @@ returns c =
     let done : c .before .loop .i ≡ c .before .before .args .n = omega arith in
     rw done at (c .before .loop .inv .1)
 
-pub copy-in-spec : {M : Type 1} → statement M
-copy-in-spec =
+pub bytes-in-spec : {M : Type 1} → statement M
+bytes-in-spec =
     tie.close
     (tie.spec
     Inv-loop
     μ-loop
     loop-holds
-    add-j
-    shared-slice-read-j
-    add-j-2
-    slice-write-j
+    add-d
+    shared-slice-read-d
+    add-d-2
+    slice-write-d
     add-i
     loop-less
     loop-again
