@@ -9,7 +9,7 @@ use lib.Dec.{eqb, leb}
 use borrow.Author.Tests.{leb-true, eqb-true}
 use Rattle.definitions.specs.Bytes.{Line}
 use Rattle.definitions.specs.Matching.{Anchor, anywhere, atStart, atEnd, precisely, Columns, allColumns, columns, qualifiers, Qualified, qualified, Text, text, cut, window, afterSpaces, standsAt, places, occurrence, placeFrom, located, onlyAt, counted, placeIn, placeOf, stringIn}
-use Rattle.changes.proofs.Texts.{and-left}
+use Rattle.theorems.specs.Lines.{and-left}
 
 -- ---- the text T lies in the window
 

@@ -4,9 +4,9 @@ use Prim.Native.Nat.{ℕ, _+_, _-_, _≤_}
 use native.Mathlib.Omega.{arith}
 use mathlib.Core.List.{List, [], _∷_, _++_, append-assoc}
 use lib.ListN.{length, take, drop, set, length-append, length-drop}
-use lib.Seq.{drop-drop, take-take, take-add, length-take-le, drop-at, paste}
+use lib.Seq.{take-all, length-take-le, paste}
 use Rattle.definitions.specs.Edit.{splice}
-use Rattle.changes.specs.Current.{part, written}
+use Rattle.changes.specs.Current.{written}
 use Rattle.changes.proofs.Written.{then-byte, then-part}
 
 module _ (d line : List ℕ) (len : ℕ) (fits : len ≤ length line) where
@@ -36,30 +36,19 @@ module _ (d line : List ℕ) (len : ℕ) (fits : len ≤ length line) where
       let six : _ = then-byte d (60 ∷ 62 ∷ ((O ++ (0 ∷ [])) ++ take len line)) (n + len + 3) five l5 10 e6 (omega arith) in
       six ∙ ap (λ (z : List ℕ). written d (60 ∷ 62 ∷ (z ++ (10 ∷ [])))) (append-assoc O (0 ∷ []) (take len line))
 
-drop-take : (i n : ℕ) (l : List ℕ) → i ≤ n → n ≤ length l → drop i (take n l) ≡ take (n - i) (drop i l)
-drop-take i n l le fits =
-    let w : i + (n - i) ≡ n = omega arith in
-    let s : take n l ≡ take i l ++ take (n - i) (drop i l) = rw w at (take-add i (n - i) l) in
-    rw s (drop-at (take i l) (take (n - i) (drop i l)) i (length-take-le i l (omega arith)))
-
-pub splice-built : (d j new : List ℕ) (from to i n m : ℕ) {r1 r2 r3 : List ℕ} → from + i + n ≤ to → to ≤ length j → m ≤ length new → (to - from - n) + m ≤ length d
-    → r1 ≡ paste d 0 (drop from j) i → r2 ≡ paste r1 i (drop 0 new) m → r3 ≡ paste r2 (i + m) (drop (from + i + n) j) (to - (from + i + n))
-    → r3 ≡ written d (splice (part j from to) i n (take m new))
+-- the line with other bytes for some of its own
+pub splice-built : (d old new : List ℕ) (i n m : ℕ) {r1 r2 r3 : List ℕ} → i + n ≤ length old → m ≤ length new → length old + m ≤ length d + n
+    → r1 ≡ paste d 0 (drop 0 old) i → r2 ≡ paste r1 i (drop 0 new) m → r3 ≡ paste r2 (i + m) (drop (i + n) old) (length old - (i + n))
+    → r3 ≡ written d (splice old i n (take m new))
 unfolding splice written
-splice-built d j new from to i n m order fits have room e1 e2 e3 =
-    let J : List ℕ = drop from j in
-    let P : List ℕ = part j from to in
-    let lj : length J ≡ length j - from = length-drop from j in
-    let one : _ = then-part d [] 0 refl refl J i e1 (omega arith) (omega arith) in
-    let l1 : length (take i J) ≡ i = length-take-le i J (omega arith) in
-    let two : _ = then-part d (take i J) i one l1 new m e2 have (omega arith) in
-    let l2 : length (take i J ++ take m new) ≡ i + m = simp length-append (omega (arith, length-take-le m new have)) in
-    let R : List ℕ = drop (from + i + n) j in
-    let lr : length R ≡ length j - (from + i + n) = length-drop (from + i + n) j in
-    let three : _ = then-part d (take i J ++ take m new) (i + m) two l2 R (to - (from + i + n)) e3 (omega arith) (omega arith) in
-    let first : take i P ≡ take i J = take-take i (to - from) J (omega arith) in
-    let w : (to - from) - (i + n) ≡ to - (from + i + n) = omega arith in
-    let v : from + (i + n) ≡ from + i + n = omega arith in
-    let last : drop (i + n) P ≡ take (to - (from + i + n)) R =
-    drop-take (i + n) (to - from) J (omega arith) (omega arith) ∙ rw (w, drop-drop (i + n) from j, v) in
-    rw (first, last, ← append-assoc (take i J) (take m new) (take (to - (from + i + n)) R)) three
+splice-built d old new i n m order have room e1 e2 e3 =
+    let one : _ = then-part d [] 0 refl refl old i e1 (omega arith) (omega arith) in
+    let l1 : length (take i old) ≡ i = length-take-le i old (omega arith) in
+    let two : _ = then-part d (take i old) i one l1 new m e2 have (omega arith) in
+    let l2 : length (take i old ++ take m new) ≡ i + m = simp length-append (omega (arith, length-take-le m new have)) in
+    let R : List ℕ = drop (i + n) old in
+    let lr : length R ≡ length old - (i + n) = length-drop (i + n) old in
+    let three : _ = then-part d (take i old ++ take m new) (i + m) two l2 R (length old - (i + n)) e3 (omega arith) (omega arith) in
+    let all : take (length old - (i + n)) R ≡ R = take-all (length old - (i + n)) R (omega arith) in
+    let whole : (take i old ++ take m new) ++ take (length old - (i + n)) R ≡ take i old ++ (take m new ++ R) = rw all (append-assoc (take i old) (take m new) R) in
+    three ∙ ap (λ (z : List ℕ). written d z) whole

@@ -1,105 +1,285 @@
--- The commands that move p come to what the definitions say. Assumes nothing.
+-- The commands come to what the definitions say. Assumes nothing.
 use mathlib.Core.Path.{_≡_, refl, sym, ap, _∙_}
-use mathlib.Core.Bool.{true}
+use mathlib.Core.Bool.{Bool, true, false}
 use Prim.Native.Nat.{ℕ, zero, suc, _+_, _-_, _≤_, _<_}
 use native.Mathlib.Omega.{arith}
+use native.Mathlib.Numerals.{add-one}
 use mathlib.Core.List.{List, [], _∷_}
-use lib.ListN.{length}
-use borrow.Author.Tests.{lt-ltb, le-ltb}
-use Rattle.definitions.specs.Journal.{Record}
-use Rattle.definitions.specs.Tape.{Tape, Need}
-use Rattle.definitions.specs.Editor.{Ed, ed, Out, on, halt, current}
-use Rattle.definitions.specs.Edit.{Op, need, act, withLine, within, step, unlessEnd, stepLeft}
-use Rattle.editor.specs.Shows.{Placed, Shows, Answers, Answered}
+use lib.ListN.{length, take, getD}
+use lib.Seq.{take-all}
+use lib.Dec.{eqb}
+use borrow.Author.Tests.{eq-eqb, ne-eqb}
+use Rattle.definitions.specs.Bytes.{Line, allText}
+use Rattle.definitions.specs.Tape.{Tape}
+use Rattle.definitions.specs.Given.{Carried, carried}
+use Rattle.definitions.specs.Editor.{Ed, n20, n27, stopNumber, pointTo}
+use Rattle.definitions.specs.StepProgram.{Program, _>>=_, _>>_, runs, state, Did, perform}
+use Rattle.definitions.specs.Matching.{Qualifiers, Qualified, qualified, stringIn}
+use Rattle.definitions.specs.Edit.{Op, Change, afterIt, beforeIt, exchange, stopIf, go, goesOn, lineOr, placeOr24, byteHere, write, splice, altered, alteredPoint, pointBy, cased, recased, program, step}
+use Rattle.theorems.specs.Programs.{runs-halt, runs-pass}
+use Rattle.editor.specs.Shows.{Shows, pointOf, lent, Answered, atPoint}
+use Rattle.editor.specs.Current.{currentLine, Ready}
 use Rattle.editor.specs.declared.State.{State}
+use Rattle.editor.specs.declared.Moved.{Moved}
 use Rattle.editor.specs.declared.Moved.the-variants.{On, Stop}
-use Rattle.editor.proofs.Held.{holds-as}
-use Rattle.editor.proofs.Reading.{reachOf}
-use Rattle.editor.proofs.Answers.{step-still, shown-reach, shows-of, shows-leaves, shown-record, shown-eof}
-use Rattle.changes.specs.Current.{LinesAt}
-use Rattle.changes.specs.declared.Current.{Current}
-use Rattle.changes.proofs.Splicing.{text-length}
+use Rattle.editor.proofs.Parts.{perform-as, perform-stop, perform-line, perform-no-line, came-stop, goes-on}
+use Rattle.editor.proofs.Moving.{point-on}
+use Rattle.editor.proofs.CurrentText.{shown-short}
+use Rattle.changes.specs.declared.look.Byte.{Byte}
+use Rattle.changes.specs.declared.look.Byte.the-variants.{Here, Lacks}
+use Rattle.changes.specs.declared.look.Place.{Place}
+use Rattle.changes.specs.declared.look.Place.the-variants.{At, Nowhere}
+use Rattle.changes.specs.Current.{part, byteAt, placeAt, ByteIs, PlaceIs, Sights, Finds, ShowsOf, ShownOf, PerformsOf, IsReady, PerformsOn, AtLine, HasLine, Writes, Alters, changeOf}
+use Rattle.changes.proofs.Casing.{cased-one}
+use Rattle.changes.proofs.Splicing.{shown-text}
+use Rattle.changes.proofs.Looking.{ByteOn, byte-on, byte-stop, PlaceOn, place-on, place-stop, part-length}
 
--- ---- a command that reads nothing: it stops, or moves p
+-- p is set, and the run goes on
+point-goes : {j : List ℕ} {st : State} (c : Carried) (q : ℕ) (e : Ed) (t : Tape) → Shows j st e t → Answered j (On (atPoint st q)) (perform (lent j) (_>>_ (go (pointTo q)) goesOn) (state e c) t)
+point-goes {j} {st} c q e t h = goes-on (lent j) c (go (pointTo q)) e t j (On (atPoint st q)) (point-on (lent j) c q e t h)
 
-module _ (j : List ℕ) (st : State) (op : Op) (still : (e : Ed) → need op e ≡ Need.next 0) (n : ℕ) where
-  pub halts : (m : ℕ) (e : Ed) (t : Tape) → act op e ≡ halt m e → Shows j st e t → Answered j (Stop m st) (step n op e t)
-  unfolding Answers within
-  halts m e t q h = rw (step-still n op e t (still e), q) (refl, shows-leaves e t h)
+-- ---- PR and <
 
-  pub points : (b : List Record) (r : Record) (a : List Record) (p : ℕ) (t : Tape) → Shows j st (ed b (r ∷ a) p) t
-      → (s : State) → Placed st s → s .furthest ≡ st .furthest → (q : ℕ) → s .p ≡ q → act op (ed b (r ∷ a) p) ≡ on true (ed b (r ∷ a) q)
-      → Answered j (On s) (step n op (ed b (r ∷ a) p) t)
-  unfolding Answers within
-  points b r a p t h s placed far q sp is =
-      rw (step-still n op (ed b (r ∷ a) p) t (still (ed b (r ∷ a) p)), is)
-      (shows-of b (r ∷ a) q t (holds-as placed (h .holds)) (far ∙ shown-reach b (r ∷ a) p t h ∙ ap (λ (i : ℕ). reachOf i t) (sym (placed .lines))) sp (h .grounded))
+module _ {j : List ℕ} {st : State} (c : Carried) (e : Ed) (t : Tape) (h : Shows j st e t) where
+  pub start-eof : length j ≤ st .back → Answered j (Stop 20 st) (step (lent j) Op.pointStart (state e c) t)
+  unfolding step program _>>_ stopNumber
+  start-eof end = perform-no-line (lent j) c n20 (λ x. _>>=_ (go (pointTo 0)) (λ a. goesOn)) e t h 20 refl end
 
-  -- 20
-  pub eof-stops : ((b : List Record) (p : ℕ) → act op (ed b [] p) ≡ halt 20 (ed b [] p)) → length j ≤ st .back
-      → (e : Ed) (t : Tape) → Shows j st e t → Answered j (Stop 20 st) (step n op e t)
-  eof-stops is end (ed b [] p) t h = halts 20 (ed b [] p) t (is b p) h
-  eof-stops is end (ed b (r ∷ a) p) t h = absurd (shown-eof b r a p t h end)
+  pub start-on : st .back < length j → (r : Moved) → r ≡ On (atPoint st 0) → Answered j r (step (lent j) Op.pointStart (state e c) t)
+  unfolding step program _>>_
+  start-on more r q = rw (perform-line (lent j) c n20 (λ x. _>>=_ (go (pointTo 0)) (λ a. goesOn)) e t h more, q) (point-goes c 0 e t h)
 
-  -- 27 at the line's end
-  pub end-stops : (out : List Record → Record → List Record → ℕ → Out)
-      → ((b : List Record) (r : Record) (a : List Record) (p : ℕ) → act op (ed b (r ∷ a) p) ≡ unlessEnd b r a p (out b r a p))
-      → (c : Current) → ((e : Ed) (t : Tape) → Shows j st e t → LinesAt j st c e) → c .end - c .start ≤ st .p
-      → (e : Ed) (t : Tape) → Shows j st e t → Answered j (Stop 27 st) (step n op e t)
-  unfolding unlessEnd
-  end-stops out is c text past (ed b [] p) t h = absurd (text (ed b [] p) t h)
-  end-stops out is c text past (ed b (r ∷ a) p) t h =
-      let l : length (current r) ≤ p = omega (arith, text-length r (text (ed b (r ∷ a) p) t h), h .p) in
-      halts 27 (ed b (r ∷ a) p) t (is b r a p ∙ rw (le-ltb p (length (current r)) l)) h
+  pub left-eof : length j ≤ st .back → Answered j (Stop 20 st) (step (lent j) Op.left (state e c) t)
+  unfolding step program stopNumber
+  left-eof end = perform-no-line (lent j) c n20 (λ x. _>>_ (stopIf n27 (eqb (x .1) 0)) (_>>_ (go (pointTo (x .1 - 1))) goesOn)) e t h 20 refl end
 
--- the places of the current line are in order
-module _ (j : List ℕ) (st : State) (c : Current) where
-  pub in-order : ((e : Ed) (t : Tape) → Shows j st e t → LinesAt j st c e) → ((e : Ed) × (t : Tape) × Shows j st e t) → c .start ≤ c .end
-  in-order text (ed b [] p, t, h) = absurd (text (ed b [] p) t h)
-  in-order text (ed b (r ∷ a) p, t, h) = text (ed b (r ∷ a) p) t h .ordered
+  module _ (more : st .back < length j) where
+    left-step : step (lent j) Op.left (state e c) t ≡ perform (lent j) (_>>_ (stopIf n27 (eqb (pointOf e) 0)) (_>>_ (go (pointTo (pointOf e - 1))) goesOn)) (state e c) t
+    unfolding step program
+    left-step = perform-line (lent j) c n20 (λ x. _>>_ (stopIf n27 (eqb (x .1) 0)) (_>>_ (go (pointTo (x .1 - 1))) goesOn)) e t h more
 
--- ---- PR, <, >
+    pub left-start : st .p ≡ 0 → Answered j (Stop 27 st) (step (lent j) Op.left (state e c) t)
+    unfolding stopNumber
+    left-start z =
+        let m : Program Did = _>>_ (go (pointTo (pointOf e - 1))) goesOn in
+        rw left-step
+        (perform-stop (lent j) c (_>>_ (stopIf n27 (eqb (pointOf e) 0)) m) e t j 27 st
+        (came-stop (runs-halt (lent j) c n27 (eqb (pointOf e) 0) m e t (eq-eqb (pointOf e) 0 (sym (h .p) ∙ z))) refl h))
 
-module _ (j : List ℕ) (st : State) (n : ℕ) (s : State) (placed : Placed st s) (far : s .furthest ≡ st .furthest) (more : st .back < length j) where
-  pub start-on : s .p ≡ 0 → (e : Ed) (t : Tape) → Shows j st e t → Answered j (On s) (step n Op.pointStart e t)
-  unfolding need act withLine
-  start-on sp (ed b [] p) t h = absurd (shown-record b p t h more)
-  start-on sp (ed b (r ∷ a) p) t h = points j st Op.pointStart (λ e. refl) n b r a p t h s placed far 0 sp refl
+    pub left-on : (st .p ≡ 0 → ⊥) → (r : Moved) → r ≡ On (atPoint st (st .p - 1)) → Answered j r (step (lent j) Op.left (state e c) t)
+    left-on z r q =
+        let m : Program Did = _>>_ (go (pointTo (pointOf e - 1))) goesOn in
+        rw (left-step, perform-as (lent j) c (_>>_ (stopIf n27 (eqb (pointOf e) 0)) m) m e e t t (runs-pass (lent j) c n27 (eqb (pointOf e) 0) m e t (ne-eqb (pointOf e) 0 (λ s. z (h .p ∙ s)))), q, h .p)
+        (point-goes c (pointOf e - 1) e t h)
 
-  pub left-on : (st .p ≡ 0 → ⊥) → s .p ≡ st .p - 1 → (e : Ed) (t : Tape) → Shows j st e t → Answered j (On s) (step n Op.left e t)
-  unfolding need act withLine stepLeft
-  left-on past sp (ed b [] p) t h = absurd (shown-record b p t h more)
-  left-on past sp (ed b (r ∷ a) zero) t h = absurd (past (h .p))
-  left-on past sp (ed b (r ∷ a) (suc p)) t h = points j st Op.left (λ e. refl) n b r a (suc p) t h s placed far p (omega (arith, h .p)) refl
+-- ---- a line that is long enough
 
-  pub right-on : (c : Current) → ((e : Ed) (t : Tape) → Shows j st e t → LinesAt j st c e) → st .p < c .end - c .start → s .p ≡ st .p + 1
-      → (e : Ed) (t : Tape) → Shows j st e t → Answered j (On s) (step n Op.right e t)
-  unfolding need act withLine unlessEnd
-  right-on c text before sp (ed b [] p) t h = absurd (shown-record b p t h more)
-  right-on c text before sp (ed b (r ∷ a) p) t h =
-      let l : p < length (current r) = omega (arith, text-length r (text (ed b (r ∷ a) p) t h), h .p) in
-      points j st Op.right (λ e. refl) n b r a p t h s placed far (suc p) (omega (arith, h .p)) (rw (lt-ltb p (length (current r)) l))
+pub at-less : {table j : List ℕ} {st : State} {v : ℕ} (w : ℕ) (e : Ed) (t : Tape) → w ≤ v → AtLine table j st v e t → AtLine table j st w e t
+at-less w e t le h = record { text = h .text; more = h .more; long = omega (arith, le, h .long) }
 
-module _ (j : List ℕ) (st : State) (n : ℕ) where
-  pub start-eof : length j ≤ st .back → (e : Ed) (t : Tape) → Shows j st e t → Answered j (Stop 20 st) (step n Op.pointStart e t)
-  unfolding need act withLine
-  start-eof = eof-stops j st Op.pointStart (λ e. refl) n (λ b p. refl)
+pub has-less : {table j : List ℕ} {st : State} {v : ℕ} (w : ℕ) → w ≤ v → HasLine table j st v → HasLine table j st w
+has-less w le (e, t, h) = (e, t, at-less w e t le h)
 
-  pub left-eof : length j ≤ st .back → (e : Ed) (t : Tape) → Shows j st e t → Answered j (Stop 20 st) (step n Op.left e t)
-  unfolding need act withLine
-  left-eof = eof-stops j st Op.left (λ e. refl) n (λ b p. refl)
+-- no line is longer than 255
+pub has-short : {table j : List ℕ} {st : State} {v : ℕ} → HasLine table j st v → v ≤ 255
+has-short (e, t, h) = omega (arith, h .long, shown-short e t (h .text .shows))
 
-  pub left-start : st .back < length j → st .p ≡ 0 → (e : Ed) (t : Tape) → Shows j st e t → Answered j (Stop 27 st) (step n Op.left e t)
-  unfolding need act withLine stepLeft
-  left-start more zeroth (ed b [] p) t h = absurd (shown-record b p t h more)
-  left-start more zeroth (ed b (r ∷ a) zero) t h = halts j st Op.left (λ e. refl) n 27 (ed b (r ∷ a) 0) t refl h
-  left-start more zeroth (ed b (r ∷ a) (suc p)) t h = absurd (omega (arith, h .p))
+-- ---- the commands that look at the byte at p
 
-  pub right-eof : length j ≤ st .back → (e : Ed) (t : Tape) → Shows j st e t → Answered j (Stop 20 st) (step n Op.right e t)
-  unfolding need act withLine
-  right-eof = eof-stops j st Op.right (λ e. refl) n (λ b p. refl)
+module _ {table j : List ℕ} {st : State} (b : Byte) (sees : Sights table j st b) where
+  -- it is not there
+  byte-stops : (m : ℕ) → b ≡ Lacks m → (k : Line × ℕ → Program Did) (e : Ed) (c : Carried) (t : Tape) → ShowsOf table j st e t
+      → Answered j (Stop m st) (perform (lent j) (_>>=_ byteHere k) (state e c) t)
+  unfolding ByteIs
+  byte-stops m q k e c t w =
+      let x : ByteIs (Lacks m) e t (runs (lent j) c byteAt e t) = rw q at (sees e c t w) in
+      perform-stop (lent j) c (_>>=_ byteHere k) e t j m st (came-stop (byte-stop (lent j) c k t e (x .0) (x .2)) (x .1) (w .shows))
 
-  pub right-end : (c : Current) → ((e : Ed) (t : Tape) → Shows j st e t → LinesAt j st c e) → c .end - c .start ≤ st .p
-      → (e : Ed) (t : Tape) → Shows j st e t → Answered j (Stop 27 st) (step n Op.right e t)
-  unfolding need act withLine
-  right-end = end-stops j st Op.right (λ e. refl) n (λ b r a p. on true (ed b (r ∷ a) (suc p))) (λ b r a p. refl)
+  pub right-stop : (m : ℕ) → b ≡ Lacks m → PerformsOf table j st Op.right j (Stop m st)
+  unfolding step program
+  right-stop m q = byte-stops m q (λ x. _>>_ (go (pointTo (suc (x .1)))) goesOn)
+
+  pub cut-stop : (m : ℕ) → b ≡ Lacks m → PerformsOf table j st Op.cutByte j (Stop m st)
+  unfolding step program
+  cut-stop m q = byte-stops m q (λ x. write (splice (x .0) (x .1) 1 []) (x .1))
+
+  pub recase-stop : (up : Bool) (m : ℕ) → b ≡ Lacks m → PerformsOf table j st (Op.recase up) j (Stop m st)
+  unfolding step program
+  recase-stop up m q = byte-stops m q (λ x. write (recased up (x .0) (x .1)) (suc (x .1)))
+
+  -- it is v
+  module _ (v : ℕ) (q : b ≡ Here v) where
+    found : (k : Line × ℕ → Program Did) (e : Ed) (c : Carried) (t : Tape) → ShowsOf table j st e t → ByteOn (lent j) c k e t v
+    unfolding ByteIs
+    found k e c t w = byte-on (lent j) c k t e v (rw q at (sees e c t w))
+
+    byte-goes : (k : Line × ℕ → Program Did) (e : Ed) (c : Carried) (t : Tape) → ShowsOf table j st e t
+        → perform (lent j) (_>>=_ byteHere k) (state e c) t ≡ perform (lent j) (k (currentLine e, pointOf e)) (state e c) t
+    byte-goes k e c t w = perform-as (lent j) c (_>>=_ byteHere k) (k (currentLine e, pointOf e)) e e t t (found k e c t w .same)
+
+    at-byte : (e : Ed) (t : Tape) → ShowsOf table j st e t → AtLine table j st (st .p + 1) e t
+    at-byte e t w =
+        let f : ByteOn (lent j) carried (λ x. goesOn) e t v = found (λ x. goesOn) e carried t w in
+        record { text = w; more = f .more j st (w .shows); long = omega (arith, f .inside, w .shows .p) }
+
+    pub has-byte : ShownOf table j st → HasLine table j st (st .p + 1)
+    has-byte (e, t, w) = (e, t, at-byte e t w)
+
+    -- the byte in the other case is of text
+    pub recase-text : (up : Bool) (x : ℕ) → x ≡ cased up v → ShownOf table j st → allText (take 1 (x ∷ [])) ≡ true
+    recase-text up x s (e, t, w) =
+        let f : ByteOn (lent j) carried (λ x. goesOn) e t v = found (λ x. goesOn) e carried t w in
+        cased-one up (currentLine e) (pointOf e) v x (shown-text e t (w .shows)) (f .inside) (f .is) s
+
+    pub right-on : (r : Moved) → r ≡ On (atPoint st (st .p + 1)) → PerformsOf table j st Op.right j r
+    unfolding step program
+    right-on r s e c t w =
+        rw (byte-goes (λ x. _>>_ (go (pointTo (suc (x .1)))) goesOn) e c t w, s, w .shows .p, add-one (pointOf e)) (point-goes c (suc (pointOf e)) e t (w .shows))
+
+    pub cut-on : (k : List ℕ) (m : Moved) → Writes table j st (st .p + 1) (λ l. splice l (st .p) 1 []) (st .p) k m → PerformsOf table j st Op.cutByte k m
+    unfolding step program
+    cut-on k m did e c t w =
+        rw (byte-goes (λ x. write (splice (x .0) (x .1) 1 []) (x .1)) e c t w, ← (w .shows .p)) (did e c t (at-byte e t w))
+
+    pub recase-on : (up : Bool) (x : ℕ) → x ≡ cased up v → (k : List ℕ) (m : Moved)
+        → Writes table j st (st .p + 1) (λ l. splice l (st .p) 1 (take 1 (x ∷ []))) (st .p + 1) k m → PerformsOf table j st (Op.recase up) k m
+    unfolding step program recased
+    recase-on up x s k m did e c t w =
+        let y : x ≡ cased up (getD (currentLine e) (pointOf e) 0) = s ∙ ap (cased up) (found (λ x. goesOn) e c t w .is) in
+        rw (byte-goes (λ x. write (recased up (x .0) (x .1)) (suc (x .1))) e c t w, ← y, ← (w .shows .p), ← add-one (st .p)) (did e c t (at-byte e t w))
+
+-- ---- the commands that look for a string
+
+-- PA, PB; A, B, E, AP, BP, EP
+pointing-to : Bool → Qualified → Line × ℕ → ℕ → Program Did
+pointing-to after q x i = _>>_ (go (pointTo (pointBy after i (length (stringIn q))))) goesOn
+
+altering : Change → Bool → Qualified → Line → Line × ℕ → ℕ → Program Did
+altering ch pointing q new x i = write (altered ch (x .0) i (length (stringIn q)) new) (alteredPoint ch pointing (x .1) i (length (stringIn q)) (length new))
+
+module _ {table j : List ℕ} {st : State} (qs : Qualifiers) (script : List ℕ) (from to : ℕ) (room : to ≤ length script) (o : Place)
+    (finds : Finds table j st (qualified qs (part script from to)) o) where
+  -- it is not there
+  place-stops : (m : ℕ) → o ≡ Nowhere m → (k : Line × ℕ → ℕ → Program Did) (e : Ed) (c : Carried) (t : Tape) → Ready table j st e t
+      → Answered j (Stop m st) (perform (lent j) (_>>=_ (lineOr n20) (λ x. _>>=_ (placeOr24 (qualified qs (part script from to)) (x .0) (x .1)) (k x))) (state e c) t)
+  unfolding PlaceIs
+  place-stops m q k e c t w =
+      let Q : Qualified = qualified qs (part script from to) in
+      let x : PlaceIs (Nowhere m) e t (runs (lent j) c (placeAt Q) e t) = rw q at (finds e c t w) in
+      perform-stop (lent j) c (_>>=_ (lineOr n20) (λ x. _>>=_ (placeOr24 Q (x .0) (x .1)) (k x))) e t j m st (came-stop (place-stop (lent j) c Q k t e (x .0) (x .2)) (x .1) (w .shows))
+
+  pub point-stop : (after : Bool) (m : ℕ) → o ≡ Nowhere m → PerformsOn table j st (Op.point after (qualified qs (part script from to))) j (Stop m st)
+  unfolding step program pointing-to
+  point-stop after m q = place-stops m q (pointing-to after (qualified qs (part script from to)))
+
+  pub alter-stop : (ch : Change) (pointing : Bool) (new : Line) (m : ℕ) → o ≡ Nowhere m → PerformsOn table j st (Op.alter ch pointing (qualified qs (part script from to)) new) j (Stop m st)
+  unfolding step program altering
+  alter-stop ch pointing new m q = place-stops m q (altering ch pointing (qualified qs (part script from to)) new)
+
+  -- it is at place i
+  module _ (i : ℕ) (q : o ≡ At i) where
+    string-long : length (stringIn (qualified qs (part script from to))) ≡ to - from
+    unfolding stringIn
+    string-long = part-length script from to room
+
+    here : (k : Line × ℕ → ℕ → Program Did) (e : Ed) (c : Carried) (t : Tape) → Ready table j st e t → PlaceOn (lent j) c (qualified qs (part script from to)) k e t i
+    unfolding PlaceIs
+    here k e c t w = place-on (lent j) c (qualified qs (part script from to)) k t e i (rw q at (finds e c t w))
+
+    place-goes : (k : Line × ℕ → ℕ → Program Did) (e : Ed) (c : Carried) (t : Tape) → Ready table j st e t
+        → perform (lent j) (_>>=_ (lineOr n20) (λ x. _>>=_ (placeOr24 (qualified qs (part script from to)) (x .0) (x .1)) (k x))) (state e c) t
+        ≡ perform (lent j) (k (currentLine e, pointOf e) i) (state e c) t
+    place-goes k e c t w =
+        perform-as (lent j) c (_>>=_ (lineOr n20) (λ x. _>>=_ (placeOr24 (qualified qs (part script from to)) (x .0) (x .1)) (k x))) (k (currentLine e, pointOf e) i) e e t t (here k e c t w .same)
+
+    at-place : (e : Ed) (t : Tape) → Ready table j st e t → AtLine table j st (i + (to - from)) e t
+    at-place e t w =
+        let f : PlaceOn (lent j) carried (qualified qs (part script from to)) (λ x n. goesOn) e t i = here (λ x n. goesOn) e carried t w in
+        record { text = record { shows = w .shows; old = w .old }; more = f .more j st (w .shows); long = omega (arith, f .inside (w .point), string-long) }
+
+    pub has-place : IsReady table j st → HasLine table j st (i + (to - from))
+    has-place (e, t, w) = (e, t, at-place e t w)
+
+    pub point-found : (after : Bool) (r : Moved) (p : ℕ) → p ≡ pointBy after i (to - from) → r ≡ On (atPoint st p) → PerformsOn table j st (Op.point after (qualified qs (part script from to))) j r
+    unfolding step program pointing-to
+    point-found after r p z s e c t w =
+        rw (place-goes (pointing-to after (qualified qs (part script from to))) e c t w, string-long, ← z, s) (point-goes c p e t (w .shows))
+
+    pub alter-found : (ch : Change) (pointing : Bool) (new : Line) (k : List ℕ) (m : Moved)
+        → Writes table j st (i + (to - from)) (λ l. altered ch l i (to - from) new) (alteredPoint ch pointing (st .p) i (to - from) (length new)) k m
+        → PerformsOn table j st (Op.alter ch pointing (qualified qs (part script from to)) new) k m
+    unfolding step program altering
+    alter-found ch pointing new k m did e c t w =
+        rw (place-goes (altering ch pointing (qualified qs (part script from to)) new) e c t w, string-long, ← (w .shows .p)) (did e c t (at-place e t w))
+
+-- ---- by the kind of change
+
+pub point-after-by : (after : Bool) (i n : ℕ) → after ≡ true → i + n ≡ pointBy after i n
+unfolding pointBy
+point-after-by after i n e = rw e
+
+pub point-before-by : (after : Bool) (i n : ℕ) → after ≡ false → i ≡ pointBy after i n
+unfolding pointBy
+point-before-by after i n e = rw e
+
+changes-after : (k : ℕ) → k ≡ 0 → changeOf k ≡ afterIt
+unfolding changeOf
+changes-after k z = rw z
+
+changes-before : (k : ℕ) → k ≡ 1 → changeOf k ≡ beforeIt
+unfolding changeOf
+changes-before k z = rw z
+
+exchanges : (k : ℕ) → (k ≡ 0 → ⊥) → (k ≡ 1 → ⊥) → changeOf k ≡ exchange
+unfolding changeOf
+exchanges zero a b = absurd (a refl)
+exchanges (suc zero) a b = absurd (b refl)
+exchanges (suc (suc k)) a b = refl
+
+module _ (kind : ℕ) (pointing : Bool) (i n m p : ℕ) where
+  pub not-pointing : pointing ≡ false → p ≡ alteredPoint (changeOf kind) pointing p i n m
+  unfolding alteredPoint
+  not-pointing e = rw e
+
+  pub point-past : pointing ≡ true → kind < 2 → i + n + m ≡ alteredPoint (changeOf kind) pointing p i n m
+  unfolding alteredPoint changeOf
+  point-past e h = go kind h
+    where
+      go : (k : ℕ) → k < 2 → i + n + m ≡ alteredPoint (changeOf k) pointing p i n m
+      go zero h = rw e
+      go (suc zero) h = rw e
+      go (suc (suc k)) h = absurd (omega arith)
+
+  pub point-exchanged : pointing ≡ true → 2 ≤ kind → i + m ≡ alteredPoint (changeOf kind) pointing p i n m
+  unfolding alteredPoint changeOf
+  point-exchanged e h = go kind h
+    where
+      go : (k : ℕ) → 2 ≤ k → i + m ≡ alteredPoint (changeOf k) pointing p i n m
+      go zero h = absurd (omega arith)
+      go (suc zero) h = absurd (omega arith)
+      go (suc (suc k)) h = rw e
+
+all-new : (new : Line) → take (length new) new ≡ new
+all-new new = take-all (length new) new (omega arith)
+
+pub whole-text : (l : Line) → allText l ≡ true → allText (take (length l) l) ≡ true
+whole-text l h = rw (all-new l) h
+
+module _ {table j : List ℕ} {st : State} (kind : ℕ) (pointing : Bool) (i n q : ℕ) (new k : List ℕ) (x : Moved) (point : q ≡ alteredPoint (changeOf kind) pointing (st .p) i n (length new)) where
+  -- where the text is one for the kind of change
+  altered-by : (ch : Change) → changeOf kind ≡ ch → (w : ℕ) → w ≤ i + n → (f : Line → Line) → ((l : Line) → f l ≡ altered ch l i n new)
+      → Writes table j st w f q k x → Alters table j st kind pointing i n new k x
+  altered-by ch z w le f same did e c t h =
+      rw (← point, z, ← same (currentLine e)) (did e c t (at-less w e t le h))
+
+  pub altered-after : kind ≡ 0 → Writes table j st (i + n + 0) (λ l. splice l (i + n) 0 (take (length new) new)) q k x
+      → Alters table j st kind pointing i n new k x
+  altered-after z did = altered-by afterIt (changes-after kind z) (i + n + 0) (omega arith) (λ l. splice l (i + n) 0 (take (length new) new)) (λ l. unfold altered in (rw (all-new new))) did
+
+  pub altered-before : kind ≡ 1 → Writes table j st (i + 0) (λ l. splice l i 0 (take (length new) new)) q k x
+      → Alters table j st kind pointing i n new k x
+  altered-before z did = altered-by beforeIt (changes-before kind z) (i + 0) (omega arith) (λ l. splice l i 0 (take (length new) new)) (λ l. unfold altered in (rw (all-new new))) did
+
+  pub altered-exchange : (kind ≡ 0 → ⊥) → (kind ≡ 1 → ⊥) → Writes table j st (i + n) (λ l. splice l i n (take (length new) new)) q k x
+      → Alters table j st kind pointing i n new k x
+  altered-exchange y z did = altered-by exchange (exchanges kind y z) (i + n) (omega arith) (λ l. splice l i n (take (length new) new)) (λ l. unfold altered in (rw (all-new new))) did

@@ -1,14 +1,14 @@
--- `Written`, `Texts`: bytes. `Place`: where the current record's lines stand. `Building`, `Putting`, `Rewriting`, `Splicing`: the
--- record written anew. `Bounds`: where a string is found. `Commands`, `Cases`, `Altering`: the commands. `Points`: p stays within the line.
+-- `Written`, `Texts`, `Casing`: bytes. `Building`, `Ends`, `Putting`, `Rewriting`, `Splicing`: the current record written anew. `Bounds`: where a
+-- string is found. `Looking`: a look at the current line. `Commands`: the commands. `Points`: p stays within the line.
 pub mod Written
 pub mod Texts
-pub mod Place
+pub mod Casing
 pub mod Building
+pub mod Ends
 pub mod Putting
 pub mod Rewriting
 pub mod Splicing
 pub mod Bounds
+pub mod Looking
 pub mod Commands
-pub mod Cases
-pub mod Altering
 pub mod Points

@@ -69,7 +69,7 @@ module _ {j : List ℕ} {st : State} {b : List Record} {r : Record} {a : List Re
           → end - n ≤ st .back → k ≡ paste j (end - n) rec n → Put j k st b x a q (On s)
       unfolding Put
       put-grown s f e p l o z far w le bytes =
-          (put-holds s f e p l o z (grown-bytes le bytes), far, l, w, omega (arith, total, whole, h .order))
+          (put-holds s f e p l o z (grown-bytes le bytes), far, l, w)
 
       -- the record is shorter: what it leaves is cleared
       shrunk-bytes : st .back < end - n → (i : List ℕ) → i ≡ paste j (end - n) rec n → k ≡ cleared (st .back) ((end - n) - st .back) i
@@ -96,4 +96,4 @@ module _ {j : List ℕ} {st : State} {b : List Record} {r : Record} {a : List Re
           → st .back < end - n → (i : List ℕ) → i ≡ paste j (end - n) rec n → k ≡ cleared (st .back) ((end - n) - st .back) i → Put j k st b x a q (On s)
       unfolding Put
       put-shrunk s f e p l o z far w lt i bytes clears =
-          (put-holds s f e p l o z (shrunk-bytes lt i bytes clears), far, l, w, omega (arith, total, whole, h .order))
+          (put-holds s f e p l o z (shrunk-bytes lt i bytes clears), far, l, w)

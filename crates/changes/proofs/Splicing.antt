@@ -4,79 +4,98 @@ use mathlib.Core.Bool.{true}
 use Prim.Native.Nat.{ℕ, _+_, _-_, _≤_, _<_}
 use native.Mathlib.Omega.{arith}
 use mathlib.Core.List.{List, [], _∷_}
-use lib.ListN.{length, take, drop, length-drop}
+use lib.ListN.{length, take}
 use lib.Seq.{length-take-le}
-use borrow.Author.Tests.{le-leb, lt-leb}
-use Rattle.definitions.specs.Bytes.{allText, isLine}
-use Rattle.definitions.specs.Journal.{Record}
+use lib.Dec.{ltb}
+use borrow.Author.Tests.{le-leb, lt-leb, lt-ltb, le-ltb}
+use Rattle.definitions.specs.Bytes.{Line, allText, isLine}
 use Rattle.definitions.specs.Tape.{Tape}
-use Rattle.definitions.specs.Editor.{Ed, ed, current}
-use Rattle.definitions.specs.Edit.{within, retext, splice}
-use Rattle.editor.specs.Shows.{Shows, Answers, Answered}
-use Rattle.editor.specs.Current.{textOf}
+use Rattle.definitions.specs.Given.{Given, Carried}
+use Rattle.definitions.specs.Editor.{Ed, ed, n25, stopNumber, retext, afterOf}
+use Rattle.definitions.specs.StepProgram.{gives, state, changes, perform}
+use Rattle.definitions.specs.Edit.{write, splice}
+use Rattle.theorems.specs.Programs.{runs-halt, runs-pass}
+use Rattle.theorems.specs.JournalBytes.{line-text, line-of}
+use Rattle.theorems.specs.GoodLines.{splice-text}
+use Rattle.editor.specs.Shows.{Shows, lent, Answered}
+use Rattle.editor.specs.Current.{currentLine, TableOf}
 use Rattle.editor.specs.declared.State.{State}
 use Rattle.editor.specs.declared.Moved.{Moved}
 use Rattle.editor.specs.declared.Moved.the-variants.{Stop}
-use Rattle.editor.proofs.Answers.{shows-leaves}
+use Rattle.editor.proofs.Parts.{perform-as, perform-stop, came-stop}
 use Rattle.editor.proofs.Texts.{current-good}
 use Rattle.editor.proofs.CurrentText.{shown-short}
-use Rattle.changes.specs.Current.{part, LinesOf, LinesAt, written, retexted, spliced}
-use Rattle.changes.specs.declared.Current.{Current}
+use Rattle.changes.specs.Current.{written, AtLine, HasLine, Splices, Writes, Rewrites}
 use Rattle.changes.proofs.Written.{first-written}
-use Rattle.changes.proofs.Texts.{is-text, line-of, splice-text, splice-length}
+use Rattle.changes.proofs.Texts.{splice-length}
 
-pub text-length : {j : List ℕ} {st : State} {c : Current} (r : Record) → LinesOf j st c r → length (current r) ≡ c .end - c .start
-text-length {j} {c = c} r w =
-    ap length (sym (w .text)) ∙ length-take-le (c .end - c .start) (drop (c .start) j) (omega (arith, length-drop (c .start) j, w .ordered, w .inside))
+-- ---- the end of a step that writes a line
 
-module _ (j : List ℕ) (st : State) (c : Current) where
-  pub lines-length : (e : Ed) → LinesAt j st c e → length (textOf e) ≡ c .end - c .start
-  lines-length (ed b [] p) w = absurd w
-  lines-length (ed b (r ∷ a) p) w = text-length r w
+module _ (g : Given) (c : Carried) (l : Line) (q : ℕ) (e : Ed) (t : Tape) where
+  -- 25
+  pub write-long : (j : List ℕ) (st : State) → 255 < length l → Shows j st e t → Answered j (Stop 25 st) (perform g (write l q) (state e c) t)
+  unfolding write stopNumber
+  write-long j st long h =
+      perform-stop g c (write l q) e t j 25 st (came-stop (runs-halt g c n25 (ltb 255 (length l)) (gives (changes (retext l q ∷ []))) e t (lt-ltb 255 (length l) long)) refl h)
 
-  -- the current line is no longer than a line can be
-  pub text-short : (e : Ed) (t : Tape) → Shows j st e t → LinesAt j st c e → c .end - c .start ≤ 255
-  text-short e t h w = omega (arith, lines-length e w, shown-short e t h)
+  pub write-on : length l ≤ 255 → perform g (write l q) (state e c) t ≡ perform g (gives (changes (retext l q ∷ []))) (state e c) t
+  unfolding write
+  write-on short =
+      perform-as g c (write l q) (gives (changes (retext l q ∷ []))) e e t t (runs-pass g c n25 (ltb 255 (length l)) (gives (changes (retext l q ∷ []))) e t (le-ltb 255 (length l) short))
 
-  pub text-inside : (e : Ed) → LinesAt j st c e → (c .start ≤ c .end) × (c .end < length j)
-  text-inside (ed b [] p) w = absurd w
-  text-inside (ed b (r ∷ a) p) w = (w .ordered, w .inside)
+-- ---- what `splice_text` does
 
-  module _ (i n m q : ℕ) (new : List ℕ) (order : i + n ≤ c .end - c .start) (have : m ≤ length new) where
-    new-length : (r : Record) → LinesOf j st c r → length (splice (current r) i n (take m new)) ≡ ((c .end - c .start) - n) + m
-    new-length r w =
-        let l : length (current r) ≡ c .end - c .start = text-length r w in
-        splice-length (current r) i n (take m new) (omega arith) ∙ omega (arith, length-take-le m new have)
+-- a line that is shown is of text
+pub shown-text : {j : List ℕ} {st : State} (e : Ed) (t : Tape) → Shows j st e t → allText (currentLine e) ≡ true
+unfolding afterOf allText
+shown-text (ed b [] p) t h = refl
+shown-text (ed b (r ∷ a) p) t h = line-text _ (current-good r (h .holds .good .0))
 
-    -- 25
-    pub too-long : 255 - ((c .end - c .start) - n) < m → (size : ℕ) (e : Ed) (t : Tape) → Shows j st e t → LinesAt j st c e
-        → Answered j (Stop 25 st) (within size e (spliced i n (take m new) q e) t)
-    unfolding Answers within spliced retext
-    too-long few size (ed b [] p) t h w = absurd w
-    too-long few size (ed b (r ∷ a) p) t h w =
-        let s : (c .end - c .start) ≤ 255 = text-short (ed b (r ∷ a) p) t h w in
-        rw (lt-leb (length (splice (current r) i n (take m new))) 255 (omega (arith, new-length r w)))
-        (refl, shows-leaves (ed b (r ∷ a) p) t h)
+-- the text that is read is long enough, and no longer than a line can be
+pub text-room : {table j : List ℕ} {st : State} {w : ℕ} (text : List ℕ) → ((e : Ed) (t : Tape) → Shows j st e t → TableOf table e t → text ≡ currentLine e) → HasLine table j st w
+    → (w ≤ length text) × (length text ≤ 255)
+text-room text is (e, t, h) =
+    let l : length text ≡ length (currentLine e) = ap length (is e t (h .text .shows) (h .text .old)) in
+    (omega (arith, l, h .long), omega (arith, l, shown-short e t (h .text .shows)))
 
-    module _ (room : m ≤ 255 - ((c .end - c .start) - n)) (d line : List ℕ) (len : ℕ) (long : len ≡ ((c .end - c .start) - n) + m)
-        (is : line ≡ written d (splice (part j (c .start) (c .end)) i n (take m new))) where
-      new-text : (r : Record) → LinesOf j st c r → take len line ≡ splice (current r) i n (take m new)
-      new-text r w =
-          rw (is, w .text) (first-written d (splice (current r) i n (take m new)) len (new-length r w ∙ sym long))
+module _ (table j : List ℕ) (st : State) (i n : ℕ) (new d : List ℕ) (text : List ℕ) (is : (e : Ed) (t : Tape) → Shows j st e t → TableOf table e t → text ≡ currentLine e)
+    (m : ℕ) (have : m ≤ length new) (len : ℕ) (size : len ≡ length text - n + m) where
+  spliced-long : (e : Ed) (t : Tape) → AtLine table j st (i + n) e t → len ≡ length (splice (currentLine e) i n (take m new))
+  spliced-long e t w =
+      omega (arith, splice-length (currentLine e) i n (take m new) (w .long), length-take-le m new have, size, ap length (is e t (w .text .shows) (w .text .old)))
 
-      pub new-line : allText (take m new) ≡ true → (e : Ed) (t : Tape) → Shows j st e t → LinesAt j st c e → isLine (take len line) ≡ true
-      new-line fine (ed b [] p) t h w = absurd w
-      new-line fine (ed b (r ∷ a) p) t h w =
-          let s : (c .end - c .start) ≤ 255 = text-short (ed b (r ∷ a) p) t h w in
-          rw (new-text r w)
-          (line-of (splice (current r) i n (take m new))
-          (splice-text (current r) i n (take m new) (is-text (current r) (current-good r (h .holds .good .0))) fine) (omega (arith, new-length r w)))
+  -- it is too long: nothing is written
+  pub splices-none : 255 < len → Splices table j st i n (take m new) d d len
+  splices-none long e t w =
+      let s : len ≡ length (splice (currentLine e) i n (take m new)) = spliced-long e t w in
+      (s, rw (lt-leb (length (splice (currentLine e) i n (take m new))) 255 (omega (arith, s, long))))
 
-      pub new-written : (k : List ℕ) (size : ℕ) (x : Moved)
-          → ((e : Ed) (t : Tape) → Shows j st e t → LinesAt j st c e → Answered k x (within size e (retexted (take len line) q e) t))
-          → (e : Ed) (t : Tape) → Shows j st e t → LinesAt j st c e → Answered k x (within size e (spliced i n (take m new) q e) t)
-      unfolding spliced retext retexted
-      new-written k size x did (ed b [] p) t h w = absurd w
-      new-written k size x did (ed b (r ∷ a) p) t h w =
-          let s : (c .end - c .start) ≤ 255 = text-short (ed b (r ∷ a) p) t h w in
-          rw (le-leb (length (splice (current r) i n (take m new))) 255 (omega (arith, new-length r w)), ← new-text r w) (did (ed b (r ∷ a) p) t h w)
+  pub splices-on : len ≤ 255 → (k : List ℕ) → k ≡ written d (splice text i n (take m new)) → Splices table j st i n (take m new) d k len
+  splices-on short k built e t w =
+      let s : len ≡ length (splice (currentLine e) i n (take m new)) = spliced-long e t w in
+      (s, rw (le-leb (length (splice (currentLine e) i n (take m new))) 255 (omega (arith, s, short)), ← is e t (w .text .shows) (w .text .old)) built)
+
+-- ---- what `splice_current` does
+
+module _ (table j : List ℕ) (st : State) (i n : ℕ) (new d line : List ℕ) (len : ℕ) (did : Splices table j st i n new d line len) where
+  pub writes-none : (q : ℕ) → 255 < len → Writes table j st (i + n) (λ l. splice l i n new) q j (Stop 25 st)
+  writes-none q long e c t w =
+      write-long (lent j) c (splice (currentLine e) i n new) q e t j st (omega (arith, did e t w .0, long)) (w .text .shows)
+
+  module _ (short : len ≤ 255) where
+    new-text : (e : Ed) (t : Tape) → AtLine table j st (i + n) e t → take len line ≡ splice (currentLine e) i n new
+    new-text e t w =
+        let l : Line = splice (currentLine e) i n new in
+        let s : len ≡ length l = did e t w .0 in
+        let fits : length l ≤ 255 = omega (arith, s, short) in
+        let is : line ≡ written d l = rw (le-leb (length l) 255 fits) at (did e t w .1) in
+        ap (take len) is ∙ first-written d l len (sym s)
+
+    pub new-line : allText new ≡ true → HasLine table j st (i + n) → isLine (take len line) ≡ true
+    new-line fine (e, t, w) =
+        rw (new-text e t w)
+        (line-of (splice (currentLine e) i n new) (splice-text (currentLine e) i n new (shown-text e t (w .text .shows)) fine) (omega (arith, did e t w .0, short)))
+
+    pub writes-on : (k : List ℕ) (q : ℕ) (m : Moved) → Rewrites j st (take len line) q k m → Writes table j st (i + n) (λ l. splice l i n new) q k m
+    writes-on k q m puts e c t w =
+        rw (write-on (lent j) c (splice (currentLine e) i n new) q e t (omega (arith, did e t w .0, short)), ← new-text e t w) (puts e c t (w .text .shows))

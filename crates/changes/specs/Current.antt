@@ -1,19 +1,33 @@
--- Where the current line's text stands in the journal buffer, and what the commands that change it come to. Assumes nothing.
+-- What the functions promise that look at the current line, write its record anew, and do the commands. Assumes nothing.
 use mathlib.Core.Path.{_≡_}
-use mathlib.Core.Bool.{Bool}
+use mathlib.Core.Bool.{Bool, true, cond}
 use mathlib.Core.List.{List, [], _∷_, _++_, reverseAux}
 use Prim.Native.Nat.{ℕ, zero, suc, _+_, _-_, _≤_, _<_}
-use lib.ListN.{length, take, drop}
-use Rattle.definitions.specs.Bytes.{Line}
-use Rattle.definitions.specs.Journal.{Record, kept, changed, deleted, inserted, rewrite, journalLength}
-use Rattle.definitions.specs.Editor.{Ed, ed, Out, edited, halt, current}
-use Rattle.definitions.specs.Edit.{Change, afterIt, beforeIt, exchange, splice, retext, altered, alteredPoint}
+use lib.ListN.{length, take, drop, getD}
+use lib.Dec.{leb}
+use Rattle.definitions.specs.Bytes.{Line, allText}
+use Rattle.definitions.specs.Journal.{Record, kept, changed, deleted, inserted, oldOf, rewrite, journalLength}
+use Rattle.definitions.specs.Tape.{Tape}
+use Rattle.definitions.specs.Given.{Carried}
+use Rattle.definitions.specs.Editor.{Ed, isLive, n20, stopNumber, retext}
+use Rattle.definitions.specs.Editor.{Stop as StopNumber}
+use Rattle.definitions.specs.Reading.{Ran, gave, stopped}
+use Rattle.definitions.specs.StepProgram.{Program, gives, _>>=_, runs, state, changes, perform}
+use Rattle.definitions.specs.Matching.{Qualified, qualified}
+use Rattle.definitions.specs.Edit.{Op, Change, afterIt, beforeIt, exchange, splice, altered, alteredPoint, lineOr, placeOr24, byteHere, write, step}
+use Rattle.matching.specs.Quals.{qualifiersOf}
+use Rattle.matching.specs.declared.Quals.{Quals}
 use Rattle.editor.specs.declared.State.{State}
 use Rattle.editor.specs.declared.Moved.{Moved}
 use Rattle.editor.specs.declared.Moved.the-variants.{On, Stop}
-use Rattle.editor.specs.Records.{enc}
-use Rattle.editor.specs.Shows.{Holds}
-use Rattle.changes.specs.declared.Current.{Current}
+use Rattle.editor.specs.Records.{enc, Good}
+use Rattle.editor.specs.Shows.{Holds, Shows, lent, Answered}
+use Rattle.editor.specs.Current.{currentLine, TableOf, Ready}
+use Rattle.changes.specs.declared.look.Byte.{Byte}
+use Rattle.changes.specs.declared.look.Byte.the-variants.{Here, Lacks}
+use Rattle.changes.specs.declared.look.Place.{Place}
+use Rattle.changes.specs.declared.look.Place.the-variants.{At, Nowhere}
+use Rattle.changes.specs.declared.rewrite.Ends.{Ends}
 
 -- the bytes of s from `from` up to `to`
 abbrev pub part : List ℕ → ℕ → ℕ → List ℕ
@@ -23,7 +37,119 @@ part s from to = take (to - from) (drop from s)
 unfoldable pub written : List ℕ → List ℕ → List ℕ
 written d x = x ++ drop (length x) d
 
--- ---- where the lines of the current record stand
+-- ---- the commands' arguments
+
+-- 0: A; 1: B; 2 and more: E
+unfoldable pub changeOf : ℕ → Change
+changeOf zero = afterIt
+changeOf (suc zero) = beforeIt
+changeOf (suc (suc n)) = exchange
+
+-- the qualified string that the script has from `from` to `to`
+abbrev pub sought : Quals → List ℕ → ℕ → ℕ → Qualified
+sought q script from to = qualified (qualifiersOf q) (part script from to)
+
+-- the script has a string from `from` to `to`, and one of text from `start` to `end`
+pub record StringsIn (script : List ℕ) (from to start end : ℕ) : Type 0 where
+  pub first : from ≤ to
+  pub inside : to ≤ length script
+  pub second : start ≤ end
+  pub within : end ≤ length script
+  pub short : length script ≤ 16384
+  pub text : allText (part script start end) ≡ true
+
+-- ---- a whole command of a function that reads the table too
+
+-- the buffer shows the text `e`, the lines of `t` being unread, and its journal is one of this table
+pub record ShowsOf (table j : List ℕ) (st : State) (e : Ed) (t : Tape) : Type 0 where
+  pub shows : Shows j st e t
+  pub old : TableOf table e t
+
+-- it shows some text
+abbrev pub ShownOf : List ℕ → List ℕ → State → Type 0
+ShownOf table j st = (e : Ed) × (t : Tape) × ShowsOf table j st e t
+
+-- with the buffer j and its numbers st before, and the buffer k after, the function that answered r did the command
+abbrev pub PerformsOf : List ℕ → List ℕ → State → Op → List ℕ → Moved → Type 0
+PerformsOf table j st op k r = (e : Ed) (c : Carried) (t : Tape) → ShowsOf table j st e t → Answered k r (step (lent j) op (state e c) t)
+
+-- it shows some text, and p is within the current line
+abbrev pub IsReady : List ℕ → List ℕ → State → Type 0
+IsReady table j st = (e : Ed) × (t : Tape) × Ready table j st e t
+
+-- as `PerformsOf`, where p is within the current line
+abbrev pub PerformsOn : List ℕ → List ℕ → State → Op → List ℕ → Moved → Type 0
+PerformsOn table j st op k r = (e : Ed) (c : Carried) (t : Tape) → Ready table j st e t → Answered k r (step (lent j) op (state e c) t)
+
+-- ---- a look at the current line
+
+-- the byte at p
+unfoldable pub byteAt : Program ℕ
+byteAt = do
+  (l, p) ← byteHere
+  gives (getD l p 0)
+
+-- the place of a string in the line's window
+unfoldable pub placeAt : Qualified → Program ℕ
+placeAt q = do
+  (l, p) ← lineOr n20
+  placeOr24 q l p
+
+-- a part of a step stops with the number m, the text and the tape as they were
+abbrev pub Halts : ℕ → Ed → Tape → Ran ℕ × Tape → Type 0
+Halts m e t x = (n : StopNumber) × (m ≡ stopNumber n) × (x ≡ (stopped n e, t))
+
+-- what `byte_here` answers, and what the look comes to
+unfoldable pub ByteIs : Byte → Ed → Tape → Ran ℕ × Tape → Type 0
+ByteIs (Here b) e t x = x ≡ (gave b e, t)
+ByteIs (Lacks m) e t x = Halts m e t x
+
+-- what `place_here` answers, and what the look comes to
+unfoldable pub PlaceIs : Place → Ed → Tape → Ran ℕ × Tape → Type 0
+PlaceIs (At i) e t x = x ≡ (gave i e, t)
+PlaceIs (Nowhere m) e t x = Halts m e t x
+
+-- the byte at p is r
+abbrev pub Sights : List ℕ → List ℕ → State → Byte → Type 0
+Sights table j st r = (e : Ed) (c : Carried) (t : Tape) → ShowsOf table j st e t → ByteIs r e t (runs (lent j) c byteAt e t)
+
+-- the place of the string q is r
+abbrev pub Finds : List ℕ → List ℕ → State → Qualified → Place → Type 0
+Finds table j st q r = (e : Ed) (c : Carried) (t : Tape) → Ready table j st e t → PlaceIs r e t (runs (lent j) c (placeAt q) e t)
+
+-- ---- the current line with another text
+
+-- a line is current, and it has w bytes at least
+pub record AtLine (table j : List ℕ) (st : State) (w : ℕ) (e : Ed) (t : Tape) : Type 0 where
+  pub text : ShowsOf table j st e t
+  pub more : st .back < length j
+  pub long : w ≤ length (currentLine e)
+
+-- there is such a text
+abbrev pub HasLine : List ℕ → List ℕ → State → ℕ → Type 0
+HasLine table j st w = (e : Ed) × (t : Tape) × AtLine table j st w e t
+
+-- The line with `new` for its n bytes from place i on is r bytes long, and stands at the start of k where a line can be so long; else k is d.
+abbrev pub Splices : List ℕ → List ℕ → State → ℕ → ℕ → Line → List ℕ → List ℕ → ℕ → Type 0
+Splices table j st i n new d k r =
+    (e : Ed) (t : Tape) → AtLine table j st (i + n) e t → let l = splice (currentLine e) i n new in
+    (r ≡ length l) × (k ≡ cond (leb (length l) 255) (written d l) d)
+
+-- the current line's text becomes what f makes of it, and p becomes q: the end of a step
+abbrev pub Writes : List ℕ → List ℕ → State → ℕ → (Line → Line) → ℕ → List ℕ → Moved → Type 0
+Writes table j st w f q k r =
+    (e : Ed) (c : Carried) (t : Tape) → AtLine table j st w e t → Answered k r (perform (lent j) (write (f (currentLine e)) q) (state e c) t)
+
+-- A, B, E, AP, BP, EP where the string of n bytes is found at place i
+abbrev pub Alters : List ℕ → List ℕ → State → ℕ → Bool → ℕ → ℕ → Line → List ℕ → Moved → Type 0
+Alters table j st kind pointing i n new k r =
+    Writes table j st (i + n) (λ l. altered (changeOf kind) l i n new) (alteredPoint (changeOf kind) pointing (st .p) i n (length new)) k r
+
+-- the current line's text becomes `l`, which is no longer than a line can be, and p becomes q
+abbrev pub Rewrites : List ℕ → State → Line → ℕ → List ℕ → Moved → Type 0
+Rewrites j st l q k r = (e : Ed) (c : Carried) (t : Tape) → Shows j st e t → Answered k r (perform (lent j) (gives (changes (retext l q ∷ []))) (state e c) t)
+
+-- ---- the record that is written anew
 
 -- a record's first line: the old one where it is changed
 abbrev pub firstLine : Record → Line
@@ -32,50 +158,46 @@ firstLine (changed o n) = o
 firstLine (deleted l) = l
 firstLine (inserted l) = l
 
--- the current record's lines stand at these places of the buffer
-pub record LinesOf (j : List ℕ) (st : State) (c : Current) (r : Record) : Type 0 where
-  pub text : part j (c .start) (c .end) ≡ current r
-  pub old : part j (st .back + 2) (c .old) ≡ firstLine r
-  pub old-after : st .back + 2 ≤ c .old
-  pub old-inside : c .old ≤ c .end
-  pub ordered : c .start ≤ c .end
-  pub inside : c .end < length j
-  pub ends : suc (c .end) ≡ st .back + length (enc r)
+-- where the first line of the record that starts at `at` ends, and where the record does
+pub record EndsAt (j : List ℕ) (at : ℕ) (c : Ends) (r : Record) : Type 0 where
+  pub first : part j (at + 2) (c .old) ≡ firstLine r
+  pub after : at + 2 ≤ c .old
+  pub inside : c .old < c .end
+  pub ends : c .end ≡ at + length (enc r)
+  pub within : c .end ≤ length j
 
--- a record is current, and its lines stand at these places
-abbrev pub LinesAt : List ℕ → State → Current → Ed → Type 0
-LinesAt j st c (ed before [] p) = ⊥
-LinesAt j st c (ed before (r ∷ after) p) = LinesOf j st c r
+-- the live record that is current, with its ends
+pub record EndsOf (j : List ℕ) (st : State) (c : Ends) (b : List Record) (r : Record) (a : List Record) : Type 0 where
+  pub holds : Holds j st b (r ∷ a)
+  pub live : isLive r ≡ true
+  pub ends : EndsAt j (st .back) c r
 
--- ---- the record that is written anew
+-- there is such a record
+abbrev pub HasEnds : List ℕ → State → Ends → Type 0
+HasEnds j st c = (b : List Record) × (r : Record) × (a : List Record) × EndsOf j st c b r a
+
+-- the current record with the text `l` stands at the start of k, in n bytes
+abbrev pub Builds : List ℕ → State → Ends → Line → List ℕ → List ℕ → ℕ → Type 0
+Builds j st c l d k n =
+    (b : List Record) (r : Record) (a : List Record) → EndsOf j st c b r a → (k ≡ written d (enc (rewrite r l))) × (n ≡ length (enc (rewrite r l)))
+
+-- the first n bytes of rec are a record x that can stand for the current one r, which ends at `end`
+pub record Replacing (j : List ℕ) (st : State) (end : ℕ) (rec : List ℕ) (n : ℕ) (b : List Record) (r : Record) (a : List Record) (x : Record) : Type 0 where
+  pub holds : Holds j st b (r ∷ a)
+  pub ends : end ≡ st .back + length (enc r)
+  pub fits : n ≤ length rec
+  pub is : take n rec ≡ enc x
+  pub good : Good x
+  pub source : oldOf x ≡ oldOf r
 
 -- The record x stands in the place of the current one, p is q; or the journal would exceed its buffer (26), and nothing is changed.
 unfoldable pub Put : List ℕ → List ℕ → State → List Record → Record → List Record → ℕ → Moved → Type 0
 Put j k st before x after q (On s) =
-    Holds k s before (x ∷ after) × (s .furthest ≡ st .furthest) × (s .lines ≡ st .lines) × (s .p ≡ q) × (journalLength (reverseAux before (x ∷ after)) ≤ length j)
+    Holds k s before (x ∷ after) × (s .furthest ≡ st .furthest) × (s .lines ≡ st .lines) × (s .p ≡ q)
 Put j k st before x after q (Stop m s) =
     (m ≡ 26) × (k ≡ j) × (s ≡ st) × (length j < journalLength (reverseAux before (x ∷ after)))
 
--- ---- what the commands come to
-
--- 0: A; 1: B; 2 and more: E
-unfoldable pub changeOf : ℕ → Change
-changeOf zero = afterIt
-changeOf (suc zero) = beforeIt
-changeOf (suc (suc n)) = exchange
-
--- the current line's text becomes `l`, p becomes q
-unfoldable pub retexted : Line → ℕ → Ed → Out
-retexted l q (ed before [] p) = halt 20 (ed before [] p)
-retexted l q (ed before (r ∷ after) p) = edited (ed before (rewrite r l ∷ after) q)
-
--- the current line with `new` for the n bytes from place i, p becomes q; "25 line over 255"
-unfoldable pub spliced : ℕ → ℕ → Line → ℕ → Ed → Out
-spliced i n new q (ed before [] p) = halt 20 (ed before [] p)
-spliced i n new q (ed before (r ∷ after) p) = retext before r after p (splice (current r) i n new) q
-
--- A, B, E, AP, BP, EP where the string of n bytes is found at place i
-unfoldable pub alteredAt : Change → Bool → ℕ → ℕ → Line → Ed → Out
-alteredAt c pointing i n new (ed before [] p) = halt 20 (ed before [] p)
-alteredAt c pointing i n new (ed before (r ∷ after) p) =
-    retext before r after p (altered c (current r) i n new) (alteredPoint c pointing p i n (length new))
+-- the first n bytes of rec stand for the current record, and p becomes q
+abbrev pub Replaces : List ℕ → State → ℕ → List ℕ → ℕ → ℕ → List ℕ → Moved → Type 0
+Replaces j st end rec n q k m =
+    (b : List Record) (r : Record) (a : List Record) (x : Record) → Replacing j st end rec n b r a x → Put j k st b x a q m

@@ -1,82 +1,46 @@
 // The commands that change the current line's text, or p, on the journal buffer.
+mod look;
 mod rewrite;
 
 ghost use mathlib.Core.Path.{_≡_};
 ghost use mathlib.Core.Bool.{true};
-ghost use Prim.Native.Nat.{_+_, _-_, _≤_, _<_};
+ghost use Prim.Native.Nat.{_+_, _≤_};
 ghost use lib.ListN.{length};
 ghost use Rattle.definitions.specs.Bytes.{allText, lower as «lower-of»};
-ghost use Rattle.definitions.specs.Tape.{Tape};
-ghost use Rattle.definitions.specs.Editor.{Ed};
-ghost use Rattle.definitions.specs.Edit.{Op, within, step, alteredPoint};
-ghost use Rattle.definitions.specs.Matching.{qualified, placeOf};
-ghost use Rattle.matching.specs.Quals.{qualifiersOf, foundOf};
-ghost use Rattle.editor.specs.Shows.{Shows, Answered};
-ghost use Rattle.editor.specs.Current.{TableOf, textOf, PointIn};
-ghost use Rattle.changes.specs.Current.{part, LinesAt, changeOf, alteredAt};
+ghost use Rattle.definitions.specs.Edit.{Op, alteredPoint, pointBy as «point-by», cased as «cased-of»};
+ghost use Rattle.editor.specs.Shows.{ShowsText, Performs, atPoint};
+ghost use Rattle.changes.specs.Current.{part, changeOf, sought, StringsIn, ShownOf, PerformsOf, IsReady, PerformsOn, HasLine, Alters};
 use editor::Moved;
 use editor::State;
-use matching::Found;
+use look::Byte;
+use look::Place;
 use matching::Quals;
-use rewrite::splice_current;
 
-// The places of the current record's lines. The first line, the old one of a changed record, ends at old. The text is from start to end.
-pub struct Current {
-    pub old: usize,
-    pub start: usize,
-    pub end: usize,
-}
-
-// Where the current record's lines stand. A 0 stands between those of a changed one.
-pub fn current_text(j: &[u8], st: State) -> Current
-    requires { ⌜ ((e : Ed) × (t : Tape) × Shows (now j) st e t) × (st .back < length (now j)) ⌝ }
-    ensures { λ r. ⌜ ((e : Ed) (t : Tape) → Shows (now (j .entry)) st e t → LinesAt (now (j .entry)) st r e) ⌝ }
+// p becomes q.
+fn point_to(st: State, q: usize) -> Moved
+    ensures { λ r. ⌜ r ≡ Moved.On (atPoint st q) ⌝ }
 {
-    let at = st.back;
-    let x = editor::walk::line_text(j, st);
-    let start = x.from;
-    let end = start + x.n;
-    if j[at] != 60 {
-        return Current {
-            old: end,
-            start,
-            end,
-        };
-    }
-    Current {
-        old: start - 1,
-        start,
-        end,
-    }
-}
-
-// Where the string occurs in the current line's window. Until the line's first change it is the table that is looked at.
-fn find_current<'a>(table: &'a [u8], j: &'a [u8], st: State, q: Quals, s: &[u8]) -> Found
-    requires { ⌜ ((e : Ed) × (t : Tape) × Shows (now j) st e t × TableOf (now table) e t × PointIn e) × (st .back < length (now j)) ⌝ }
-    ensures { λ r. ⌜ ((e : Ed) (t : Tape) → Shows (now (j .entry)) st e t → TableOf (now (table .entry)) e t → foundOf r ≡ placeOf (qualified (qualifiersOf q) (now (s .entry))) (st .p) (textOf e)) ⌝ }
-{
-    let line = editor::current::current_line(table, j, st);
-    matching::find(line, st.p, q, s)
+    let mut s = st;
+    s.p = q;
+    Moved::On(s)
 }
 
 // PR: p = 0.
 pub fn point_start(j: &[u8], st: State) -> Moved
-    requires { ⌜ ((e : Ed) × (t : Tape) × Shows (now j) st e t) ⌝ }
-    ensures { λ r. ⌜ ((e : Ed) (t : Tape) → Shows (now (j .entry)) st e t → Answered (now (j .entry)) r (step (length (now (j .entry))) Op.pointStart e t)) ⌝ }
+    requires { ⌜ ShowsText (now j) st ⌝ }
+    ensures { λ r. ⌜ Performs (now (j .entry)) st Op.pointStart (now (j .entry)) r ⌝ }
 {
     let at = st.back;
     if at >= j.len() {
         return Moved::Stop(20, st);
     }
-    let mut s = st;
-    s.p = 0;
-    Moved::On(s)
+    point_to(st, 0)
 }
 
 // <: p one to the left.
 pub fn left(j: &[u8], st: State) -> Moved
-    requires { ⌜ ((e : Ed) × (t : Tape) × Shows (now j) st e t) ⌝ }
-    ensures { λ r. ⌜ ((e : Ed) (t : Tape) → Shows (now (j .entry)) st e t → Answered (now (j .entry)) r (step (length (now (j .entry))) Op.left e t)) ⌝ }
+    requires { ⌜ ShowsText (now j) st ⌝ }
+    ensures { λ r. ⌜ Performs (now (j .entry)) st Op.left (now (j .entry)) r ⌝ }
 {
     let at = st.back;
     if at >= j.len() {
@@ -85,27 +49,30 @@ pub fn left(j: &[u8], st: State) -> Moved
     if st.p == 0 {
         return Moved::Stop(27, st);
     }
-    let mut s = st;
-    s.p = st.p - 1;
-    Moved::On(s)
+    point_to(st, st.p - 1)
 }
 
 // >: p one to the right.
-pub fn right(j: &[u8], st: State) -> Moved
-    requires { ⌜ ((e : Ed) × (t : Tape) × Shows (now j) st e t) ⌝ }
-    ensures { λ r. ⌜ ((e : Ed) (t : Tape) → Shows (now (j .entry)) st e t → Answered (now (j .entry)) r (step (length (now (j .entry))) Op.right e t)) ⌝ }
+pub fn right<'a>(table: &'a [u8], j: &'a [u8], st: State) -> Moved
+    requires { ⌜ ShownOf (now table) (now j) st ⌝ }
+    ensures { λ r. ⌜ PerformsOf (now (table .entry)) (now (j .entry)) st Op.right (now (j .entry)) r ⌝ }
 {
-    let at = st.back;
-    if at >= j.len() {
-        return Moved::Stop(20, st);
+    let b = look::byte_here(table, j, st);
+    match b {
+        Byte::Lacks(n) => Moved::Stop(n, st),
+        Byte::Here(_) => point_to(st, st.p + 1),
     }
-    let c = current_text(j, st);
-    if st.p >= c.end - c.start {
-        return Moved::Stop(27, st);
+}
+
+// Where p stands after a string of n bytes at place i, or before it.
+fn point_by(after: bool, i: usize, n: usize) -> usize
+    requires { ⌜ i + n ≤ 255 ⌝ }
+    ensures { λ r. ⌜ r ≡ «point-by» after i n ⌝ }
+{
+    if after {
+        return i + n;
     }
-    let mut s = st;
-    s.p = st.p + 1;
-    Moved::On(s)
+    i
 }
 
 // PA (after), PB: p after or before the string.
@@ -119,40 +86,26 @@ pub fn point<'a>(
     from: usize,
     to: usize,
 ) -> Moved
-    requires { ⌜ ((e : Ed) × (t : Tape) × Shows (now j) st e t × TableOf (now table) e t × PointIn e) × (from ≤ to) × (to ≤ length (now script)) ⌝ }
-    ensures { λ r. ⌜ ((e : Ed) (t : Tape) → Shows (now (j .entry)) st e t → TableOf (now (table .entry)) e t → PointIn e → Answered (now (j .entry)) r (step (length (now (j .entry))) (Op.point after (qualified (qualifiersOf q) (part (now (script .entry)) from to))) e t)) ⌝ }
+    requires { ⌜ IsReady (now table) (now j) st × (from ≤ to) × (to ≤ length (now script)) ⌝ }
+    ensures { λ r. ⌜ PerformsOn (now (table .entry)) (now (j .entry)) st (Op.point after (sought q (now (script .entry)) from to)) (now (j .entry)) r ⌝ }
 {
-    let at = st.back;
-    if at >= j.len() {
-        return Moved::Stop(20, st);
+    let place = look::place_here(table, j, st, q, script, from, to);
+    match place {
+        Place::Nowhere(n) => Moved::Stop(n, st),
+        Place::At(i) => point_to(st, point_by(after, i, to - from)),
     }
-    let found = find_current(table, j, st, q, &script[from..to]);
-    let Found::At(i) = found else {
-        return Moved::Stop(24, st);
-    };
-    let mut s = st;
-    s.p = i;
-    if after {
-        s.p = i + (to - from);
-    }
-    Moved::On(s)
 }
 
 // #: the byte at p is deleted.
-pub fn cut_byte(j: &mut [u8], st: State) -> Moved
-    requires { ⌜ ((e : Ed) × (t : Tape) × Shows (now j) st e t) ⌝ }
-    ensures { λ r. ⌜ ((e : Ed) (t : Tape) → Shows (now (j .entry)) st e t → Answered (now (j .exit)) r (step (length (now (j .entry))) Op.cutByte e t)) ⌝ }
+pub fn cut_byte(table: &[u8], j: &mut [u8], st: State) -> Moved
+    requires { ⌜ ShownOf (now table) (now j) st ⌝ }
+    ensures { λ r. ⌜ PerformsOf (now (table .entry)) (now (j .entry)) st Op.cutByte (now (j .exit)) r ⌝ }
 {
-    let at = st.back;
-    if at >= j.len() {
-        return Moved::Stop(20, st);
+    let b = look::byte_here(table, j, st);
+    match b {
+        Byte::Lacks(n) => Moved::Stop(n, st),
+        Byte::Here(x) => rewrite::splice_current(table, j, st, st.p, 1, &[x], 0, st.p),
     }
-    let c = current_text(j, st);
-    if st.p >= c.end - c.start {
-        return Moved::Stop(27, st);
-    }
-    let new = [0u8; 1];
-    splice_current(j, st, c, st.p, 1, &new, 0, st.p)
 }
 
 // A to Z become a to z.
@@ -168,27 +121,28 @@ fn lower(b: u8) -> u8
     b + 32
 }
 
-// % (up), $: the byte at p in upper or lower case, and p one to the right.
-pub fn recase(j: &mut [u8], st: State, up: bool) -> Moved
-    requires { ⌜ ((e : Ed) × (t : Tape) × Shows (now j) st e t) ⌝ }
-    ensures { λ r. ⌜ ((e : Ed) (t : Tape) → Shows (now (j .entry)) st e t → Answered (now (j .exit)) r (step (length (now (j .entry))) (Op.recase up) e t)) ⌝ }
+// A byte in upper case (up), or lower case.
+fn cased(up: bool, b: u8) -> u8
+    ensures { λ r. ⌜ r ≡ «cased-of» up b ⌝ }
 {
-    let at = st.back;
-    if at >= j.len() {
-        return Moved::Stop(20, st);
-    }
-    let c = current_text(j, st);
-    if st.p >= c.end - c.start {
-        return Moved::Stop(27, st);
-    }
-    let k = c.start + st.p;
-    let b = j[k];
     if up {
-        let big = [text::upper(b)];
-        return splice_current(j, st, c, st.p, 1, &big, 1, st.p + 1);
+        return text::upper(b);
     }
-    let small = [lower(b)];
-    splice_current(j, st, c, st.p, 1, &small, 1, st.p + 1)
+    lower(b)
+}
+
+// % (up), $: the byte at p in upper or lower case, and p one to the right.
+pub fn recase(table: &[u8], j: &mut [u8], st: State, up: bool) -> Moved
+    requires { ⌜ ShownOf (now table) (now j) st ⌝ }
+    ensures { λ r. ⌜ PerformsOf (now (table .entry)) (now (j .entry)) st (Op.recase up) (now (j .exit)) r ⌝ }
+{
+    let b = look::byte_here(table, j, st);
+    match b {
+        Byte::Lacks(n) => Moved::Stop(n, st),
+        Byte::Here(x) => {
+            rewrite::splice_current(table, j, st, st.p, 1, &[cased(up, x)], 1, st.p + 1)
+        }
+    }
 }
 
 // Where p stands after a change: at a place i a string of n bytes was found, and m bytes come in.
@@ -207,27 +161,27 @@ fn point_after(kind: u8, pointing: bool, p: usize, i: usize, n: usize, m: usize)
 
 // A, B or E where the string of n bytes is found at place i of the current line.
 fn alter_at(
+    table: &[u8],
     j: &mut [u8],
     st: State,
-    c: Current,
     kind: u8,
     pointing: bool,
     i: usize,
     n: usize,
     new: &[u8],
 ) -> Moved
-    requires { ⌜ ((e : Ed) × (t : Tape) × Shows (now j) st e t × LinesAt (now j) st c e) × (i + n ≤ c .end - c .start) × (length (now new) ≤ 16384) × (allText (now new) ≡ true) ⌝ }
-    ensures { λ r. ⌜ ((e : Ed) (t : Tape) → Shows (now (j .entry)) st e t → LinesAt (now (j .entry)) st c e → Answered (now (j .exit)) r (within (length (now (j .entry))) e (alteredAt (changeOf kind) pointing i n (now (new .entry)) e) t)) ⌝ }
+    requires { ⌜ HasLine (now table) (now j) st (i + n) × (length (now new) ≤ 16384) × (allText (now new) ≡ true) ⌝ }
+    ensures { λ r. ⌜ Alters (now (table .entry)) (now (j .entry)) st kind pointing i n (now (new .entry)) (now (j .exit)) r ⌝ }
 {
     let m = new.len();
     let q = point_after(kind, pointing, st.p, i, n, m);
     if kind == 0 {
-        return splice_current(j, st, c, i + n, 0, new, m, q);
+        return rewrite::splice_current(table, j, st, i + n, 0, new, m, q);
     }
     if kind == 1 {
-        return splice_current(j, st, c, i, 0, new, m, q);
+        return rewrite::splice_current(table, j, st, i, 0, new, m, q);
     }
-    splice_current(j, st, c, i, n, new, m, q)
+    rewrite::splice_current(table, j, st, i, n, new, m, q)
 }
 
 // A, B, E; with pointing AP, BP, EP. kind: 0 for A, 1 for B, 2 for E.
@@ -244,17 +198,23 @@ pub fn alter(
     start: usize,
     end: usize,
 ) -> Moved
-    requires { ⌜ ((e : Ed) × (t : Tape) × Shows (now j) st e t × TableOf (now table) e t × PointIn e) × (from ≤ to) × (to ≤ length (now script)) × (start ≤ end) × (end ≤ length (now script)) × (length (now script) ≤ 16384) × (allText (part (now script) start end) ≡ true) ⌝ }
-    ensures { λ r. ⌜ ((e : Ed) (t : Tape) → Shows (now (j .entry)) st e t → TableOf (now (table .entry)) e t → PointIn e → Answered (now (j .exit)) r (step (length (now (j .entry))) (Op.alter (changeOf kind) pointing (qualified (qualifiersOf q) (part (now (script .entry)) from to)) (part (now (script .entry)) start end)) e t)) ⌝ }
+    requires { ⌜ IsReady (now table) (now j) st × StringsIn (now script) from to start end ⌝ }
+    ensures { λ r. ⌜ PerformsOn (now (table .entry)) (now (j .entry)) st (Op.alter (changeOf kind) pointing (sought q (now (script .entry)) from to) (part (now (script .entry)) start end)) (now (j .exit)) r ⌝ }
 {
-    let at = st.back;
-    if at >= j.len() {
-        return Moved::Stop(20, st);
+    let place = look::place_here(table, j, st, q, script, from, to);
+    match place {
+        Place::Nowhere(n) => Moved::Stop(n, st),
+        Place::At(i) => {
+            alter_at(
+                table,
+                j,
+                st,
+                kind,
+                pointing,
+                i,
+                to - from,
+                &script[start..end],
+            )
+        }
     }
-    let found = find_current(table, j, st, q, &script[from..to]);
-    let Found::At(i) = found else {
-        return Moved::Stop(24, st);
-    };
-    let c = current_text(j, st);
-    alter_at(j, st, c, kind, pointing, i, to - from, &script[start..end])
 }

@@ -2,19 +2,41 @@
 ghost use mathlib.Core.Path.{_≡_};
 ghost use mathlib.Core.Bool.{true};
 ghost use mathlib.Core.List.{List, [], _∷_, _++_};
-ghost use Prim.Native.Nat.{_+_, _-_, _≤_, _<_};
+ghost use Prim.Native.Nat.{_+_, _≤_, _<_};
 ghost use lib.ListN.{length, take, drop, set};
 ghost use Rattle.definitions.specs.Bytes.{eqLine, isLine, allText};
-ghost use Rattle.definitions.specs.Journal.{Record, oldOf};
-ghost use Rattle.definitions.specs.Tape.{Tape};
-ghost use Rattle.definitions.specs.Editor.{Ed};
-ghost use Rattle.definitions.specs.Edit.{within, splice};
-ghost use Rattle.editor.specs.Records.{enc, Good};
-ghost use Rattle.editor.specs.Shows.{Holds, Shows, Answered};
-ghost use Rattle.changes.specs.Current.{part, LinesAt, written, Put, retexted, spliced};
-use super::Current;
+ghost use Rattle.definitions.specs.Journal.{Record};
+ghost use Rattle.definitions.specs.Edit.{splice};
+ghost use Rattle.editor.specs.Shows.{Holds, ShowsText};
+ghost use Rattle.changes.specs.Current.{part, written, EndsAt, HasEnds, Builds, Replaces, Replacing, Rewrites, HasLine, Writes};
 use editor::Moved;
 use editor::State;
+
+// Where the first line of the current record ends, the old one where it is changed; and where the record does.
+struct Ends {
+    old: usize,
+    end: usize,
+}
+
+// A 0 stands between the two lines of a changed record.
+fn record_ends(j: &[u8], st: State) -> Ends
+    requires { ⌜ ((b : List Record) × (r : Record) × (a : List Record) × Holds (now j) st b (r ∷ a)) ⌝ }
+    ensures { λ c. ⌜ ((b : List Record) (r : Record) (a : List Record) → Holds (now (j .entry)) st b (r ∷ a) → EndsAt (now (j .entry)) (st .back) c r) ⌝ }
+{
+    let at = st.back;
+    let x = editor::walk::line_text(j, st);
+    let end = x.from + x.n;
+    if j[at] == 60 {
+        return Ends {
+            old: x.from - 1,
+            end: end + 1,
+        };
+    }
+    Ends {
+        old: end,
+        end: end + 1,
+    }
+}
 
 // Are the bytes of j from `from` to `to` the first len bytes of line.
 fn is_same(j: &[u8], from: usize, to: usize, line: &[u8], len: usize) -> bool
@@ -56,10 +78,31 @@ fn changed_record(rec: &mut [u8], j: &[u8], from: usize, n: usize, line: &[u8], 
     put_byte(rec, n + len + 3, 10);
 }
 
+// The current record with the first len bytes of line for its text: its length is handed back.
+fn build_record(rec: &mut [u8], j: &[u8], st: State, c: Ends, line: &[u8], len: usize) -> usize
+    requires { ⌜ HasEnds (now j) st c × (514 ≤ length (now rec)) × (len ≤ length (now line)) × (isLine (take len (now line)) ≡ true) ⌝ }
+    ensures { λ n. ⌜ Builds (now (j .entry)) st c (take len (now (line .entry))) (now (rec .entry)) (now (rec .exit)) n ⌝ }
+{
+    let at = st.back;
+    if j[at] == 43 {
+        plain_record(rec, 43, line, len);
+        return len + 3;
+    }
+    let from = at + 2;
+    let old = c.old;
+    if is_same(j, from, old, line, len) {
+        plain_record(rec, 61, line, len);
+        return len + 3;
+    }
+    let n = old - from;
+    changed_record(rec, j, from, n, line, len);
+    n + len + 4
+}
+
 // The first n bytes of rec stand for the current record, which ends at `end`; p becomes q. 26: the journal would exceed its buffer.
 fn put_record(j: &mut [u8], st: State, end: usize, rec: &[u8], n: usize, q: usize) -> Moved
-    requires { ⌜ ((b : List Record) × (r : Record) × (a : List Record) × Holds (now j) st b (r ∷ a) × (end ≡ st .back + length (enc r))) × (n ≤ length (now rec)) ⌝ }
-    ensures { λ m. ⌜ ((b : List Record) (r : Record) (a : List Record) (x : Record) → Holds (now (j .entry)) st b (r ∷ a) → end ≡ st .back + length (enc r) → take n (now (rec .entry)) ≡ enc x → Good x → oldOf x ≡ oldOf r → Put (now (j .entry)) (now (j .exit)) st b x a q m) ⌝ }
+    requires { ⌜ ((b : List Record) × (r : Record) × (a : List Record) × (x : Record) × Replacing (now j) st end (now rec) n b r a x) ⌝ }
+    ensures { λ m. ⌜ Replaces (now (j .entry)) st end (now (rec .entry)) n q (now (j .exit)) m ⌝ }
 {
     let front = st.front;
     let at = st.back;
@@ -79,76 +122,35 @@ fn put_record(j: &mut [u8], st: State, end: usize, rec: &[u8], n: usize, q: usiz
 }
 
 // The current line's text becomes the first len bytes of line, and p becomes q.
-pub fn rewrite_current(
-    j: &mut [u8],
-    st: State,
-    c: Current,
-    line: &[u8],
-    len: usize,
-    q: usize,
-) -> Moved
-    requires { ⌜ ((e : Ed) × (t : Tape) × Shows (now j) st e t × LinesAt (now j) st c e) × (len ≤ length (now line)) × (isLine (take len (now line)) ≡ true) ⌝ }
-    ensures { λ r. ⌜ ((e : Ed) (t : Tape) → Shows (now (j .entry)) st e t → LinesAt (now (j .entry)) st c e → Answered (now (j .exit)) r (within (length (now (j .entry))) e (retexted (take len (now (line .entry))) q e) t)) ⌝ }
+fn rewrite_current(j: &mut [u8], st: State, line: &[u8], len: usize, q: usize) -> Moved
+    requires { ⌜ ShowsText (now j) st × (st .back < length (now j)) × (len ≤ length (now line)) × (isLine (take len (now line)) ≡ true) ⌝ }
+    ensures { λ r. ⌜ Rewrites (now (j .entry)) st (take len (now (line .entry))) q (now (j .exit)) r ⌝ }
 {
-    let at = st.back;
-    let from = at + 2;
-    let old = c.old;
-    let end = c.end + 1;
+    let c = record_ends(j, st);
+    let end = c.end;
     let mut rec = [0u8; 514];
-    if j[at] == 43 {
-        plain_record(&mut rec, 43, line, len);
-        return put_record(j, st, end, &rec, len + 3, q);
-    }
-    if is_same(j, from, old, line, len) {
-        plain_record(&mut rec, 61, line, len);
-        return put_record(j, st, end, &rec, len + 3, q);
-    }
-    let n = old - from;
-    changed_record(&mut rec, j, from, n, line, len);
-    put_record(j, st, end, &rec, n + len + 4, q)
+    let n = build_record(&mut rec, j, st, c, line, len);
+    put_record(j, st, end, &rec, n, q)
 }
 
-// The bytes of j from `from` to `to`, with the first m of `new` for the n from place i on.
-fn splice_line(
-    line: &mut [u8],
-    j: &[u8],
-    from: usize,
-    to: usize,
-    i: usize,
-    n: usize,
-    new: &[u8],
-    m: usize,
-)
-    requires { ⌜ (from + i + n ≤ to) × (to ≤ length (now j)) × (m ≤ length (now new)) × ((to - from - n) + m ≤ length (now line)) ⌝ }
-    ensures { λ _. ⌜ now (line .exit) ≡ written (now (line .entry)) (splice (part (now (j .entry)) from to) i n (take m (now (new .entry)))) ⌝ }
-{
-    text::copies::copy_in(line, 0, j, from, i);
-    text::copies::copy_in(line, i, new, 0, m);
-    let rest = from + i + n;
-    text::copies::copy_in(line, i + m, j, rest, to - rest);
-}
-
-// The first m bytes of `new` come for the n bytes of the current line from place i on, and p becomes q.
+// The first m bytes of `new` come for the n bytes of the current line from place i on, and p becomes q. 25: the line is over 255.
 pub fn splice_current(
+    table: &[u8],
     j: &mut [u8],
     st: State,
-    c: Current,
     i: usize,
     n: usize,
     new: &[u8],
     m: usize,
     q: usize,
 ) -> Moved
-    requires { ⌜ ((e : Ed) × (t : Tape) × Shows (now j) st e t × LinesAt (now j) st c e) × (i + n ≤ c .end - c .start) × (m ≤ length (now new)) × (allText (take m (now new)) ≡ true) ⌝ }
-    ensures { λ r. ⌜ ((e : Ed) (t : Tape) → Shows (now (j .entry)) st e t → LinesAt (now (j .entry)) st c e → Answered (now (j .exit)) r (within (length (now (j .entry))) e (spliced i n (take m (now (new .entry))) q e) t)) ⌝ }
+    requires { ⌜ HasLine (now table) (now j) st (i + n) × (m ≤ length (now new)) × (m ≤ 16384) × (allText (take m (now new)) ≡ true) ⌝ }
+    ensures { λ r. ⌜ Writes (now (table .entry)) (now (j .entry)) st (i + n) (λ l. splice l i n (take m (now (new .entry)))) q (now (j .exit)) r ⌝ }
 {
-    let from = c.start;
-    let to = c.end;
-    let stay = to - from - n;
-    if 255 - stay < m {
+    let mut line = [0u8; 255];
+    let len = crate::look::splice_text(&mut line, table, j, st, i, n, new, m);
+    if 255 < len {
         return Moved::Stop(25, st);
     }
-    let mut line = [0u8; 255];
-    splice_line(&mut line, j, from, to, i, n, new, m);
-    rewrite_current(j, st, c, &line, stay + m, q)
+    rewrite_current(j, st, &line, len, q)
 }

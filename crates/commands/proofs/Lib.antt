@@ -1,7 +1,4 @@
--- `Says`: what the words of a command say, by the kind of the first one. `Strings`, `Lined`, `Performed`: the commands with strings, with lines, the others.
--- `Goes`: after a command the run is ready for the next one.
-pub mod Says
-pub mod Strings
+-- `Lined`, `Strings`, `Performed`: the commands with lines, with strings, the others.
 pub mod Lined
+pub mod Strings
 pub mod Performed
-pub mod Goes

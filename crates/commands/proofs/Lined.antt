@@ -1,87 +1,127 @@
--- D, R, IS and I: what their words are read as. Assumes nothing.
-use mathlib.Core.Path.{_≡_}
-use mathlib.Core.Bool.{true}
+-- M, D, IS, R and I: what their words are read as. Assumes nothing.
+use mathlib.Core.Path.{_≡_, refl, ap, _∙_}
+use mathlib.Core.Bool.{Bool, true, false}
 use mathlib.Core.Option.{Option, none}
 use mathlib.Core.List.{List, [], _∷_}
-use Prim.Native.Nat.{ℕ, _+_, _%_, _≤_, _<_}
+use Prim.Native.Nat.{ℕ, _+_, _≤_, _<_}
 use native.Mathlib.Omega.{arith}
-use lib.ListN.{length, getD}
+use lib.ListN.{length, take, drop, getD}
+use lib.Dec.{eqb}
+use borrow.Author.Tests.{eqb-true, eqb-false}
 use Rattle.definitions.specs.Bytes.{Line, isLine, linesOf}
 use Rattle.definitions.specs.Tape.{Tape}
-use Rattle.definitions.specs.Editor.{Ed, Target, Through}
+use Rattle.definitions.specs.Given.{Carried}
+use Rattle.definitions.specs.Editor.{Ed, Target, Through, alone, upTo, toEof}
+use Rattle.definitions.specs.StepProgram.{state}
 use Rattle.definitions.specs.Edit.{Op, step}
-use Rattle.theorems.specs.GoodItems.{goodOption}
+use Rattle.theorems.specs.GoodItems.{goodThrough}
 use Rattle.strings.proofs.Lines.{script-short}
-use Rattle.script.specs.Words.{partOf, spotCode, StringIn}
+use Rattle.items.specs.Kinds.{pairShape, fourShape, shapeOf, moveKind, deleteKind, replaceKind}
+use Rattle.items.specs.Words.{kindAt, numberAt, partOf}
+use Rattle.items.specs.Arguments.{stringStart, stringLength, spanFrom, spanThrough}
+use Rattle.items.specs.Simple.{CommandAt}
+use Rattle.items.proofs.Meaning.{SpanRead, throughCode, moving, deleting, stringing, replacing, lining, formOf, Means, pair-left, four-left, meant, meant-as}
+use Rattle.items.proofs.Strings.{string-inside, string-is}
 use Rattle.editor.specs.declared.State.{State}
 use Rattle.editor.specs.declared.Moved.{Moved}
-use Rattle.editor.specs.Shows.{Shows, Answered}
-use Rattle.inserts.specs.Lines.{Insertable}
-use Rattle.inserts.proofs.Codes.{spot-in}
+use Rattle.editor.specs.Records.{LineIn}
+use Rattle.editor.specs.Shows.{lent, Answered, Performs, targetNumbered}
+use Rattle.inserts.specs.Lines.{Insertable, spotOf}
+use Rattle.inserts.proofs.Codes.{target-code, spot-code}
 use Rattle.inserts.proofs.Script.{insertable}
-use Rattle.spans.specs.Spans.{Spans}
-use Rattle.commands.specs.Ready.{throughIn, CommandAt}
-use Rattle.commands.proofs.Says.{kindAt, said, as-delete, as-replace, as-string, as-lines, two-words}
+use Rattle.spans.specs.Spans.{throughOf}
+use Rattle.spans.proofs.Ends.{through-alone, through-all, through-number}
+use Rattle.commands.specs.Performing.{SomeCommand, PerformsLines}
+
+-- the number of a script's `through` stands for it
+through-code : (b : Through) → goodThrough b ≡ true → throughOf (throughCode b) ≡ b
+unfolding throughCode
+through-code alone good = through-alone 0 refl
+through-code (upTo n) good = through-number n good
+through-code toEof good = through-all 65536 refl
 
 module _ (s w : List ℕ) (k kind : ℕ) (is : kind ≡ kindAt w k) where
-  pub two-in : 16 ≤ kind → ((op : Op) × CommandAt s w k op) → k + 1 < length w
-  two-in least (op, h) = omega (arith, two-words s w k (h .end) (kindAt w k) (omega (arith, least, is)) op (said s w k op h), h .inside)
+  -- ---- what the functions ask
 
   -- the string of IS
-  pub string-in : 21 ≤ kind → kind < 22 → ((op : Op) × CommandAt s w k op) → ((l : Line) × StringIn s (getD w (k + 1) 0) l × (isLine l ≡ true)) × (length s ≤ 16384)
-  string-in least less (op, h) = (
-    as-string s w k (h .end) (kindAt w k) (λ o. (l : Line) × StringIn s (getD w (k + 1) 0) l × (isLine l ≡ true)) (omega (arith, least, less, is)) op (said s w k op h)
-        (λ l ends x good. (l, x, good)),
-    script-short s (h .form),
-  )
+  pub string-in : shapeOf kind ≡ pairShape → (kind ≡ moveKind → ⊥) → (kind ≡ deleteKind → ⊥) → (word : ℕ) → word ≡ getD w (k + 1) 0 → (from : ℕ) → from ≡ stringStart word → (n : ℕ) → n ≡ stringLength word
+      → SomeCommand s w k → LineIn s from n
+  unfolding Means
+  string-in shape a b word word-is from from-is n n-is (op, h) = on (pair-left s w k (h .end) kind op shape a b (meant s w k kind is op h))
+    where
+      on : Means s w k (h .end) kind stringing op → (from + n ≤ length s) × (isLine (take n (drop from s)) ≡ true)
+      on (l, e, ends, x, good) =
+          let short = script-short s (h .form) in
+          rw (from-is, n-is, word-is) (string-inside x short, ap isLine (string-is x short) ∙ good)
 
-  -- R and its lines
-  pub replace-in : 19 ≤ kind → kind < 21 → ((op : Op) × CommandAt s w k op) → (k + 3 < length w) × Insertable s (getD w (k + 2) 0) (getD w (k + 3) 0)
-  replace-in least less (op, h) =
-      as-replace s w k (h .end) (kindAt w k) (λ o. (k + 3 < length w) × Insertable s (getD w (k + 2) 0) (getD w (k + 3) 0)) (omega (arith, least, is)) (omega (arith, less, is)) op
-      (said s w k op h)
-      (λ a b ls ends span x good. (omega (arith, ends, h .inside), insertable (h .form) x good))
+  -- R and I: their words, and the lines
+  pub four-in : shapeOf kind ≡ fourShape → SomeCommand s w k → (k + 3 < length w) × Insertable s (getD w (k + 2) 0) (getD w (k + 3) 0)
+  unfolding formOf Means
+  four-in shape (op, h) = on (eqb kind replaceKind) refl
+    where
+      on : (t : Bool) → eqb kind replaceKind ≡ t → (k + 3 < length w) × Insertable s (getD w (k + 2) 0) (getD w (k + 3) 0)
+      on true e = lines (meant-as s w k kind is replacing (ap formOf (eqb-true kind replaceKind e)) op h)
+        where
+          lines : Means s w k (h .end) kind replacing op → (k + 3 < length w) × Insertable s (getD w (k + 2) 0) (getD w (k + 3) 0)
+          lines (a, b, ls, q, ends, span, x, good) = (omega (arith, ends, h .inside), insertable (h .form) x good)
+      on false e = lines (four-left s w k (h .end) kind op shape (eqb-false kind replaceKind e) (meant s w k kind is op h))
+        where
+          lines : Means s w k (h .end) kind lining op → (k + 3 < length w) × Insertable s (getD w (k + 2) 0) (getD w (k + 3) 0)
+          lines (a, ls, q, ends, code, some, x, good) = (omega (arith, ends, h .inside), insertable (h .form) x good)
 
-  -- I, where it goes and its lines
-  pub lines-in : 22 ≤ kind → kind < 24 → ((op : Op) × CommandAt s w k op)
-      → (k + 3 < length w) × Insertable s (getD w (k + 2) 0) (getD w (k + 3) 0) × (getD w (k + 1) 0 ≤ 65537)
-  lines-in least less (op, h) =
-      as-lines s w k (h .end) (kindAt w k) (λ o. (k + 3 < length w) × Insertable s (getD w (k + 2) 0) (getD w (k + 3) 0) × (getD w (k + 1) 0 ≤ 65537)) (omega (arith, least, is))
-      (omega (arith, less, is)) op (said s w k op h)
-      (λ a ls ends code good x all. (
-        omega (arith, ends, h .inside),
-        insertable (h .form) x all,
-        omega (arith, code, spot-in a good),
-      ))
+  -- ---- what they answer
 
-  module _ (j : List ℕ) (st : State) (b : List ℕ) (r : Moved) (size : ℕ) where
-    module _ (through : ℕ) (through-is : through ≡ throughIn kind (getD w (k + 1) 0)) where
-      pub deletes-as : 17 ≤ kind → kind < 19
-          → ((e : Ed) (t : Tape) (a : Target) (c : Through) → Shows j st e t → Spans (getD w (k + 1) 0 % 65536) through a c → Answered b r (step size (Op.delete a c) e t))
-          → (op : Op) (e : Ed) (t : Tape) → CommandAt s w k op → Shows j st e t → Answered b r (step size op e t)
-      deletes-as least less does op e t h shows =
-          as-delete s w k (h .end) (kindAt w k) (λ o. Answered b r (step size o e t)) (omega (arith, least, is)) (omega (arith, less, is)) op (said s w k op h)
-          (λ a c ends span. does e t a c shows (rw (through-is, is) span))
+  module _ (j : List ℕ) (st : State) (b : List ℕ) (r : Moved) where
+    pub moves-as : kind ≡ moveKind → Performs j st (Op.move (targetNumbered (getD w (k + 1) 0))) b r → PerformsLines s w k j st b r
+    unfolding formOf Means
+    moves-as sole does op e c t h shows = on (meant-as s w k kind is moving (ap formOf sole) op h)
+      where
+        on : Means s w k (h .end) kind moving op → Answered b r (step (lent j) op (state e c) t)
+        on (a, q, ends, code, good) =
+            let stands : targetNumbered (getD w (k + 1) 0) ≡ a = ap targetNumbered code ∙ target-code a good in
+            rw q (rw stands at (does e c t shows))
 
-      pub replaces-as : 19 ≤ kind → kind < 21
-          → ((e : Ed) (t : Tape) (a : Target) (c : Through) → Shows j st e t → Spans (getD w (k + 1) 0 % 65536) through a c
-          → Answered b r (step size (Op.replace a c (linesOf (partOf s (getD w (k + 2) 0) (getD w (k + 3) 0)))) e t))
-          → (op : Op) (e : Ed) (t : Tape) → CommandAt s w k op → Shows j st e t → Answered b r (step size op e t)
-      replaces-as least less does op e t h shows =
-          as-replace s w k (h .end) (kindAt w k) (λ o. Answered b r (step size o e t)) (omega (arith, least, is)) (omega (arith, less, is)) op (said s w k op h)
-          (λ a c ls ends span x good. rw (x .is) (does e t a c shows (rw (through-is, is) span)))
+    pub string-as : shapeOf kind ≡ pairShape → (kind ≡ moveKind → ⊥) → (kind ≡ deleteKind → ⊥) → (from : ℕ) → from ≡ stringStart (getD w (k + 1) 0) → (n : ℕ) → n ≡ stringLength (getD w (k + 1) 0)
+        → Performs j st (Op.insert none (take n (drop from s) ∷ [])) b r → PerformsLines s w k j st b r
+    unfolding Means
+    string-as shape no-move no-delete from from-is n n-is does op e c t h shows = on (pair-left s w k (h .end) kind op shape no-move no-delete (meant s w k kind is op h))
+      where
+        line-is : (l : Line) → take (stringLength (getD w (k + 1) 0)) (drop (stringStart (getD w (k + 1) 0)) s) ≡ l → take n (drop from s) ≡ l
+        line-is l x = rw (from-is, n-is) x
 
-    pub string-as : 21 ≤ kind → kind < 22
-        → ((e : Ed) (t : Tape) → Shows j st e t → (l : Line) → StringIn s (getD w (k + 1) 0) l → Answered b r (step size (Op.insert none (l ∷ [])) e t))
-        → (op : Op) (e : Ed) (t : Tape) → CommandAt s w k op → Shows j st e t → Answered b r (step size op e t)
-    string-as least less does op e t h shows =
-        as-string s w k (h .end) (kindAt w k) (λ o. Answered b r (step size o e t)) (omega (arith, least, less, is)) op (said s w k op h)
-        (λ l ends x good. does e t shows l x)
+        on : Means s w k (h .end) kind stringing op → Answered b r (step (lent j) op (state e c) t)
+        on (l, q, ends, x, good) = rw (q, ← line-is l (string-is x (script-short s (h .form)))) (does e c t shows)
 
-    pub lines-as : 22 ≤ kind → kind < 24
-        → ((e : Ed) (t : Tape) → Shows j st e t → (a : Option Target) → getD w (k + 1) 0 ≡ spotCode a → goodOption a ≡ true
-        → Answered b r (step size (Op.insert a (linesOf (partOf s (getD w (k + 2) 0) (getD w (k + 3) 0)))) e t))
-        → (op : Op) (e : Ed) (t : Tape) → CommandAt s w k op → Shows j st e t → Answered b r (step size op e t)
-    lines-as least less does op e t h shows =
-        as-lines s w k (h .end) (kindAt w k) (λ o. Answered b r (step size o e t)) (omega (arith, least, is)) (omega (arith, less, is)) op (said s w k op h)
-        (λ a ls ends code good x all. rw (x .is) (does e t shows a code good))
+    module _ (from through n : ℕ) (from-is : from ≡ spanFrom (getD w (k + 1) 0)) (n-is : n ≡ numberAt w k) (through-is : through ≡ spanThrough n (getD w (k + 1) 0)) where
+      starts-as : (a : Target) (b′ : Through) → SpanRead w k a b′ → targetNumbered from ≡ a
+      starts-as a b′ x = ap targetNumbered (from-is ∙ x .from) ∙ target-code a (x .good-from)
+
+      goes-as : (a : Target) (b′ : Through) → SpanRead w k a b′ → throughOf through ≡ b′
+      goes-as a b′ x =
+          let far : through ≡ throughCode b′ = through-is ∙ ap (λ (i : ℕ). spanThrough i (getD w (k + 1) 0)) n-is ∙ x .through in
+          ap throughOf far ∙ through-code b′ (x .good-through)
+
+      pub deletes-as : kind ≡ deleteKind → Performs j st (Op.delete (targetNumbered from) (throughOf through)) b r → PerformsLines s w k j st b r
+      unfolding formOf Means
+      deletes-as sole does op e c t h shows = on (meant-as s w k kind is deleting (ap formOf sole) op h)
+        where
+          on : Means s w k (h .end) kind deleting op → Answered b r (step (lent j) op (state e c) t)
+          on (a, b′, q, ends, span) = rw q (rw (starts-as a b′ span, goes-as a b′ span) at (does e c t shows))
+
+      pub replaces-as : kind ≡ replaceKind → Performs j st (Op.replace (targetNumbered from) (throughOf through) (linesOf (partOf s (getD w (k + 2) 0) (getD w (k + 3) 0)))) b r
+          → PerformsLines s w k j st b r
+      unfolding formOf Means
+      replaces-as sole does op e c t h shows = on (meant-as s w k kind is replacing (ap formOf sole) op h)
+        where
+          on : Means s w k (h .end) kind replacing op → Answered b r (step (lent j) op (state e c) t)
+          on (a, b′, ls, q, ends, span, x, good) = rw (q, x .is) (rw (starts-as a b′ span, goes-as a b′ span) at (does e c t shows))
+
+    pub lines-as : shapeOf kind ≡ fourShape → (kind ≡ replaceKind → ⊥)
+        → Performs j st (Op.insert (spotOf (getD w (k + 1) 0)) (linesOf (partOf s (getD w (k + 2) 0) (getD w (k + 3) 0)))) b r → PerformsLines s w k j st b r
+    unfolding Means
+    lines-as shape other does op e c t h shows = on (four-left s w k (h .end) kind op shape other (meant s w k kind is op h))
+      where
+        on : Means s w k (h .end) kind lining op → Answered b r (step (lent j) op (state e c) t)
+        on (a, ls, q, ends, code, some, x, good) =
+            let stands : spotOf (getD w (k + 1) 0) ≡ a = ap spotOf code ∙ spot-code a some in
+            rw (q, x .is) (rw stands at (does e c t shows))

@@ -1,60 +1,56 @@
--- The commands of one word, and M, by their kinds. Assumes nothing.
-use mathlib.Core.Path.{_≡_, refl}
-use mathlib.Core.Bool.{true}
+-- The commands of one word, by their kinds; what is left is a change. Assumes nothing.
+use mathlib.Core.Path.{_≡_, refl, _∙_}
 use mathlib.Core.List.{List}
-use Prim.Native.Nat.{ℕ, _+_, _≤_, _<_}
-use native.Mathlib.Omega.{arith}
-use lib.ListN.{length, getD}
-use Rattle.definitions.specs.Tape.{Tape}
-use Rattle.definitions.specs.Editor.{Ed, Target}
-use Rattle.definitions.specs.Edit.{Op, need, act, step, quit}
-use Rattle.theorems.specs.GoodItems.{goodTarget}
-use Rattle.script.specs.Words.{targetCode}
+use Prim.Native.Nat.{ℕ}
+use Rattle.definitions.specs.Tape.{Tape, bind}
+use Rattle.definitions.specs.Given.{Carried}
+use Rattle.definitions.specs.Editor.{Ed}
+use Rattle.definitions.specs.StepProgram.{runs, finish, perform, state}
+use Rattle.definitions.specs.Edit.{Op, program, step, quit}
+use Rattle.items.specs.Kinds.{wordShape, pairShape, fourShape, stringShape, changeShape, shapeOf}
+use Rattle.items.specs.Words.{kindAt}
+use Rattle.items.specs.Simple.{wordOp, CommandAt}
+use Rattle.items.proofs.Meaning.{words, formOf, Means, shape-left, meant, meant-as}
 use Rattle.editor.specs.declared.State.{State}
 use Rattle.editor.specs.declared.Moved.{Moved}
 use Rattle.editor.specs.declared.Moved.the-variants.{Stop}
-use Rattle.editor.specs.Shows.{Shows, Answered}
-use Rattle.changes.proofs.Commands.{halts}
-use Rattle.inserts.proofs.Codes.{code-in}
-use Rattle.commands.specs.Ready.{wordOp, CommandAt, Ready}
-use Rattle.commands.proofs.Says.{kindAt, said, as-word, as-move, some-words}
-
--- the buffer j with the state st becomes b with the answer r, as `op` says
-abbrev pub Does : List ℕ → State → List ℕ → Moved → Op → Type 0
-Does j st b r op = (e : Ed) (t : Tape) → Shows j st e t → Answered b r (step (length j) op e t)
+use Rattle.editor.specs.Shows.{lent, ShowsText, Answers, Answered, Performs}
+use Rattle.editor.specs.Current.{Ready}
+use Rattle.changes.specs.Current.{ShownOf, PerformsOf, IsReady}
+use Rattle.commands.specs.Performing.{SomeCommand, PerformsAt}
 
 -- W
-pub quits : (j : List ℕ) (st : State) → Does j st j (Stop 0 st) quit
-unfolding need act
-quits j st e t h = halts j st quit (λ x. refl) (length j) 0 e t refl h
+pub quits : (table j : List ℕ) (st : State) → PerformsOf table j st quit j (Stop 0 st)
+unfolding Answers step perform bind runs finish program
+quits table j st e c t h = (refl, h .shows)
 
--- the command of one word with the kind `number`
-pub by-kind : (j : List ℕ) (st : State) (b : List ℕ) (r : Moved) (number kind : ℕ) → kind ≡ number → Does j st b r (wordOp number) → Does j st b r (wordOp kind)
-by-kind j st b r number kind e does = rw e does
+-- the same command
+pub performs-as : {table j : List ℕ} {st : State} (b : List ℕ) (r : Moved) {op other : Op} → op ≡ other → PerformsOf table j st other b r → PerformsOf table j st op b r
+performs-as b r q does = rw q does
 
-pub last-byte : (kind : ℕ) → 9 ≤ kind → kind < 15 → (kind ≡ 9 → ⊥) → (kind ≡ 10 → ⊥) → (kind ≡ 11 → ⊥) → (kind ≡ 12 → ⊥) → (kind ≡ 13 → ⊥) → kind ≡ 14
-last-byte kind low high a b c d e = omega arith
+-- a command that does not read the table
+pub tableless : {table j : List ℕ} {st : State} (b : List ℕ) (r : Moved) {op other : Op} → op ≡ other → Performs j st other b r → PerformsOf table j st op b r
+tableless b r q does = rw q (λ e c t h. does e c t (h .shows))
 
-module _ (s w : List ℕ) (k : ℕ) where
-  pub kind-in : ((op : Op) × CommandAt s w k op) → k < length w
-  kind-in (op, h) = omega (arith, some-words s w k (h .end) (kindAt w k) op (said s w k op h), h .inside)
+-- some text is shown
+pub shown-text : {table j : List ℕ} {st : State} → ShownOf table j st → ShowsText j st
+shown-text (e, t, h) = (e, t, h .shows)
 
-  pub word-kind : kindAt w k < 16 → ((op : Op) × CommandAt s w k op) → (5 ≤ kindAt w k) × (kindAt w k < 15)
-  word-kind less (op, h) = as-word s w k (h .end) (kindAt w k) (λ o. (5 ≤ kindAt w k) × (kindAt w k < 15)) less op (said s w k op h) (λ low high ends. (low, high))
+pub ready-shown : {table j : List ℕ} {st : State} → IsReady table j st → ShownOf table j st
+ready-shown (e, t, h) = (e, t, record { shows = h .shows; old = h .old })
 
-  pub move-in : kindAt w k ≡ 16 → ((op : Op) × CommandAt s w k op) → (k + 1 < length w) × (getD w (k + 1) 0 ≤ 65536)
-  move-in sole (op, h) =
-      as-move s w k (h .end) (kindAt w k) (λ o. (k + 1 < length w) × (getD w (k + 1) 0 ≤ 65536)) sole op (said s w k op h)
-      (λ a ends code good. (omega (arith, ends, h .inside), omega (arith, code, code-in a good)))
+pub ready-text : {table j : List ℕ} {st : State} → IsReady table j st → ShowsText j st
+ready-text (e, t, h) = (e, t, h .shows)
 
-  module _ (table j : List ℕ) (st : State) (b : List ℕ) (r : Moved) where
-    pub word-as : kindAt w k < 16 → Does j st b r (wordOp (kindAt w k))
-        → (op : Op) (e : Ed) (t : Tape) → CommandAt s w k op → Ready table j st e t → Answered b r (step (length j) op e t)
-    word-as less does op e t h ready =
-        as-word s w k (h .end) (kindAt w k) (λ o. Answered b r (step (length j) o e t)) less op (said s w k op h) (λ low high ends. does e t (ready .shows))
+module _ (s w : List ℕ) (k kind : ℕ) (is : kind ≡ kindAt w k) (shape : ℕ) (shape-is : shape ≡ shapeOf kind) where
+  pub word-as : (table j : List ℕ) (st : State) (b : List ℕ) (r : Moved) → shape ≡ wordShape → PerformsOf table j st (wordOp kind) b r → PerformsAt s table w k j st b r
+  unfolding formOf Means
+  word-as table j st b r sole does op e c t h ready = on (meant-as s w k kind is words (rw (← shape-is, sole)) op h)
+    where
+      on : Means s w k (h .end) kind words op → Answered b r (step (lent j) op (state e c) t)
+      on (ends, o) = rw o (does e c t (record { shows = ready .shows; old = ready .old }))
 
-    pub move-as : kindAt w k ≡ 16
-        → ((e : Ed) (t : Tape) → Shows j st e t → (a : Target) → getD w (k + 1) 0 ≡ targetCode a → goodTarget a ≡ true → Answered b r (step (length j) (Op.move a) e t))
-        → (op : Op) (e : Ed) (t : Tape) → CommandAt s w k op → Ready table j st e t → Answered b r (step (length j) op e t)
-    move-as sole does op e t h ready =
-        as-move s w k (h .end) (kindAt w k) (λ o. Answered b r (step (length j) o e t)) sole op (said s w k op h) (λ a ends code good. does e t (ready .shows) a code good)
+  -- what is left
+  pub changes-left : (shape ≡ wordShape → ⊥) → (shape ≡ pairShape → ⊥) → (shape ≡ fourShape → ⊥) → (shape ≡ stringShape → ⊥) → SomeCommand s w k → shapeOf kind ≡ changeShape
+  changes-left a b c d (op, h) =
+      shape-left s w k (h .end) kind op (λ e. a (shape-is ∙ e)) (λ e. b (shape-is ∙ e)) (λ e. c (shape-is ∙ e)) (λ e. d (shape-is ∙ e)) (meant s w k kind is op h)

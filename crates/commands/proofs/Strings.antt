@@ -2,14 +2,16 @@
 use mathlib.Core.Path.{_≡_, refl, _∙_}
 use mathlib.Core.Bool.{Bool, true, false}
 use mathlib.Core.List.{List}
-use Prim.Native.Nat.{ℕ, _+_, _-_, _/_, _%_, _≤_, _<_}
+use Prim.Native.Nat.{ℕ, _+_, _-_, _≤_, _<_}
 use native.Mathlib.Omega.{arith}
 use lib.Dec.{leb, eqb}
 use lib.ListN.{length, getD}
 use Rattle.definitions.specs.Bytes.{Line, allText, isLine}
 use Rattle.definitions.specs.Matching.{Qualified, qualified}
 use Rattle.definitions.specs.Tape.{Tape}
+use Rattle.definitions.specs.Given.{Carried}
 use Rattle.definitions.specs.Editor.{Ed}
+use Rattle.definitions.specs.StepProgram.{state}
 use Rattle.definitions.specs.Edit.{Change, afterIt, beforeIt, exchange, Op, step}
 use Rattle.theorems.specs.Lines.{and-left}
 use Rattle.strings.proofs.Lines.{script-short}
@@ -17,44 +19,55 @@ use Rattle.matching.specs.declared.Quals.{Quals}
 use Rattle.matching.specs.Quals.{qualifiersOf}
 use Rattle.matching.specs.Words.{Readable, startAt, lengthAt, endAt, qualsAt, stringAt}
 use Rattle.matching.proofs.Reading.{ReadsAs}
-use Rattle.script.specs.Words.{StringIn, changeKind, pointKind}
+use Rattle.items.specs.Kinds.{stringShape, changeShape, shapeOf, pointAfterKind, changeKind, pointKind}
+use Rattle.items.specs.Words.{kindAt, StringIn}
+use Rattle.items.specs.Arguments.{stringStart, stringLength}
+use Rattle.items.specs.Simple.{CommandAt}
+use Rattle.items.proofs.Meaning.{changing, pointing, formOf, Means, meant-as}
+use Rattle.items.proofs.Strings.{string-inside, string-is}
 use Rattle.editor.specs.declared.State.{State}
 use Rattle.editor.specs.declared.Moved.{Moved}
-use Rattle.editor.specs.Shows.{Answered}
-use Rattle.changes.specs.Current.{part, changeOf}
-use Rattle.inserts.proofs.Script.{string-inside, string-is}
-use Rattle.commands.specs.Ready.{CommandAt, Ready}
-use Rattle.commands.proofs.Says.{kindAt, said, as-alter, as-point, string-words}
+use Rattle.editor.specs.Shows.{lent, Answered}
+use Rattle.changes.specs.Current.{part, changeOf, sought, StringsIn, PerformsOn}
+use Rattle.commands.specs.Performing.{changeBy, pointingBy, SomeCommand, PerformsAt}
 
 less : (a b : ℕ) → (a + b) - a ≡ b
 less a b = omega arith
 
--- ---- a string in one word
+-- ---- the second string of A, B and E
 
-string-part : (s : List ℕ) (word : ℕ) (l : Line) → length s ≤ 16384 → StringIn s word l → part s (word % 32768) (word % 32768 + word / 32768) ≡ l
-string-part s word l short h = rw (less (word % 32768) (word / 32768)) (string-is h short)
+string-part : (s : List ℕ) (word : ℕ) (l : Line) → length s ≤ 16384 → StringIn s word l → part s (stringStart word) (stringStart word + stringLength word) ≡ l
+string-part s word l short h = rw (less (stringStart word) (stringLength word)) (string-is h short)
 
--- the second string of A, B and E
-pub record Second (s : List ℕ) (word : ℕ) : Type 0 where
-  pub inside : word % 32768 + word / 32768 ≤ length s
+pub record Second (s : List ℕ) (start end : ℕ) : Type 0 where
+  pub inside : end ≤ length s
   pub short : length s ≤ 16384
-  pub texts : allText (part s (word % 32768) (word % 32768 + word / 32768)) ≡ true
+  pub texts : allText (part s start end) ≡ true
 
-second : (s : List ℕ) (word : ℕ) (new : Line) → length s ≤ 16384 → StringIn s word new → isLine new ≡ true → Second s word
+second : (s : List ℕ) (word : ℕ) (new : Line) → length s ≤ 16384 → StringIn s word new → isLine new ≡ true → Second s (stringStart word) (stringStart word + stringLength word)
 unfolding isLine
 second s word new short h good = record {
   inside = string-inside h short;
   short = short;
-  texts =
-      rw (string-part s word new short h)
-      (and-left (allText new) (leb (length new) 255) good);
+  texts = rw (string-part s word new short h) (and-left (allText new) (leb (length new) 255) good);
+}
+
+-- the strings that A, B and E are handed
+pub strings-in : (s : List ℕ) (from len start more : ℕ) → from + len ≤ length s → Second s start (start + more) → StringsIn s from (from + len) start (start + more)
+strings-in s from len start more inside x = record {
+  first = omega arith;
+  inside = inside;
+  second = omega arith;
+  within = x .inside;
+  short = x .short;
+  text = x .texts;
 }
 
 -- ---- kinds
 
 -- A, AP, B, BP, E, EP
-pub change-back : (kind : ℕ) (c : Change) (pointing : Bool) → kind ≡ changeKind c pointing → (changeOf ((kind - 24) / 2) ≡ c) × (eqb (kind % 2) 1 ≡ pointing)
-unfolding changeKind changeOf
+change-back : (kind : ℕ) (c : Change) (pointed : Bool) → kind ≡ changeKind c pointed → (changeOf (changeBy kind) ≡ c) × (pointingBy kind ≡ pointed)
+unfolding changeKind changeOf changeBy pointingBy
 change-back kind afterIt false e = rw e (refl, refl)
 change-back kind afterIt true e = rw e (refl, refl)
 change-back kind beforeIt false e = rw e (refl, refl)
@@ -63,7 +76,7 @@ change-back kind exchange false e = rw e (refl, refl)
 change-back kind exchange true e = rw e (refl, refl)
 
 -- PA, PB
-pub point-back : (kind : ℕ) (after : Bool) → kind ≡ pointKind after → eqb kind 30 ≡ after
+point-back : (kind : ℕ) (after : Bool) → kind ≡ pointKind after → eqb kind pointAfterKind ≡ after
 unfolding pointKind
 point-back kind true e = rw e
 point-back kind false e = rw e
@@ -78,39 +91,61 @@ string-read s w k n q h qs from len e f g = rw (e, f, g, less (startAt w k) (len
 -- ---- commands with strings
 
 module _ (s w : List ℕ) (k kind : ℕ) (is : kind ≡ kindAt w k) where
-  pub readable : 24 ≤ kind → ((op : Op) × CommandAt s w k op) → Readable s w (k + 1)
-  readable least (op, h) = string-words s w k (h .end) (kindAt w k) (omega (arith, least, is)) op (said s w k op h)
+  points-mean : shapeOf kind ≡ stringShape → (op : Op) (h : CommandAt s w k op) → Means s w k (h .end) kind pointing op
+  unfolding formOf
+  points-mean shape op h = meant-as s w k kind is pointing (rw shape) op h
+
+  alters-mean : shapeOf kind ≡ changeShape → (op : Op) (h : CommandAt s w k op) → Means s w k (h .end) kind changing op
+  unfolding formOf
+  alters-mean shape op h = meant-as s w k kind is changing (rw shape) op h
+
+  pub points-read : shapeOf kind ≡ stringShape → SomeCommand s w k → Readable s w (k + 1)
+  unfolding Means
+  points-read shape (op, h) = on (points-mean shape op h)
+    where
+      on : Means s w k (h .end) kind pointing op → Readable s w (k + 1)
+      on (after, q, e, kinds, reads) = reads .fits
+
+  pub alters-read : shapeOf kind ≡ changeShape → SomeCommand s w k → Readable s w (k + 1)
+  unfolding Means
+  alters-read shape (op, h) = on (alters-mean shape op h)
+    where
+      on : Means s w k (h .end) kind changing op → Readable s w (k + 1)
+      on (c, p, q, new, n, e, kinds, ends, reads, x, good) = reads .fits
 
   -- the second string's word is there, and its bytes are text of the script
-  pub second-in : 24 ≤ kind → kind < 30 → (at : ℕ) → at ≡ endAt w (k + 1) → ((op : Op) × CommandAt s w k op) → at < length w
-  second-in least few at e (op, h) =
-      as-alter s w k (h .end) (kindAt w k) (λ o. at < length w) (omega (arith, least, is)) (omega (arith, few, is)) op (said s w k op h)
-      (λ c pointing q new n kinds ends reads x good. omega (arith, e, reads .ends, ends, h .inside))
-
-  pub second-good : 24 ≤ kind → kind < 30 → (at : ℕ) → at ≡ endAt w (k + 1) → ((op : Op) × CommandAt s w k op) → Second s (getD w at 0)
-  second-good least few at e (op, h) =
-      as-alter s w k (h .end) (kindAt w k) (λ o. Second s (getD w at 0)) (omega (arith, least, is)) (omega (arith, few, is)) op (said s w k op h)
-      (λ c pointing q new n kinds ends reads x good. rw (e ∙ reads .ends) (second s (getD w n 0) new (script-short s (h .form)) x good))
-
-  module _ (table j : List ℕ) (st : State) (b : List ℕ) (r : Moved) (size : ℕ) (qs : Quals) (from len : ℕ) (q-is : qs ≡ qualsAt w (k + 1)) (from-is : from ≡ startAt w (k + 1)) (len-is : len ≡ lengthAt w (k + 1)) where
-    pub points-as : 30 ≤ kind
-        → ((e : Ed) (t : Tape) → Ready table j st e t → Answered b r (step size (Op.point (eqb kind 30) (qualified (qualifiersOf qs) (part s from (from + len)))) e t))
-        → (op : Op) (e : Ed) (t : Tape) → CommandAt s w k op → Ready table j st e t → Answered b r (step size op e t)
-    points-as least does op e t h ready =
-        as-point s w k (h .end) (kindAt w k) (λ o. Answered b r (step size o e t)) (omega (arith, least, is)) op (said s w k op h)
-        (λ after q kinds reads. rw (point-back kind after (is ∙ kinds), string-read s w (k + 1) (h .end) q reads qs from len q-is from-is len-is) at (does e t ready))
-
-    pub alters-as : 24 ≤ kind → kind < 30 → (at : ℕ) → at ≡ endAt w (k + 1)
-        → ((e : Ed) (t : Tape) → Ready table j st e t
-        → Answered b r (step size (Op.alter (changeOf ((kind - 24) / 2)) (eqb (kind % 2) 1) (qualified (qualifiersOf qs) (part s from (from + len)))
-        (part s (getD w at 0 % 32768) (getD w at 0 % 32768 + getD w at 0 / 32768))) e t))
-        → (op : Op) (e : Ed) (t : Tape) → CommandAt s w k op → Ready table j st e t → Answered b r (step size op e t)
-    alters-as least few at end-is does op e t h ready =
-        as-alter s w k (h .end) (kindAt w k) (λ o. Answered b r (step size o e t)) (omega (arith, least, is)) (omega (arith, few, is)) op (said s w k op h)
-        (λ c pointing q new n kinds ends reads x good.
-        altered-as c pointing q new n kinds reads (rw (end-is ∙ reads .ends) x) (script-short s (h .form)))
+  module _ (shape : shapeOf kind ≡ changeShape) (at : ℕ) (at-is : at ≡ endAt w (k + 1)) where
+    pub second-there : SomeCommand s w k → at < length w
+    unfolding Means
+    second-there (op, h) = on (alters-mean shape op h)
       where
-        altered-as : (c : Change) (pointing : Bool) (q : Qualified) (new : Line) (n : ℕ) → kindAt w k ≡ changeKind c pointing → ReadsAs s w (k + 1) n q → StringIn s (getD w at 0) new → length s ≤ 16384
-            → Answered b r (step size (Op.alter c pointing q new) e t)
-        altered-as c pointing q new n kinds reads x short =
-            rw (change-back kind c pointing (is ∙ kinds) .0, change-back kind c pointing (is ∙ kinds) .1, string-read s w (k + 1) n q reads qs from len q-is from-is len-is, string-part s (getD w at 0) new short x) at (does e t ready)
+        on : Means s w k (h .end) kind changing op → at < length w
+        on (c, p, q, new, n, e, kinds, ends, reads, x, good) = omega (arith, at-is, reads .ends, ends, h .inside)
+
+    pub second-good : (start : ℕ) → start ≡ stringStart (getD w at 0) → (len : ℕ) → len ≡ stringLength (getD w at 0) → SomeCommand s w k → Second s start (start + len)
+    unfolding Means
+    second-good start start-is len len-is (op, h) = on (alters-mean shape op h)
+      where
+        on : Means s w k (h .end) kind changing op → Second s start (start + len)
+        on (c, p, q, new, n, e, kinds, ends, reads, x, good) = rw (start-is, len-is, at-is ∙ reads .ends) (second s (getD w n 0) new (script-short s (h .form)) x good)
+
+  module _ (table j : List ℕ) (st : State) (b : List ℕ) (r : Moved) (qs : Quals) (from len : ℕ) (q-is : qs ≡ qualsAt w (k + 1)) (from-is : from ≡ startAt w (k + 1)) (len-is : len ≡ lengthAt w (k + 1)) where
+    pub points-as : shapeOf kind ≡ stringShape → PerformsOn table j st (Op.point (eqb kind pointAfterKind) (sought qs s from (from + len))) b r → PerformsAt s table w k j st b r
+    unfolding Means
+    points-as shape does op e c t h ready = on (points-mean shape op h)
+      where
+        on : Means s w k (h .end) kind pointing op → Answered b r (step (lent j) op (state e c) t)
+        on (after, q, o, kinds, reads) = rw o (rw (point-back kind after kinds, string-read s w (k + 1) (h .end) q reads qs from len q-is from-is len-is) at (does e c t ready))
+
+    pub alters-as : shapeOf kind ≡ changeShape → (at : ℕ) → at ≡ endAt w (k + 1) → (start : ℕ) → start ≡ stringStart (getD w at 0) → (more : ℕ) → more ≡ stringLength (getD w at 0)
+        → (change : ℕ) → change ≡ changeBy kind → (points : Bool) → points ≡ pointingBy kind
+        → PerformsOn table j st (Op.alter (changeOf change) points (sought qs s from (from + len)) (part s start (start + more))) b r → PerformsAt s table w k j st b r
+    unfolding Means
+    alters-as shape at at-is start start-is more more-is change change-is points points-is does op e c t h ready = on (alters-mean shape op h)
+      where
+        new-is : (new : Line) (n : ℕ) → endAt w (k + 1) ≡ n → StringIn s (getD w n 0) new → part s start (start + more) ≡ new
+        new-is new n ends x = rw (start-is, more-is, at-is ∙ ends) (string-part s (getD w n 0) new (script-short s (h .form)) x)
+
+        on : Means s w k (h .end) kind changing op → Answered b r (step (lent j) op (state e c) t)
+        on (ch, p, q, new, n, o, kinds, ends, reads, x, good) =
+            rw o (rw (change-is, points-is, change-back kind ch p kinds .0, change-back kind ch p kinds .1, string-read s w (k + 1) n q reads qs from len q-is from-is len-is, new-is new n (reads .ends) x) at (does e c t ready))

@@ -1,38 +1,43 @@
 // The commands of one word.
-ghost use Prim.Native.Nat.{_≤_, _<_};
-ghost use lib.ListN.{length};
-ghost use Rattle.definitions.specs.Tape.{Tape};
-ghost use Rattle.definitions.specs.Editor.{Ed};
-ghost use Rattle.definitions.specs.Edit.{step};
-ghost use Rattle.editor.specs.Shows.{Shows, Answered};
-ghost use Rattle.commands.specs.Ready.{wordOp};
+ghost use Rattle.items.specs.Simple.{byteOp, wordOp};
+ghost use Rattle.changes.specs.Current.{ShownOf, PerformsOf};
 use editor::Moved;
 use editor::State;
+use items::kinds::COPY;
+use items::kinds::CUT_BYTE;
+use items::kinds::LEFT;
+use items::kinds::LOWER;
+use items::kinds::NEXT;
+use items::kinds::POINT_START;
+use items::kinds::PREVIOUS;
+use items::kinds::QUIT;
+use items::kinds::RIGHT;
 
-// W, N, P, IC.
-pub fn on_lines(kind: u32, j: &mut [u8], st: State) -> Moved
-    requires { ⌜ ((e : Ed) × (t : Tape) × Shows (now j) st e t) × (5 ≤ kind) × (kind < 9) ⌝ }
-    ensures { λ r. ⌜ ((e : Ed) (t : Tape) → Shows (now (j .entry)) st e t → Answered (now (j .exit)) r (step (length (now (j .entry))) (wordOp kind) e t)) ⌝ }
+// W, N, P, IC; and those on bytes.
+pub fn on_lines(kind: u32, table: &[u8], j: &mut [u8], st: State) -> Moved
+    requires { ⌜ ShownOf (now table) (now j) st ⌝ }
+    ensures { λ r. ⌜ PerformsOf (now (table .entry)) (now (j .entry)) st (wordOp kind) (now (j .exit)) r ⌝ }
 {
     match kind {
-        5 => Moved::Stop(0, st),
-        6 => editor::moves::next_line(j, st),
-        7 => editor::moves::previous_line(j, st),
-        _ => editor::edits::copy_line(j, st),
+        QUIT => Moved::Stop(0, st),
+        NEXT => editor::moves::next_line(j, st),
+        PREVIOUS => editor::moves::previous_line(j, st),
+        COPY => editor::edits::copy_line(j, st),
+        _ => on_bytes(kind, table, j, st),
     }
 }
 
 // PR, >, <, #, $, %.
-pub fn on_bytes(kind: u32, j: &mut [u8], st: State) -> Moved
-    requires { ⌜ ((e : Ed) × (t : Tape) × Shows (now j) st e t) × (9 ≤ kind) × (kind < 15) ⌝ }
-    ensures { λ r. ⌜ ((e : Ed) (t : Tape) → Shows (now (j .entry)) st e t → Answered (now (j .exit)) r (step (length (now (j .entry))) (wordOp kind) e t)) ⌝ }
+fn on_bytes(kind: u32, table: &[u8], j: &mut [u8], st: State) -> Moved
+    requires { ⌜ ShownOf (now table) (now j) st ⌝ }
+    ensures { λ r. ⌜ PerformsOf (now (table .entry)) (now (j .entry)) st (byteOp kind) (now (j .exit)) r ⌝ }
 {
     match kind {
-        9 => changes::point_start(j, st),
-        10 => changes::right(j, st),
-        11 => changes::left(j, st),
-        12 => changes::cut_byte(j, st),
-        13 => changes::recase(j, st, false),
-        _ => changes::recase(j, st, true),
+        POINT_START => changes::point_start(j, st),
+        RIGHT => changes::right(table, j, st),
+        LEFT => changes::left(j, st),
+        CUT_BYTE => changes::cut_byte(table, j, st),
+        LOWER => changes::recase(table, j, st, false),
+        _ => changes::recase(table, j, st, true),
     }
 }

@@ -1,21 +1,26 @@
-// The commands with a qualified string: A, B, E, AP, BP, EP, PA, PB.
+// The commands with a qualified string: PA, PB; A, B, E, AP, BP, EP.
 ghost use mathlib.Core.Path.{_≡_};
-ghost use Prim.Native.Nat.{_≤_, _%_};
-ghost use lib.ListN.{length, getD};
-ghost use Rattle.definitions.specs.Tape.{Tape};
-ghost use Rattle.definitions.specs.Editor.{Ed};
-ghost use Rattle.definitions.specs.Edit.{Op, step};
-ghost use Rattle.editor.specs.Shows.{Answered};
-ghost use Rattle.commands.specs.Ready.{CommandAt, Ready};
+ghost use Rattle.items.specs.Kinds.{stringShape, changeShape, shapeOf};
+ghost use Rattle.items.specs.Words.{kindAt};
+ghost use Rattle.changes.specs.Current.{IsReady};
+ghost use Rattle.commands.specs.Performing.{changeBy, pointingBy, SomeCommand, PerformsAt};
 use editor::Moved;
 use editor::State;
+use items::arguments::string_length;
+use items::arguments::string_start;
+use items::kinds::AFTER;
+use items::kinds::AFTER_POINTING;
+use items::kinds::BEFORE;
+use items::kinds::BEFORE_POINTING;
+use items::kinds::EXCHANGE_POINTING;
+use items::kinds::POINT_AFTER;
 use matching::search::end_at;
 use matching::search::length_at;
 use matching::search::quals_at;
 use matching::search::start_at;
 
-// A, AP, B, BP, E, EP in this order from kind 24 on, then PA and PB.
-pub fn with_string(
+// PA, PB.
+pub fn points(
     script: &[u8],
     table: &[u8],
     w: &[u32],
@@ -24,27 +29,66 @@ pub fn with_string(
     j: &mut [u8],
     st: State,
 ) -> Moved
-    requires { ⌜ ((op : Op) × CommandAt (now script) (now w) k op) × ((e : Ed) × (t : Tape) × Ready (now table) (now j) st e t) × (kind ≡ getD (now w) k 0 % 64) × (24 ≤ kind) ⌝ }
-    ensures { λ r. ⌜ ((op : Op) (e : Ed) (t : Tape) → CommandAt (now (script .entry)) (now (w .entry)) k op → Ready (now (table .entry)) (now (j .entry)) st e t → Answered (now (j .exit)) r (step (length (now (j .entry))) op e t)) ⌝ }
+    requires { ⌜ SomeCommand (now script) (now w) k × IsReady (now table) (now j) st × (kind ≡ kindAt (now w) k) × (shapeOf kind ≡ stringShape) ⌝ }
+    ensures { λ r. ⌜ PerformsAt (now (script .entry)) (now (table .entry)) (now (w .entry)) k (now (j .entry)) st (now (j .exit)) r ⌝ }
 {
     let at = k + 1;
     let q = quals_at(w, at);
     let from = start_at(w, at);
     let to = from + length_at(w, at);
-    if kind >= 30 {
-        return changes::point(table, j, st, kind == 30, q, script, from, to);
+    changes::point(table, j, st, kind == POINT_AFTER, q, script, from, to)
+}
+
+// What a change of this kind does.
+fn change_of(kind: u32) -> u8
+    ensures { λ r. ⌜ r ≡ changeBy kind ⌝ }
+{
+    match kind {
+        AFTER => 0,
+        AFTER_POINTING => 0,
+        BEFORE => 1,
+        BEFORE_POINTING => 1,
+        _ => 2,
     }
+}
+
+fn is_pointing(kind: u32) -> bool
+    ensures { λ r. ⌜ r ≡ pointingBy kind ⌝ }
+{
+    match kind {
+        AFTER_POINTING => true,
+        BEFORE_POINTING => true,
+        EXCHANGE_POINTING => true,
+        _ => false,
+    }
+}
+
+// A, AP, B, BP, E, EP.
+pub fn alters(
+    script: &[u8],
+    table: &[u8],
+    w: &[u32],
+    k: usize,
+    kind: u32,
+    j: &mut [u8],
+    st: State,
+) -> Moved
+    requires { ⌜ SomeCommand (now script) (now w) k × IsReady (now table) (now j) st × (kind ≡ kindAt (now w) k) × (shapeOf kind ≡ changeShape) ⌝ }
+    ensures { λ r. ⌜ PerformsAt (now (script .entry)) (now (table .entry)) (now (w .entry)) k (now (j .entry)) st (now (j .exit)) r ⌝ }
+{
+    let at = k + 1;
+    let q = quals_at(w, at);
+    let from = start_at(w, at);
+    let to = from + length_at(w, at);
     let word = w[end_at(w, at)];
-    let start = (word % 32768) as usize;
-    let end = start + (word / 32768) as usize;
-    let change = ((kind - 24) / 2) as u8;
-    let pointing = kind % 2 == 1;
+    let start = string_start(word);
+    let end = start + string_length(word);
     changes::alter(
         table,
         j,
         st,
-        change,
-        pointing,
+        change_of(kind),
+        is_pointing(kind),
         q,
         script,
         from,

@@ -9,10 +9,12 @@ use Rattle.definitions.specs.Search.{Search}
 use Rattle.definitions.specs.Edit.{Op}
 use Rattle.definitions.specs.Control.{Seek, Opener, Item, simple, seek, opens, bracket, close, otherwise, leave, lineEnd, Frame}
 use Rattle.theorems.specs.NestingLaws.{mayBracket}
-use Rattle.script.specs.Words.{ItemAt}
-use Rattle.control.specs.Items.{classOf, placeOf, countOf, startsGroup}
-use Rattle.script.specs.Depth.{openAfter}
-use Rattle.control.specs.Shown.{Within, Runs}
+use Rattle.items.specs.Kinds.{lineEndKind, bracketKind, closeKind, elseKind, leaveKind}
+use Rattle.items.specs.Words.{ItemAt}
+use Rattle.items.specs.Ends.{classOf, placeOf, simpleClass, searchClass, openerClass}
+use Rattle.control.specs.Items.{countOf, startsGroup}
+use Rattle.items.specs.Depth.{openAfter}
+use Rattle.control.specs.Shown.{InFrames, Runs}
 use Rattle.control.proofs.Standing.{First, first-of, none-stands, stands-in, within-as, runs-past}
 
 -- what reading the item at `at` says
@@ -26,7 +28,7 @@ pub record Here (s w : List ℕ) (end at next depth d class : ℕ) (frames : Lis
   pub few : countOf i < 65536
   pub past : startsGroup items ≡ true → mayBracket i ≡ true
   pub less : at < next
-  pub rest : Within s w end next depth (openAfter d i) items frames
+  pub rest : InFrames s w end next depth (openAfter d i) items frames
 
 -- no group starts directly after this item
 pub no-group : (i : Item) (items : List Item) → (startsGroup items ≡ true → mayBracket i ≡ true) → mayBracket i ≡ false → startsGroup items ≡ false
@@ -48,7 +50,7 @@ At s w end at next depth d class frames [] = ⊥
 At s w end at next depth d class frames (i ∷ items) = Here s w end at next depth d class frames i items
 
 module _ (s w : List ℕ) (end at next depth d class : ℕ) (frames : List Frame) where
-  pub at-item : Reading w at class next → (items : List Item) → at < end → Within s w end at depth d items frames → At s w end at next depth d class frames items
+  pub at-item : Reading w at class next → (items : List Item) → at < end → InFrames s w end at depth d items frames → At s w end at next depth d class frames items
   unfolding At
   at-item reads [] less h = omega (arith, less, none-stands s w end at d (h .stands))
   at-item reads (i ∷ items) less h = found (first-of s w end at d i items (h .stands))
@@ -67,14 +69,14 @@ module _ (s w : List ℕ) (end at next depth d class : ℕ) (frames : List Frame
           }
 
   -- the item can be read
-  pub readable : (items : List Item) → at < end → Within s w end at depth d items frames → ((x : List ℕ) × (m : ℕ) × (i : Item) × ItemAt x w at m i × (m ≤ length w))
+  pub readable : (items : List Item) → at < end → InFrames s w end at depth d items frames → ((x : List ℕ) × (m : ℕ) × (i : Item) × ItemAt x w at m i × (m ≤ length w))
   readable [] less h = absurd (omega (arith, less, none-stands s w end at d (h .stands)))
   readable (i ∷ items) less h =
       let f = first-of s w end at d i items (h .stands) in
       let inside = stands-in s w end (f .next) (openAfter d i) items (f .rest) in
       (s, f .next, i, f .item, omega (arith, inside))
 
-  pub as-line : (P : List Item → Type 0) → class ≡ 0 → (items : List Item) → At s w end at next depth d class frames items
+  pub as-line : (P : List Item → Type 0) → class ≡ lineEndKind → (items : List Item) → At s w end at next depth d class frames items
       → ((items : List Item) → Here s w end at next depth d class frames lineEnd items → P (lineEnd ∷ items)) → P items
   unfolding At classOf
   as-line P q [] h on = absurd h
@@ -87,7 +89,7 @@ module _ (s w : List ℕ) (end at next depth d class : ℕ) (frames : List Frame
   as-line P q (seek p f se ∷ items) h on = absurd (omega (arith, q, h .is-class))
   as-line P q (opens p o ∷ items) h on = absurd (omega (arith, q, h .is-class))
 
-  pub as-bracket : (P : List Item → Type 0) → class ≡ 1 → (items : List Item) → At s w end at next depth d class frames items
+  pub as-bracket : (P : List Item → Type 0) → class ≡ bracketKind → (items : List Item) → At s w end at next depth d class frames items
       → ((items : List Item) → Here s w end at next depth d class frames bracket items → P (bracket ∷ items)) → P items
   unfolding At classOf
   as-bracket P q [] h on = absurd h
@@ -100,7 +102,7 @@ module _ (s w : List ℕ) (end at next depth d class : ℕ) (frames : List Frame
   as-bracket P q (seek p f se ∷ items) h on = absurd (omega (arith, q, h .is-class))
   as-bracket P q (opens p o ∷ items) h on = absurd (omega (arith, q, h .is-class))
 
-  pub as-close : (P : List Item → Type 0) → class ≡ 2 → (items : List Item) → At s w end at next depth d class frames items
+  pub as-close : (P : List Item → Type 0) → class ≡ closeKind → (items : List Item) → At s w end at next depth d class frames items
       → ((items : List Item) → Here s w end at next depth d class frames close items → P (close ∷ items)) → P items
   unfolding At classOf
   as-close P q [] h on = absurd h
@@ -113,7 +115,7 @@ module _ (s w : List ℕ) (end at next depth d class : ℕ) (frames : List Frame
   as-close P q (seek p f se ∷ items) h on = absurd (omega (arith, q, h .is-class))
   as-close P q (opens p o ∷ items) h on = absurd (omega (arith, q, h .is-class))
 
-  pub as-otherwise : (P : List Item → Type 0) → class ≡ 3 → (items : List Item) → At s w end at next depth d class frames items
+  pub as-otherwise : (P : List Item → Type 0) → class ≡ elseKind → (items : List Item) → At s w end at next depth d class frames items
       → ((items : List Item) → Here s w end at next depth d class frames otherwise items → P (otherwise ∷ items)) → P items
   unfolding At classOf
   as-otherwise P q [] h on = absurd h
@@ -126,7 +128,7 @@ module _ (s w : List ℕ) (end at next depth d class : ℕ) (frames : List Frame
   as-otherwise P q (seek p f se ∷ items) h on = absurd (omega (arith, q, h .is-class))
   as-otherwise P q (opens p o ∷ items) h on = absurd (omega (arith, q, h .is-class))
 
-  pub as-leave : (P : List Item → Type 0) → class ≡ 4 → (items : List Item) → At s w end at next depth d class frames items
+  pub as-leave : (P : List Item → Type 0) → class ≡ leaveKind → (items : List Item) → At s w end at next depth d class frames items
       → ((p : ℕ) (items : List Item) → Here s w end at next depth d class frames (leave p) items → P ((leave p) ∷ items)) → P items
   unfolding At classOf
   as-leave P q [] h on = absurd h
@@ -139,7 +141,7 @@ module _ (s w : List ℕ) (end at next depth d class : ℕ) (frames : List Frame
   as-leave P q (seek p f se ∷ items) h on = absurd (omega (arith, q, h .is-class))
   as-leave P q (opens p o ∷ items) h on = absurd (omega (arith, q, h .is-class))
 
-  pub as-simple : (P : List Item → Type 0) → class ≡ 5 → (items : List Item) → At s w end at next depth d class frames items
+  pub as-simple : (P : List Item → Type 0) → class ≡ simpleClass → (items : List Item) → At s w end at next depth d class frames items
       → ((p : ℕ) (op : Op) (items : List Item) → Here s w end at next depth d class frames (simple p op) items → P ((simple p op) ∷ items)) → P items
   unfolding At classOf
   as-simple P q [] h on = absurd h
@@ -152,7 +154,7 @@ module _ (s w : List ℕ) (end at next depth d class : ℕ) (frames : List Frame
   as-simple P q (seek p f se ∷ items) h on = absurd (omega (arith, q, h .is-class))
   as-simple P q (opens p o ∷ items) h on = absurd (omega (arith, q, h .is-class))
 
-  pub as-seek : (P : List Item → Type 0) → class ≡ 6 → (items : List Item) → At s w end at next depth d class frames items
+  pub as-seek : (P : List Item → Type 0) → class ≡ searchClass → (items : List Item) → At s w end at next depth d class frames items
       → ((p : ℕ) (f : Seek) (se : Search) (items : List Item) → Here s w end at next depth d class frames (seek p f se) items → P ((seek p f se) ∷ items)) → P items
   unfolding At classOf
   as-seek P q [] h on = absurd h
@@ -165,7 +167,7 @@ module _ (s w : List ℕ) (end at next depth d class : ℕ) (frames : List Frame
   as-seek P q (seek p f se ∷ items) h on = on p f se items h
   as-seek P q (opens p o ∷ items) h on = absurd (omega (arith, q, h .is-class))
 
-  pub as-opens : (P : List Item → Type 0) → class ≡ 7 → (items : List Item) → At s w end at next depth d class frames items
+  pub as-opens : (P : List Item → Type 0) → class ≡ openerClass → (items : List Item) → At s w end at next depth d class frames items
       → ((p : ℕ) (o : Opener) (items : List Item) → Here s w end at next depth d class frames (opens p o) items → P ((opens p o) ∷ items)) → P items
   unfolding At classOf
   as-opens P q [] h on = absurd h

@@ -8,9 +8,10 @@ use native.Mathlib.Omega.{arith}
 use lib.ListN.{set}
 use Rattle.definitions.specs.Control.{bare, Item, simple, seek, opens, bracket, close, otherwise, leave, lineEnd, Frame, frame, running, failing, leaving, pullAt, pullElse, pullLine, pull}
 use Rattle.theorems.specs.NestingLaws.{mayBracket}
-use Rattle.control.specs.Items.{classOf}
-use Rattle.script.specs.Depth.{openAfter}
-use Rattle.control.specs.Shown.{Stands, OpenedAt, FramesAt, Within, entered, Shows, Onward, standAt}
+use Rattle.items.specs.Kinds.{lineEndKind, closeKind, elseKind}
+use Rattle.items.specs.Ends.{classOf, openerClass}
+use Rattle.items.specs.Depth.{openAfter}
+use Rattle.control.specs.Shown.{ItemsFrom, OpenedAt, FramesAt, InFrames, entered, ShowsCtl, Onward, standAt}
 use Rattle.control.specs.declared.Control.{Control}
 use Rattle.control.proofs.Standing.{within-as, within-word, runs-body}
 use Rattle.control.proofs.Classes.{Reading, At, at-item, runs-on, as-line, as-close, as-otherwise, as-opens}
@@ -38,7 +39,7 @@ plain-open d (leave p) h = omega arith
 plain-open d (simple p op) h = omega arith
 plain-open d (seek p f se) h = omega arith
 
-is-plain : (class : ℕ) (i : Item) → class ≡ classOf i → (class ≡ 7 → ⊥) → (class ≡ 2 → ⊥) → (class ≡ 3 → ⊥) → Plain i
+is-plain : (class : ℕ) (i : Item) → class ≡ classOf i → (class ≡ openerClass → ⊥) → (class ≡ closeKind → ⊥) → (class ≡ elseKind → ⊥) → Plain i
 unfolding Plain classOf
 is-plain class (opens p o) e a b c = a e
 is-plain class close e a b c = b e
@@ -84,15 +85,15 @@ pull-else-inner (suc (suc k)) items frames le more = refl
 -- ---- to the ELSE or the close
 
 module _ (w : List ℕ) (end at next depth count class : ℕ) (reads : Reading w at class next) (less : at < end) (r : Control) (le : 1 ≤ count) (s : List ℕ) (items : List Item) (frames : List Frame)
-    (h : Within s w end at depth (depth + count) items frames) where
+    (h : InFrames s w end at depth (depth + count) items frames) where
   abbrev Goal : List Item → Type 0
   Goal l = Onward s w end at r (failing count l frames)
 
   here-is : At s w end at next depth (depth + count) class frames items
   here-is = at-item s w end at next depth (depth + count) class frames reads items less h
 
-  pub else-opens : r ≡ standAt 2 next depth (count + 1) → class ≡ 7 → Onward s w end at r (failing count items frames)
-  unfolding Shows openAfter pull pullElse
+  pub else-opens : r ≡ standAt 2 next depth (count + 1) → class ≡ openerClass → Onward s w end at r (failing count items frames)
+  unfolding ShowsCtl openAfter pull pullElse
   else-opens e q =
       as-opens s w end at next depth (depth + count) class frames Goal q items here-is
       (λ p o rest x. onward-as s w end at r (standAt 2 next depth (count + 1)) (failing count (opens p o ∷ rest) frames) e (record {
@@ -103,8 +104,8 @@ module _ (w : List ℕ) (end at next depth count class : ℕ) (reads : Reading w
         no-search = omega arith;
       }))
 
-  pub else-last : r ≡ standAt 0 next depth 0 → class ≡ 2 → count ≡ 1 → Onward s w end at r (failing count items frames)
-  unfolding Shows openAfter pull mayBracket
+  pub else-last : r ≡ standAt 0 next depth 0 → class ≡ closeKind → count ≡ 1 → Onward s w end at r (failing count items frames)
+  unfolding ShowsCtl openAfter pull mayBracket
   else-last e q one =
       as-close s w end at next depth (depth + count) class frames Goal q items here-is
       (λ rest x. onward-as s w end at r (standAt 0 next depth 0) (failing count (close ∷ rest) frames) e (record {
@@ -115,8 +116,8 @@ module _ (w : List ℕ) (end at next depth count class : ℕ) (reads : Reading w
         no-search = omega arith;
       }))
 
-  pub else-close : r ≡ standAt 2 next depth (count - 1) → class ≡ 2 → (count ≡ 1 → ⊥) → Onward s w end at r (failing count items frames)
-  unfolding Shows openAfter pull
+  pub else-close : r ≡ standAt 2 next depth (count - 1) → class ≡ closeKind → (count ≡ 1 → ⊥) → Onward s w end at r (failing count items frames)
+  unfolding ShowsCtl openAfter pull
   else-close e q more =
       as-close s w end at next depth (depth + count) class frames Goal q items here-is
       (λ rest x. onward-as s w end at r (standAt 2 next depth (count - 1)) (failing count (close ∷ rest) frames) e (record {
@@ -128,9 +129,9 @@ module _ (w : List ℕ) (end at next depth count class : ℕ) (reads : Reading w
       }))
 
   -- the group after ELSE runs
-  pub else-group : (w′ : List ℕ) → w′ ≡ set w (end + depth) (at + 65536 * 0) → r ≡ standAt 0 next (depth + 1) 0 → class ≡ 3 → count ≡ 1
+  pub else-group : (w′ : List ℕ) → w′ ≡ set w (end + depth) (at + 65536 * 0) → r ≡ standAt 0 next (depth + 1) 0 → class ≡ elseKind → count ≡ 1
       → Onward s w′ end at r (failing count items frames)
-  unfolding Shows openAfter pull OpenedAt
+  unfolding ShowsCtl openAfter pull OpenedAt
   else-group w′ pushed e q one =
       as-otherwise s w end at next depth (depth + count) class frames (λ l. Onward s w′ end at r (failing count l frames)) q items here-is
       (λ rest x. onward-as s w′ end at r (standAt 0 next (depth + 1) 0) (failing count (otherwise ∷ rest) frames) e (record {
@@ -146,8 +147,8 @@ module _ (w : List ℕ) (end at next depth count class : ℕ) (reads : Reading w
         no-search = omega arith;
       }))
 
-  pub else-inner : r ≡ standAt 2 next depth count → class ≡ 3 → (count ≡ 1 → ⊥) → Onward s w end at r (failing count items frames)
-  unfolding Shows openAfter pull
+  pub else-inner : r ≡ standAt 2 next depth count → class ≡ elseKind → (count ≡ 1 → ⊥) → Onward s w end at r (failing count items frames)
+  unfolding ShowsCtl openAfter pull
   else-inner e q more =
       as-otherwise s w end at next depth (depth + count) class frames Goal q items here-is
       (λ rest x. onward-as s w end at r (standAt 2 next depth count) (failing count (otherwise ∷ rest) frames) e (record {
@@ -158,8 +159,8 @@ module _ (w : List ℕ) (end at next depth count class : ℕ) (reads : Reading w
         no-search = omega arith;
       }))
 
-  pub else-plain : r ≡ standAt 2 next depth count → (class ≡ 7 → ⊥) → (class ≡ 2 → ⊥) → (class ≡ 3 → ⊥) → Onward s w end at r (failing count items frames)
-  unfolding At Shows pull
+  pub else-plain : r ≡ standAt 2 next depth count → (class ≡ openerClass → ⊥) → (class ≡ closeKind → ⊥) → (class ≡ elseKind → ⊥) → Onward s w end at r (failing count items frames)
+  unfolding At ShowsCtl pull
   else-plain e a b c = go items here-is
     where
       go : (l : List Item) → At s w end at next depth (depth + count) class frames l → Onward s w end at r (failing count l frames)
@@ -176,7 +177,7 @@ module _ (w : List ℕ) (end at next depth count class : ℕ) (reads : Reading w
 
 -- ---- to the line end
 
-pull-line-plain : (class : ℕ) (i : Item) (items : List Item) → class ≡ classOf i → (class ≡ 0 → ⊥) → pullLine items ≡ pullLine (i ∷ items)
+pull-line-plain : (class : ℕ) (i : Item) (items : List Item) → class ≡ classOf i → (class ≡ lineEndKind → ⊥) → pullLine items ≡ pullLine (i ∷ items)
 unfolding classOf pullLine
 pull-line-plain class (opens p o) items e a = refl
 pull-line-plain class close items e a = refl
@@ -187,13 +188,13 @@ pull-line-plain class (leave p) items e a = refl
 pull-line-plain class (simple p op) items e a = refl
 pull-line-plain class (seek p f se) items e a = refl
 
-pub outside : (s w : List ℕ) (end k d : ℕ) (items : List Item) → Stands s w end k d items → Within s w end k 0 d items []
+pub outside : (s w : List ℕ) (end k d : ℕ) (items : List Item) → ItemsFrom s w end k d items → InFrames s w end k 0 d items []
 unfolding FramesAt
 outside s w end k d items h = record { stands = h; framed = tt; deep = refl }
 
-module _ (w : List ℕ) (at next class : ℕ) (reads : Reading w at class next) (r : Control) (s : List ℕ) (end d : ℕ) (items : List Item) (h : Stands s w end at d items) (less : at < end) where
-  pub line-end : r ≡ standAt 0 next 0 0 → class ≡ 0 → Onward s w end at r (leaving items)
-  unfolding Shows entered openAfter pull pullLine
+module _ (w : List ℕ) (at next class : ℕ) (reads : Reading w at class next) (r : Control) (s : List ℕ) (end d : ℕ) (items : List Item) (h : ItemsFrom s w end at d items) (less : at < end) where
+  pub line-end : r ≡ standAt 0 next 0 0 → class ≡ lineEndKind → Onward s w end at r (leaving items)
+  unfolding ShowsCtl entered openAfter pull pullLine
   line-end e q =
       as-line s w end at next 0 d class [] (λ l. Onward s w end at r (leaving l)) q items
       (at-item s w end at next 0 d class [] reads items less (outside s w end at d items h))
@@ -205,8 +206,8 @@ module _ (w : List ℕ) (at next class : ℕ) (reads : Reading w at class next) 
         no-search = omega arith;
       }))
 
-  pub line-plain : r ≡ standAt 3 next 0 0 → (class ≡ 0 → ⊥) → Onward s w end at r (leaving items)
-  unfolding At Shows pull
+  pub line-plain : r ≡ standAt 3 next 0 0 → (class ≡ lineEndKind → ⊥) → Onward s w end at r (leaving items)
+  unfolding At ShowsCtl pull
   line-plain e a = go items (at-item s w end at next 0 d class [] reads items less (outside s w end at d items h))
     where
       go : (l : List Item) → At s w end at next 0 d class [] l → Onward s w end at r (leaving l)

@@ -6,9 +6,11 @@ use Prim.Native.Nat.{ℕ, _+_, _-_, _<_}
 use native.Mathlib.Omega.{arith}
 use Rattle.definitions.specs.Control.{Opener, Item, simple, seek, opens, bracket, close, otherwise, leave, lineEnd, Frame, frame, running, skipping, finished, pullAt, pull}
 use Rattle.theorems.specs.NestingLaws.{mayBracket}
-use Rattle.control.specs.Items.{classOf, startsGroup}
-use Rattle.script.specs.Depth.{openAfter}
-use Rattle.control.specs.Shown.{FramesAt, Within, entered, Runs, Closing, Shows, ShowsNext, ShowsStep, standAt}
+use Rattle.items.specs.Kinds.{lineEndKind, bracketKind, closeKind, elseKind, leaveKind}
+use Rattle.items.specs.Ends.{classOf, simpleClass, searchClass, openerClass}
+use Rattle.control.specs.Items.{startsGroup}
+use Rattle.items.specs.Depth.{openAfter}
+use Rattle.control.specs.Shown.{FramesAt, InFrames, entered, Runs, Closing, ShowsCtl, ShowsNext, ShowsStep, standAt}
 use Rattle.control.specs.declared.Control.{Control}
 use Rattle.control.specs.declared.Next.the-variants.{Finished}
 use Rattle.control.specs.declared.Step.{Step}
@@ -19,7 +21,7 @@ use Rattle.control.proofs.Starting.{goes}
 use Rattle.control.proofs.Running.{closing, two-left}
 
 -- no bracket, ELSE or close runs outside all bodies
-nothing-runs : (class : ℕ) (i : Item) (items : List Item) → class ≡ classOf i → (class ≡ 7 → ⊥) → (class ≡ 6 → ⊥) → (class ≡ 5 → ⊥) → (class ≡ 4 → ⊥) → (class ≡ 0 → ⊥)
+nothing-runs : (class : ℕ) (i : Item) (items : List Item) → class ≡ classOf i → (class ≡ openerClass → ⊥) → (class ≡ searchClass → ⊥) → (class ≡ simpleClass → ⊥) → (class ≡ leaveKind → ⊥) → (class ≡ lineEndKind → ⊥)
     → pullAt (i ∷ items) [] ≡ finished
 unfolding classOf pullAt
 nothing-runs class (opens p o) items e a b c d f = absurd (a e)
@@ -33,14 +35,14 @@ nothing-runs class close items e a b c d f = refl
 
 module _ (w : List ℕ) (end at next depth class : ℕ) (reads : Reading w at class next) (less : at < end) (s : List ℕ) (items : List Item) where
   -- a body is open
-  framed-is : (P : List Frame → Type 0) → (depth ≡ 0 → ⊥) → (frames : List Frame) → Within s w end at depth depth items frames
-      → ((g : Bool) (place : ℕ) (o : Opener) (body : List Item) (fs : List Frame) → Within s w end at depth depth items (frame g place o body ∷ fs) → P (frame g place o body ∷ fs)) → P frames
+  framed-is : (P : List Frame → Type 0) → (depth ≡ 0 → ⊥) → (frames : List Frame) → InFrames s w end at depth depth items frames
+      → ((g : Bool) (place : ℕ) (o : Opener) (body : List Item) (fs : List Frame) → InFrames s w end at depth depth items (frame g place o body ∷ fs) → P (frame g place o body ∷ fs)) → P frames
   framed-is P some [] h on = absurd (some (h .deep))
   framed-is P some (frame g place o body ∷ fs) h on = on g place o body fs h
 
   module _ (r : Step) where
-    pub run-none : depth ≡ 0 → (class ≡ 7 → ⊥) → (class ≡ 6 → ⊥) → (class ≡ 5 → ⊥) → (class ≡ 4 → ⊥) → (class ≡ 0 → ⊥) → r ≡ Gives Finished
-        → (frames : List Frame) → Within s w end at depth depth items frames → ShowsStep s w end at r (running items frames)
+    pub run-none : depth ≡ 0 → (class ≡ openerClass → ⊥) → (class ≡ searchClass → ⊥) → (class ≡ simpleClass → ⊥) → (class ≡ leaveKind → ⊥) → (class ≡ lineEndKind → ⊥) → r ≡ Gives Finished
+        → (frames : List Frame) → InFrames s w end at depth depth items frames → ShowsStep s w end at r (running items frames)
     unfolding ShowsStep ShowsNext pull At
     run-none none a b c d f e (g ∷ frames) h = absurd (omega (arith, none, h .deep))
     run-none none a b c d f e [] h = go items (at-item s w end at next depth depth class [] reads items less h)
@@ -49,9 +51,9 @@ module _ (w : List ℕ) (end at next depth class : ℕ) (reads : Reading w at cl
         go [] x = absurd x
         go (i ∷ rest) x = rw (e, ShowsStep, nothing-runs class i rest (x .is-class) a b c d f) tt
 
-    pub run-bracket : (depth ≡ 0 → ⊥) → class ≡ 1 → (y : Control) → y ≡ standAt 0 next depth 0 → r ≡ On y
+    pub run-bracket : (depth ≡ 0 → ⊥) → class ≡ bracketKind → (y : Control) → y ≡ standAt 0 next depth 0 → r ≡ On y
         → (frames : List Frame) → Runs s w end at depth items frames → ShowsStep s w end at r (running items frames)
-    unfolding entered startsGroup At openAfter mayBracket Shows pull pullAt
+    unfolding entered startsGroup At openAfter mayBracket ShowsCtl pull pullAt
     run-bracket some q y y-is e frames h =
         as-bracket s w end at next depth depth class (entered items frames) (λ l. Runs s w end at depth l frames → ShowsStep s w end at r (running l frames)) q items
         (at-item s w end at next depth depth class (entered items frames) reads items less h) (λ rest x. go rest frames) h
@@ -63,9 +65,9 @@ module _ (w : List ℕ) (end at next depth class : ℕ) (reads : Reading w at cl
             goes s w end at (running (bracket ∷ rest) (frame g place o body ∷ fs)) r (running rest fs) (running rest (frame true place o body ∷ fs)) (standAt 0 next depth 0) (e ∙ ap On y-is) refl
             (refl, runs-on s w end at next depth depth class (frame true place o body ∷ fs) bracket rest x refl (omega arith)) (x .less) (omega arith)
 
-    pub run-else : (depth ≡ 0 → ⊥) → class ≡ 3 → (y : Control) → y ≡ standAt 1 next (depth - 1) 1 → r ≡ On y
-        → (frames : List Frame) → Within s w end at depth depth items frames → ShowsStep s w end at r (running items frames)
-    unfolding openAfter Shows pull pullAt FramesAt
+    pub run-else : (depth ≡ 0 → ⊥) → class ≡ elseKind → (y : Control) → y ≡ standAt 1 next (depth - 1) 1 → r ≡ On y
+        → (frames : List Frame) → InFrames s w end at depth depth items frames → ShowsStep s w end at r (running items frames)
+    unfolding openAfter ShowsCtl pull pullAt FramesAt
     run-else some q y y-is e frames h =
         framed-is (λ l. ShowsStep s w end at r (running items l)) some frames h
         (λ g place o body fs hf. as-otherwise s w end at next depth depth class (frame g place o body ∷ fs) (λ l. ShowsStep s w end at r (running l (frame g place o body ∷ fs))) q items
@@ -81,17 +83,17 @@ module _ (w : List ℕ) (end at next depth class : ℕ) (reads : Reading w at cl
           },
         ) (x .less) (omega arith)))
 
-  is-two : (class ≡ 7 → ⊥) → (class ≡ 6 → ⊥) → (class ≡ 5 → ⊥) → (class ≡ 4 → ⊥) → (class ≡ 0 → ⊥) → (class ≡ 1 → ⊥) → (class ≡ 3 → ⊥)
-      → (frames : List Frame) → Within s w end at depth depth items frames → class ≡ 2
+  is-two : (class ≡ openerClass → ⊥) → (class ≡ searchClass → ⊥) → (class ≡ simpleClass → ⊥) → (class ≡ leaveKind → ⊥) → (class ≡ lineEndKind → ⊥) → (class ≡ bracketKind → ⊥) → (class ≡ elseKind → ⊥)
+      → (frames : List Frame) → InFrames s w end at depth depth items frames → class ≡ closeKind
   unfolding At
   is-two a b c d f g k frames h = go items (at-item s w end at next depth depth class frames reads items less h)
     where
-      go : (l : List Item) → At s w end at next depth depth class frames l → class ≡ 2
+      go : (l : List Item) → At s w end at next depth depth class frames l → class ≡ closeKind
       go [] x = absurd x
       go (i ∷ rest) x = two-left class i (x .is-class) a b c d f g k
 
-  module _ (some : depth ≡ 0 → ⊥) (a : class ≡ 7 → ⊥) (b : class ≡ 6 → ⊥) (c : class ≡ 5 → ⊥) (d : class ≡ 4 → ⊥) (f : class ≡ 0 → ⊥) (k : class ≡ 1 → ⊥) (m : class ≡ 3 → ⊥)
-      (frames : List Frame) (h : Within s w end at depth depth items frames) where
+  module _ (some : depth ≡ 0 → ⊥) (a : class ≡ openerClass → ⊥) (b : class ≡ searchClass → ⊥) (c : class ≡ simpleClass → ⊥) (d : class ≡ leaveKind → ⊥) (f : class ≡ lineEndKind → ⊥) (k : class ≡ bracketKind → ⊥) (m : class ≡ elseKind → ⊥)
+      (frames : List Frame) (h : InFrames s w end at depth depth items frames) where
     abbrev Closes : Type 0
     Closes =
         (z : List ℕ) × (at′ : ℕ) × (rest : List Item) × (g : Bool) × (place : ℕ) × (o : Opener) × (body : List Item) × (fs : List Frame) × Closing z w end at′ next depth rest g place o body fs

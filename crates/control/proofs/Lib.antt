@@ -1,10 +1,8 @@
-pub mod Reading
-pub mod Keeping
 pub mod Standing
 pub mod Classes
 pub mod Passing
 pub mod Failing
-pub mod Openers
+pub mod Tests
 pub mod Starting
 pub mod Ending
 pub mod Again
@@ -13,5 +11,4 @@ pub mod Looking
 pub mod Running
 pub mod Groups
 pub mod Pulling
-pub mod Answers
 pub mod Scripts

@@ -5,9 +5,10 @@ use Prim.Native.Nat.{ℕ, zero, suc, _+_, _-_, _≤_, _<_}
 use native.Mathlib.Omega.{arith}
 use Rattle.definitions.specs.Control.{Item, simple, seek, opens, bracket, close, otherwise, leave, lineEnd, Frame, Ctl, running, skipping, pullAt, pullAfter, pull}
 use Rattle.theorems.specs.NestingLaws.{mayBracket}
-use Rattle.control.specs.Items.{classOf}
-use Rattle.script.specs.Depth.{openAfter}
-use Rattle.control.specs.Shown.{Within, Shows, Onward, standAt}
+use Rattle.items.specs.Kinds.{closeKind}
+use Rattle.items.specs.Ends.{classOf, openerClass}
+use Rattle.items.specs.Depth.{openAfter}
+use Rattle.control.specs.Shown.{InFrames, ShowsCtl, Onward, standAt}
 use Rattle.control.specs.declared.Control.{Control}
 use Rattle.control.proofs.Standing.{within-as}
 use Rattle.control.proofs.Classes.{Reading, At, at-item, runs-on, as-close, as-opens}
@@ -37,7 +38,7 @@ other-open d (leave p) h = omega arith
 other-open d (simple p op) h = omega arith
 other-open d (seek p f se) h = omega arith
 
-is-other : (class : ℕ) (i : Item) → class ≡ classOf i → (class ≡ 7 → ⊥) → (class ≡ 2 → ⊥) → Other i
+is-other : (class : ℕ) (i : Item) → class ≡ classOf i → (class ≡ openerClass → ⊥) → (class ≡ closeKind → ⊥) → Other i
 unfolding Other classOf
 is-other class (opens p o) e a b = a e
 is-other class close e a b = b e
@@ -72,8 +73,8 @@ pull-after-last k items frames e = rw e
 -- ---- to the close
 
 module _ (w : List ℕ) (at next depth count class : ℕ) (reads : Reading w at class next) (r : Control) (le : 1 ≤ count) (s : List ℕ) (end : ℕ) (items : List Item) (frames : List Frame) where
-  pub skip-opens : r ≡ standAt 1 next depth (count + 1) → class ≡ 7 → Within s w end at depth (depth + count) items frames → at < end → Onward s w end at r (skipping count items frames)
-  unfolding Shows openAfter pull pullAfter
+  pub skip-opens : r ≡ standAt 1 next depth (count + 1) → class ≡ openerClass → InFrames s w end at depth (depth + count) items frames → at < end → Onward s w end at r (skipping count items frames)
+  unfolding ShowsCtl openAfter pull pullAfter
   skip-opens e q h less =
       as-opens s w end at next depth (depth + count) class frames (λ l. Onward s w end at r (skipping count l frames)) q items
       (at-item s w end at next depth (depth + count) class frames reads items less h)
@@ -85,8 +86,8 @@ module _ (w : List ℕ) (at next depth count class : ℕ) (reads : Reading w at 
         no-search = omega arith;
       }))
 
-  pub skip-last : r ≡ standAt 0 next depth 0 → class ≡ 2 → count ≡ 1 → Within s w end at depth (depth + count) items frames → at < end → Onward s w end at r (skipping count items frames)
-  unfolding Shows openAfter pull mayBracket
+  pub skip-last : r ≡ standAt 0 next depth 0 → class ≡ closeKind → count ≡ 1 → InFrames s w end at depth (depth + count) items frames → at < end → Onward s w end at r (skipping count items frames)
+  unfolding ShowsCtl openAfter pull mayBracket
   skip-last e q one h less =
       as-close s w end at next depth (depth + count) class frames (λ l. Onward s w end at r (skipping count l frames)) q items
       (at-item s w end at next depth (depth + count) class frames reads items less h)
@@ -98,9 +99,9 @@ module _ (w : List ℕ) (at next depth count class : ℕ) (reads : Reading w at 
         no-search = omega arith;
       }))
 
-  pub skip-close : r ≡ standAt 1 next depth (count - 1) → class ≡ 2 → (count ≡ 1 → ⊥) → Within s w end at depth (depth + count) items frames → at < end
+  pub skip-close : r ≡ standAt 1 next depth (count - 1) → class ≡ closeKind → (count ≡ 1 → ⊥) → InFrames s w end at depth (depth + count) items frames → at < end
       → Onward s w end at r (skipping count items frames)
-  unfolding Shows openAfter pull
+  unfolding ShowsCtl openAfter pull
   skip-close e q more h less =
       as-close s w end at next depth (depth + count) class frames (λ l. Onward s w end at r (skipping count l frames)) q items
       (at-item s w end at next depth (depth + count) class frames reads items less h)
@@ -112,9 +113,9 @@ module _ (w : List ℕ) (at next depth count class : ℕ) (reads : Reading w at 
         no-search = omega arith;
       }))
 
-  pub skip-other : r ≡ standAt 1 next depth count → (class ≡ 7 → ⊥) → (class ≡ 2 → ⊥) → Within s w end at depth (depth + count) items frames → at < end
+  pub skip-other : r ≡ standAt 1 next depth count → (class ≡ openerClass → ⊥) → (class ≡ closeKind → ⊥) → InFrames s w end at depth (depth + count) items frames → at < end
       → Onward s w end at r (skipping count items frames)
-  unfolding At Shows pull
+  unfolding At ShowsCtl pull
   skip-other e a b h less = go items (at-item s w end at next depth (depth + count) class frames reads items less h)
     where
       go : (l : List Item) → At s w end at next depth (depth + count) class frames l → Onward s w end at r (skipping count l frames)

@@ -8,15 +8,16 @@ use lib.ListN.{length}
 use Rattle.definitions.specs.Edit.{round}
 use Rattle.definitions.specs.Control.{Opener, Item, simple, seek, opens, bracket, close, otherwise, leave, lineEnd, Frame, frame, running, seeking, Pull, wantOne, leaveTo, beginOp, pullAt, pull}
 use Rattle.theorems.specs.NestingLaws.{mayBracket}
-use Rattle.script.specs.Words.{OpAt, ItemAt}
-use Rattle.control.specs.Items.{kindAt, placeAt, classOf, placeOf}
-use Rattle.script.specs.Depth.{openAfter}
-use Rattle.control.specs.Shown.{FramesAt, Within, entered, Runs, Opening, Closing, Shows, a-round, simply, ShowsNext, ShowsStep, standAt, seekAt, wantedAt, beginBy}
+use Rattle.items.specs.Kinds.{lineEndKind, bracketKind, closeKind, elseKind, leaveKind}
+use Rattle.items.specs.Words.{OpAt, ItemAt, kindAt, placeAt}
+use Rattle.items.specs.Ends.{classOf, placeOf, simpleClass, searchClass, openerClass}
+use Rattle.items.specs.Depth.{openAfter}
+use Rattle.control.specs.Shown.{FramesAt, InFrames, entered, Runs, Opening, Closing, ShowsCtl, a-round, simply, ShowsNext, ShowsStep, standAt, seekAt, wantedAt, beginBy}
 use Rattle.control.specs.declared.Control.{Control}
 use Rattle.control.specs.declared.Next.the-variants.{Want}
 use Rattle.control.specs.declared.Step.{Step}
 use Rattle.control.specs.declared.Step.the-variants.{On, Gives}
-use Rattle.control.proofs.Reading.{item-reads}
+use Rattle.items.proofs.Reading.{item-reads}
 use Rattle.control.proofs.Standing.{stands-in, pull-entered}
 use Rattle.control.proofs.Classes.{Reading, Here, At, at-item, no-group, runs-on, as-line, as-leave, as-simple, as-seek, as-opens}
 use Rattle.control.proofs.Starting.{gives, goes, shows-as}
@@ -41,8 +42,8 @@ closing s w end at next depth class rest g place o body frames x =
     }
 
 -- a close is what is left
-pub two-left : (class : ℕ) (i : Item) → class ≡ classOf i → (class ≡ 7 → ⊥) → (class ≡ 6 → ⊥) → (class ≡ 5 → ⊥) → (class ≡ 4 → ⊥) → (class ≡ 0 → ⊥) → (class ≡ 1 → ⊥) → (class ≡ 3 → ⊥)
-    → class ≡ 2
+pub two-left : (class : ℕ) (i : Item) → class ≡ classOf i → (class ≡ openerClass → ⊥) → (class ≡ searchClass → ⊥) → (class ≡ simpleClass → ⊥) → (class ≡ leaveKind → ⊥) → (class ≡ lineEndKind → ⊥) → (class ≡ bracketKind → ⊥) → (class ≡ elseKind → ⊥)
+    → class ≡ closeKind
 unfolding classOf
 two-left class (opens p o) e a b c d f g h = absurd (a e)
 two-left class (seek p k se) e a b c d f g h = absurd (b e)
@@ -62,7 +63,7 @@ as-entered s w end at (On c) items frames h =
 as-entered s w end at (Gives r) items frames h = subst (λ (p : Pull). ShowsNext s w end 0 r p) (pull-entered items frames) h
 
 module _ (w : List ℕ) (end at next depth class : ℕ) (reads : Reading w at class next) (less : at < end) (s : List ℕ) (items : List Item) (frames : List Frame)
-    (h : Within s w end at depth depth items frames) where
+    (h : InFrames s w end at depth depth items frames) where
   here-is : At s w end at next depth depth class frames items
   here-is = at-item s w end at next depth depth class frames reads items less h
 
@@ -70,20 +71,20 @@ module _ (w : List ℕ) (end at next depth class : ℕ) (reads : Reading w at cl
   pub run-in : at < length w
   run-in = omega (arith, stands-in s w end at depth items (h .stands), less)
 
-  pub run-opening : class ≡ 7 → ((z : List ℕ) × (place : ℕ) × (o : Opener) × (rest : List Item) × (fs : List Frame) × Opening z w end at next depth place o rest fs)
+  pub run-opening : class ≡ openerClass → ((z : List ℕ) × (place : ℕ) × (o : Opener) × (rest : List Item) × (fs : List Frame) × Opening z w end at next depth place o rest fs)
   run-opening q =
       as-opens s w end at next depth depth class frames (λ l. ((z : List ℕ) × (place : ℕ) × (o : Opener) × (rest : List Item) × (fs : List Frame) × Opening z w end at next depth place o rest fs)) q items here-is
       (λ p o rest x. (s, p, o, rest, frames, opening s w end at next depth class p o rest frames x))
 
-  pub run-leaving : class ≡ 4 → ((z : List ℕ) × (rest : List Item) × (fs : List Frame) × Within z w end next depth depth rest fs)
+  pub run-leaving : class ≡ leaveKind → ((z : List ℕ) × (rest : List Item) × (fs : List Frame) × InFrames z w end next depth depth rest fs)
   unfolding openAfter
   run-leaving q =
-      as-leave s w end at next depth depth class frames (λ l. ((z : List ℕ) × (rest : List Item) × (fs : List Frame) × Within z w end next depth depth rest fs)) q items here-is
+      as-leave s w end at next depth depth class frames (λ l. ((z : List ℕ) × (rest : List Item) × (fs : List Frame) × InFrames z w end next depth depth rest fs)) q items here-is
       (λ p rest x. (s, rest, frames, x .rest))
 
   module _ (r : Step) where
     -- an opener
-    pub run-opens : (w′ : List ℕ) → class ≡ 7
+    pub run-opens : (w′ : List ℕ) → class ≡ openerClass
         → ((z : List ℕ) (place : ℕ) (o : Opener) (rest : List Item) (fs : List Frame) → Opening z w end at next depth place o rest fs → ShowsStep z w′ end at r (running (opens place o ∷ rest) fs))
         → ShowsStep s w′ end at r (running items frames)
     run-opens w′ q started =
@@ -91,8 +92,8 @@ module _ (w : List ℕ) (end at next depth class : ℕ) (reads : Reading w at cl
         (λ p o rest x. started s p o rest frames (opening s w end at next depth class p o rest frames x))
 
     -- a search
-    pub run-seek : class ≡ 6 → r ≡ Gives (Want (wantedAt (beginBy (kindAt w at)) (placeAt w at) at (seekAt at next depth 0) (seekAt at next depth 0))) → ShowsStep s w end at r (running items frames)
-    unfolding ItemAt placeOf openAfter Shows pull pullAt wantOne mayBracket
+    pub run-seek : class ≡ searchClass → r ≡ Gives (Want (wantedAt (beginBy (kindAt w at)) (placeAt w at) at (seekAt at next depth 0) (seekAt at next depth 0))) → ShowsStep s w end at r (running items frames)
+    unfolding ItemAt placeOf openAfter ShowsCtl pull pullAt wantOne mayBracket
     run-seek q e =
         as-seek s w end at next depth depth class frames (λ l. ShowsStep s w end at r (running l frames)) q items here-is
         (λ p f se rest x.
@@ -109,13 +110,13 @@ module _ (w : List ℕ) (end at next depth class : ℕ) (reads : Reading w at cl
 
     module _ (p : ℕ) (p-is : p ≡ placeAt w at) (y : Control) where
       -- a simple command
-      pub run-simple : class ≡ 5 → y ≡ standAt 0 next depth 0 → r ≡ Gives (Want (wantedAt 9 p at y y)) → ShowsStep s w end at r (running items frames)
-      unfolding ItemAt placeOf openAfter Shows pull pullAt wantOne mayBracket
+      pub run-simple : class ≡ simpleClass → y ≡ standAt 0 next depth 0 → r ≡ Gives (Want (wantedAt 9 p at y y)) → ShowsStep s w end at r (running items frames)
+      unfolding ItemAt placeOf openAfter ShowsCtl pull pullAt wantOne mayBracket
       run-simple q y-is e =
           as-simple s w end at next depth depth class frames (λ l. ShowsStep s w end at r (running l frames)) q items here-is
           (λ place op rest x.
           let is-place : p ≡ place = p-is ∙ item-reads s w at next (simple place op) (x .item) .place (x .small) in
-          let sh : Shows s w end y (running rest frames) = shows-as s w end y (standAt 0 next depth 0) (running rest frames) y-is
+          let sh : ShowsCtl s w end y (running rest frames) = shows-as s w end y (standAt 0 next depth 0) (running rest frames) y-is
           (refl, runs-on s w end at next depth depth class frames (simple place op) rest x refl (omega arith)) in
           gives s w end at (running (simple place op ∷ rest) frames) r (wantedAt 9 p at y y) place op (running rest frames) (running rest frames) refl e (record {
             at-place = is-place;
@@ -127,7 +128,7 @@ module _ (w : List ℕ) (end at next depth class : ℕ) (reads : Reading w at cl
           }))
 
       -- AGP
-      pub run-leave : class ≡ 4 → ((z : List ℕ) (rest : List Item) (fs : List Frame) → Within z w end next depth depth rest fs → Shows z w end y (leaveTo 0 rest fs)) → y .lines ≡ 0
+      pub run-leave : class ≡ leaveKind → ((z : List ℕ) (rest : List Item) (fs : List Frame) → InFrames z w end next depth depth rest fs → ShowsCtl z w end y (leaveTo 0 rest fs)) → y .lines ≡ 0
           → r ≡ Gives (Want (wantedAt 0 p at y y)) → ShowsStep s w end at r (running items frames)
       unfolding ItemAt placeOf openAfter pull pullAt wantOne
       run-leave q left none e =
@@ -142,8 +143,8 @@ module _ (w : List ℕ) (end at next depth class : ℕ) (reads : Reading w at cl
           }))
 
     -- a line end
-    pub run-line : class ≡ 0 → (y : Control) → y ≡ standAt 0 next depth 0 → r ≡ On y → ShowsStep s w end at r (running items frames)
-    unfolding openAfter Shows pull pullAt mayBracket
+    pub run-line : class ≡ lineEndKind → (y : Control) → y ≡ standAt 0 next depth 0 → r ≡ On y → ShowsStep s w end at r (running items frames)
+    unfolding openAfter ShowsCtl pull pullAt mayBracket
     run-line q y y-is e =
         as-line s w end at next depth depth class frames (λ l. ShowsStep s w end at r (running l frames)) q items here-is
         (λ rest x. goes s w end at (running (lineEnd ∷ rest) frames) r (running rest frames) (running rest frames) (standAt 0 next depth 0) (e ∙ ap On y-is) refl

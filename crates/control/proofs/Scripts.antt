@@ -1,6 +1,6 @@
 -- The items of a script are as the run asks. Assumes nothing.
 use mathlib.Core.Path.{_≡_, sym, subst}
-use mathlib.Core.Bool.{true, false, false≢true}
+use mathlib.Core.Bool.{true, false≢true}
 use mathlib.Core.List.{List, [], _∷_, _++_, append-assoc}
 use Prim.Native.Nat.{ℕ, _≤_, _<_}
 use native.Mathlib.Omega.{arith}
@@ -16,7 +16,9 @@ use Rattle.theorems.specs.GoodItems.{goodOpener, goodItem, placedIn, allItems}
 use Rattle.theorems.specs.Nesting.{nested}
 use Rattle.theorems.specs.NestingLaws.{mayBracket, bracket-follows}
 use Rattle.theorems.specs.ReadScript.{well-nested, items-placed, good-items}
-use Rattle.control.specs.Items.{placeOf, countOf, startsGroup, Proper}
+use Rattle.items.specs.Ends.{placeOf}
+use Rattle.items.specs.Reserve.{ItemsReady}
+use Rattle.control.specs.Items.{countOf, startsGroup, Proper, Startable}
 
 placed-low : (n : ℕ) (i : Item) → n ≤ 32768 → placedIn n i ≡ true → placeOf i < 32768
 unfolding placedIn placeOf
@@ -71,5 +73,9 @@ script-short : (s : List ℕ) → isScript s ≡ true → length s ≤ 32768
 unfolding isScript
 script-short s h = omega (arith, leb-true (length s) 16384 (and-left (leb (length s) 16384) (areLines s) h))
 
-pub items-proper : (s : List ℕ) (all : List Item) → isScript s ≡ true → readScript s ≡ items all → Proper all
+items-proper : (s : List ℕ) (all : List Item) → isScript s ≡ true → readScript s ≡ items all → Proper all
 items-proper s all h e = proper-from (length s) (script-short s h) [] all (well-nested s all e) (items-placed s all e) (good-items s all h e)
+
+-- a script's items can be run
+pub startable : (s w : List ℕ) (end : ℕ) (all : List Item) → isScript s ≡ true → readScript s ≡ items all → ItemsReady s w end all → Startable s w end all
+startable s w end all h e ready = record { ready = ready; proper = items-proper s all h e }

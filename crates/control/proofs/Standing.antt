@@ -4,72 +4,57 @@ use mathlib.Core.Logic.{_⊎_, inl, inr}
 use mathlib.Core.Bool.{Bool, true, false, _||_}
 use mathlib.Core.List.{List, [], _∷_}
 use Prim.Native.Nat.{ℕ, _+_, _*_, _≤_, _<_}
-use native.Mathlib.Nat.{le-max-left, le-max-right, max-le, le-trans, le-refl}
 use native.Mathlib.Omega.{arith}
 use lib.ListN.{length, getD, set, length-set}
 use lib.Seq.{getD-set-same, getD-set-other}
 use Rattle.definitions.specs.Control.{Opener, times, forever, bare, branch, loop, Item, simple, seek, opens, bracket, close, otherwise, leave, lineEnd, Frame, frame, running, pullAt, pull}
 use Rattle.theorems.specs.NestingLaws.{mayBracket}
-use Rattle.script.specs.Words.{ItemAt, ItemsAt}
-use Rattle.control.specs.Items.{placeOf, countOf, startsGroup, Proper}
-use Rattle.script.specs.Depth.{openAfter, deepest}
-use Rattle.control.specs.Shown.{Kept, Stands, OpenedAt, FrameAt, FramesAt, Within, entered, Runs}
-use Rattle.script.proofs.Affording.{deepest-low}
-use Rattle.control.proofs.Reading.{item-reads, items-end}
-use Rattle.control.proofs.Keeping.{items-kept, item-kept, opener-kept, times-kept}
-
--- ---- how many bodies can be open
-
-pub deepest-next : (d : ℕ) (i : Item) (items : List Item) → deepest (openAfter d i) items ≤ deepest d (i ∷ items)
-unfolding deepest
-deepest-next d i items = le-max-right d (deepest (openAfter d i) items)
-
-open-more : (d d′ : ℕ) (i : Item) → d ≤ d′ → openAfter d i ≤ openAfter d′ i
-unfolding openAfter
-open-more d d′ lineEnd h = h
-open-more d d′ bracket h = h
-open-more d d′ close h = omega arith
-open-more d d′ otherwise h = h
-open-more d d′ (leave p) h = h
-open-more d d′ (simple p op) h = h
-open-more d d′ (seek p f se) h = h
-open-more d d′ (opens p o) h = omega arith
-
-pub deepest-more : (d d′ : ℕ) (items : List Item) → d ≤ d′ → deepest d items ≤ deepest d′ items
-unfolding deepest
-deepest-more d d′ [] h = h
-deepest-more d d′ (i ∷ items) h =
-    max-le (le-trans h (le-max-left d′ (deepest (openAfter d′ i) items)))
-    (le-trans (deepest-more (openAfter d i) (openAfter d′ i) items (open-more d d′ i h)) (le-max-right d′ (deepest (openAfter d′ i) items)))
+use Rattle.items.specs.Words.{ItemAt, ItemsAt}
+use Rattle.items.specs.Ends.{placeOf}
+use Rattle.control.specs.Items.{countOf, startsGroup, Proper}
+use Rattle.items.specs.Depth.{openAfter}
+use Rattle.items.specs.Reserve.{reserve}
+use Rattle.control.specs.Shown.{ItemsKept, ItemsFrom, OpenedAt, FrameAt, FramesAt, InFrames, entered, Runs}
+use Rattle.items.proofs.Deepest.{deepest-low, deepest-next, deepest-more}
+use Rattle.items.proofs.Reading.{item-reads, items-end}
+use Rattle.items.proofs.Keeping.{items-kept, item-kept, opener-kept, times-kept}
 
 -- ---- words that stay
 
-pub kept-less : (w w′ : List ℕ) (n m : ℕ) → m ≤ n → Kept w w′ n → Kept w w′ m
-kept-less w w′ n m le h = record { as-long = h .as-long; same = λ i lt. h .same i (omega arith) }
+pub kept-less : (w w′ : List ℕ) (n m : ℕ) → m ≤ n → ItemsKept w w′ n → ItemsKept w w′ m
+kept-less w w′ n m le h = record { as-long = h .as-long; same = λ i lt. h .same i (omega arith); top = h .top }
 
-pub kept-none : (w : List ℕ) (n : ℕ) → Kept w w n
-kept-none w n = record { as-long = refl; same = λ i lt. refl }
+pub kept-none : (w : List ℕ) (n : ℕ) → ItemsKept w w n
+kept-none w n = record { as-long = refl; same = λ i lt. refl; top = λ i far. refl }
 
-pub kept-twice : (w w′ w″ : List ℕ) (n : ℕ) → Kept w w′ n → Kept w′ w″ n → Kept w w″ n
-kept-twice w w′ w″ n h g = record { as-long = g .as-long ∙ h .as-long; same = λ i lt. g .same i lt ∙ h .same i lt }
+pub kept-twice : (w w′ w″ : List ℕ) (n : ℕ) → ItemsKept w w′ n → ItemsKept w′ w″ n → ItemsKept w w″ n
+kept-twice w w′ w″ n h g = record {
+  as-long = g .as-long ∙ h .as-long;
+  same = λ i lt. g .same i lt ∙ h .same i lt;
+  top = λ i far. g .top i (omega (arith, far, h .as-long)) ∙ h .top i far;
+}
 
-pub kept-set : (w : List ℕ) (n j v : ℕ) → n ≤ j → Kept w (set w j v) n
-kept-set w n j v le = record { as-long = length-set w j v; same = λ i lt. getD-set-other w j i v 0 (λ e. omega (arith, e, lt, le)) }
+pub kept-set : (w : List ℕ) (n j v : ℕ) → n ≤ j → j + reserve < length w → ItemsKept w (set w j v) n
+kept-set w n j v le room = record {
+  as-long = length-set w j v;
+  same = λ i lt. getD-set-other w j i v 0 (λ e. omega (arith, e, lt, le));
+  top = λ i far. getD-set-other w j i v 0 (λ e. omega (arith, e, far, room));
+}
 
-pub kept-written : (w w′ : List ℕ) (n j v : ℕ) → w′ ≡ set w j v → n ≤ j → Kept w w′ n
-kept-written w w′ n j v e le = subst (λ l. Kept w l n) (sym e) (kept-set w n j v le)
+pub kept-written : (w w′ : List ℕ) (n j v : ℕ) → w′ ≡ set w j v → n ≤ j → j + reserve < length w → ItemsKept w w′ n
+kept-written w w′ n j v e le room = subst (λ l. ItemsKept w l n) (sym e) (kept-set w n j v le room)
 
 -- ---- standing at items
 
 module _ (s w : List ℕ) (end : ℕ) where
-  pub stands-in : (k d : ℕ) (items : List Item) → Stands s w end k d items → (k ≤ end) × (end ≤ 65536) × (end + d ≤ length w)
+  pub stands-in : (k d : ℕ) (items : List Item) → ItemsFrom s w end k d items → (k ≤ end) × (end ≤ 65536) × (end + d + reserve ≤ length w)
   stands-in k d items h = (items-end s w k end items (h .lie), h .short, omega (arith, h .room, deepest-low d items))
 
-  pub stands-less : (k d d′ : ℕ) (items : List Item) → d′ ≤ d → Stands s w end k d items → Stands s w end k d′ items
+  pub stands-less : (k d d′ : ℕ) (items : List Item) → d′ ≤ d → ItemsFrom s w end k d items → ItemsFrom s w end k d′ items
   stands-less k d d′ items le h =
       record { lie = h .lie; proper = h .proper; short = h .short; room = omega (arith, h .room, deepest-more d′ d items le) }
 
-  pub stands-kept : (w′ : List ℕ) → Kept w w′ end → (k d : ℕ) (items : List Item) → Stands s w end k d items → Stands s w′ end k d items
+  pub stands-kept : (w′ : List ℕ) → ItemsKept w w′ end → (k d : ℕ) (items : List Item) → ItemsFrom s w end k d items → ItemsFrom s w′ end k d items
   stands-kept w′ ke k d items h =
       record {
         lie = items-kept s w w′ end (ke .same) (omega (arith, h .room, ke .as-long)) k items (h .lie);
@@ -86,9 +71,9 @@ module _ (s w : List ℕ) (end : ℕ) where
     pub few : countOf i < 65536
     pub past : startsGroup items ≡ true → mayBracket i ≡ true
     pub less : k < next
-    pub rest : Stands s w end next (openAfter d i) items
+    pub rest : ItemsFrom s w end next (openAfter d i) items
 
-  pub first-of : (k d : ℕ) (i : Item) (items : List Item) → Stands s w end k d (i ∷ items) → First k d i items
+  pub first-of : (k d : ℕ) (i : Item) (items : List Item) → ItemsFrom s w end k d (i ∷ items) → First k d i items
   unfolding ItemsAt Proper
   first-of k d i items h =
       record {
@@ -101,11 +86,11 @@ module _ (s w : List ℕ) (end : ℕ) where
         rest = record { lie = h .lie .2; proper = h .proper .3; short = h .short; room = omega (arith, h .room, deepest-next d i items) };
       }
 
-  pub none-stands : (k d : ℕ) → Stands s w end k d [] → k ≡ end
+  pub none-stands : (k d : ℕ) → ItemsFrom s w end k d [] → k ≡ end
   unfolding ItemsAt
   none-stands k d h = h .lie
 
-  pub no-more : (k d : ℕ) (items : List Item) → Stands s w end k d items → end ≤ k → items ≡ []
+  pub no-more : (k d : ℕ) (items : List Item) → ItemsFrom s w end k d items → end ≤ k → items ≡ []
   no-more k d [] h le = refl
   no-more k d (i ∷ items) h le =
       let f = first-of k d i items h in
@@ -113,7 +98,7 @@ module _ (s w : List ℕ) (end : ℕ) where
 
 -- ---- the bodies' words
 
-module _ (s w w′ : List ℕ) (end n : ℕ) (ke : Kept w w′ n) (le : end ≤ n) (long : end ≤ length w) where
+module _ (s w w′ : List ℕ) (end n : ℕ) (ke : ItemsKept w w′ n) (le : end ≤ n) (long : end ≤ length w) where
   pub opened-kept : (k m place : ℕ) (o : Opener) (left : ℕ) → m ≤ end → OpenedAt s w k m place o left → OpenedAt s w′ k m place o left
   unfolding OpenedAt
   opened-kept k m place (times c) left lt h =
@@ -143,7 +128,7 @@ module _ (s w w′ : List ℕ) (end n : ℕ) (ke : Kept w w′ n) (le : end ≤ 
         group = h .group;
       }
 
-pub frames-kept : (s w w′ : List ℕ) (end n : ℕ) → Kept w w′ n → end ≤ length w → (frames : List Frame) → end + length frames ≤ n → FramesAt s w end frames → FramesAt s w′ end frames
+pub frames-kept : (s w w′ : List ℕ) (end n : ℕ) → ItemsKept w w′ n → end ≤ length w → (frames : List Frame) → end + length frames ≤ n → FramesAt s w end frames → FramesAt s w′ end frames
 unfolding FramesAt
 frames-kept s w w′ end n ke long [] le h = h
 frames-kept s w w′ end n ke long (frame g place o body ∷ frames) le h = (
@@ -154,13 +139,13 @@ frames-kept s w w′ end n ke long (frame g place o body ∷ frames) le h = (
 -- ---- standing in bodies
 
 module _ (s w : List ℕ) (end : ℕ) (frames : List Frame) where
-  pub within-as : (k depth d d′ : ℕ) (items : List Item) → d′ ≤ d → Within s w end k depth d items frames → Within s w end k depth d′ items frames
+  pub within-as : (k depth d d′ : ℕ) (items : List Item) → d′ ≤ d → InFrames s w end k depth d items frames → InFrames s w end k depth d′ items frames
   within-as k depth d d′ items le h = record { stands = stands-less s w end k d d′ items le (h .stands); framed = h .framed; deep = h .deep }
 
   -- the word of the innermost body is written: it is opened, or goes round
   pub within-word : (w′ : List ℕ) (depth item start left place : ℕ) (o : Opener) (body : List Item) → w′ ≡ set w (end + depth) (item + 65536 * left) → item < end → place < 32768
-      → OpenedAt s w item start place o left → Within s w end start depth (depth + 1) body frames
-      → Within s w′ end start (depth + 1) (depth + 1) body (frame (startsGroup body) place o body ∷ frames)
+      → OpenedAt s w item start place o left → InFrames s w end start depth (depth + 1) body frames
+      → InFrames s w′ end start (depth + 1) (depth + 1) body (frame (startsGroup body) place o body ∷ frames)
   unfolding FramesAt
   within-word w′ depth item start left place o body written before small opened h =
       record {
@@ -185,32 +170,32 @@ module _ (s w : List ℕ) (end : ℕ) (frames : List Frame) where
       inside : start ≤ end
       inside = stands-in s w end start (depth + 1) body (h .stands) .0
 
-      room : end + (depth + 1) ≤ length w
+      room : end + (depth + 1) + reserve ≤ length w
       room = stands-in s w end start (depth + 1) body (h .stands) .2
 
       long : end ≤ length w
       long = omega (arith, room)
 
-      ke : Kept w w′ (end + length frames)
-      ke = kept-written w w′ (end + length frames) (end + depth) (item + 65536 * left) written (omega (arith, h .deep))
+      ke : ItemsKept w w′ (end + length frames)
+      ke = kept-written w w′ (end + length frames) (end + depth) (item + 65536 * left) written (omega (arith, h .deep)) (omega (arith, room))
 
-      stood : Stands s w′ end start (depth + 1) body
+      stood : ItemsFrom s w′ end start (depth + 1) body
       stood = stands-kept s w end w′ (kept-less w w′ (end + length frames) end (omega arith) ke) start (depth + 1) body (h .stands)
 
 -- ---- at the start of a group
 
 module _ (s w : List ℕ) (end k depth : ℕ) (items : List Item) where
   -- no group starts
-  pub runs-past : startsGroup items ≡ false → (frames : List Frame) → Within s w end k depth depth items frames → Runs s w end k depth items frames
+  pub runs-past : startsGroup items ≡ false → (frames : List Frame) → InFrames s w end k depth depth items frames → Runs s w end k depth items frames
   unfolding entered
   runs-past e [] h = h
   runs-past e (frame g place o body ∷ frames) h = rw e h
 
   -- at the start of a body
-  pub runs-body : (g : Bool) (place : ℕ) (o : Opener) (frames : List Frame) → (g ≡ false) ⊎ (g ≡ startsGroup items) → Within s w end k depth depth items (frame (startsGroup items) place o items ∷ frames)
+  pub runs-body : (g : Bool) (place : ℕ) (o : Opener) (frames : List Frame) → (g ≡ false) ⊎ (g ≡ startsGroup items) → InFrames s w end k depth depth items (frame (startsGroup items) place o items ∷ frames)
       → Runs s w end k depth items (frame g place o items ∷ frames)
   unfolding entered
-  runs-body g place o frames e h = subst (λ (b : Bool). Within s w end k depth depth items (frame b place o items ∷ frames)) (sym (joined g (startsGroup items) e)) h
+  runs-body g place o frames e h = subst (λ (b : Bool). InFrames s w end k depth depth items (frame b place o items ∷ frames)) (sym (joined g (startsGroup items) e)) h
     where
       joined : (g b : Bool) → (g ≡ false) ⊎ (g ≡ b) → (b || g) ≡ b
       joined g false (inl e) = e

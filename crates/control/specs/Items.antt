@@ -1,64 +1,12 @@
--- What the words of an item say by themselves: its kind, what it is, where it ends, its place; and what the run asks of items.
+-- What the run asks of items.
 use mathlib.Core.Path.{_≡_}
-use mathlib.Core.Bool.{Bool, true, false, cond}
+use mathlib.Core.Bool.{Bool, true, false}
 use mathlib.Core.List.{List, [], _∷_}
-use Prim.Native.Nat.{ℕ, _+_, _/_, _%_, _<_}
-use lib.ListN.{getD}
-use lib.Dec.{eqb, ltb}
+use Prim.Native.Nat.{ℕ, _<_}
 use Rattle.definitions.specs.Control.{times, forever, bare, branch, loop, Item, simple, seek, opens, bracket, close, otherwise, leave, lineEnd}
 use Rattle.theorems.specs.NestingLaws.{mayBracket}
-use Rattle.matching.specs.Words.{endAt}
-
--- ---- words
-
-abbrev pub kindAt : List ℕ → ℕ → ℕ
-kindAt w k = getD w k 0 % 64
-
-abbrev pub placeAt : List ℕ → ℕ → ℕ
-placeAt w k = getD w k 0 / 64 % 32768
-
--- where a simple command ends, by its kind
-unfoldable pub simpleEnd : List ℕ → ℕ → ℕ → ℕ
-simpleEnd w k kind =
-    cond (ltb kind 16) (k + 1)
-    (cond (ltb kind 19) (k + 2)
-    (cond (ltb kind 21) (k + 4)
-    (cond (ltb kind 22) (k + 2)
-    (cond (ltb kind 24) (k + 4)
-    (cond (ltb kind 30) (endAt w (k + 1) + 1) (endAt w (k + 1)))))))
-
--- where an opener ends, by its kind; one with a search says it in its second word
-unfoldable pub openerEnd : List ℕ → ℕ → ℕ → ℕ
-openerEnd w k kind =
-    cond (eqb kind 41) (k + 2)
-    (cond (ltb kind 44) (k + 1)
-    (cond (eqb kind 46) (k + 1) (getD w (k + 1) 0)))
-
--- how often a count's body is to run
-unfoldable pub timesAt : List ℕ → ℕ → ℕ → ℕ
-timesAt w k kind = cond (eqb kind 40) (getD w k 0 / 2097152) (getD w (k + 1) 0)
-
--- ---- items
-
-unfoldable pub classOf : Item → ℕ
-classOf lineEnd = 0
-classOf bracket = 1
-classOf close = 2
-classOf otherwise = 3
-classOf (leave at) = 4
-classOf (simple at op) = 5
-classOf (seek at f se) = 6
-classOf (opens at o) = 7
-
-unfoldable pub placeOf : Item → ℕ
-placeOf lineEnd = 0
-placeOf bracket = 0
-placeOf close = 0
-placeOf otherwise = 0
-placeOf (leave at) = at
-placeOf (simple at op) = at
-placeOf (seek at f se) = at
-placeOf (opens at o) = at
+use Rattle.items.specs.Ends.{placeOf}
+use Rattle.items.specs.Reserve.{ItemsReady}
 
 -- a count; 0 where an item is none
 unfoldable pub countOf : Item → ℕ
@@ -92,3 +40,8 @@ startsGroup (opens at o ∷ items) = false
 unfoldable pub Proper : List Item → Type 0
 Proper [] = Unit {0}
 Proper (i ∷ items) = (placeOf i < 32768) × (countOf i < 65536) × (startsGroup items ≡ true → mayBracket i ≡ true) × Proper items
+
+-- the items of a script in the words below `end`, from which a run can start
+pub record Startable (s w : List ℕ) (end : ℕ) (items : List Item) : Type 0 where
+  pub ready : ItemsReady s w end items
+  pub proper : Proper items

@@ -8,11 +8,13 @@ use lib.ListN.{length, getD}
 use lib.Dec.{eqb}
 use Rattle.definitions.specs.Search.{Search}
 use Rattle.definitions.specs.Edit.{is, isNot, isEof, Op, round, test, begin, beginBack, find, findBack, findDelete}
-use Rattle.definitions.specs.Control.{Opener, times, forever, bare, branch, loop, Item, opens, otherwise, Frame, frame, Ctl, running, skipping, failing, leaving, seeking, Pull, finished, want, pull}
+use Rattle.definitions.specs.Control.{Opener, times, forever, bare, branch, loop, Item, opens, close, otherwise, Frame, frame, Ctl, running, skipping, failing, leaving, seeking, leaveTo, Pull, finished, want, pull}
 use Rattle.matching.specs.Words.{Encodes}
-use Rattle.script.specs.Words.{head, seekKind, OpAt, SearchAt, TimesAt, OpenerAt, ItemAt, ItemsAt}
+use Rattle.items.specs.Kinds.{findKind, findBackKind, ifKind, unlessKind, whileKind, untilKind, seekKind}
+use Rattle.items.specs.Words.{head, OpAt, SearchAt, TimesAt, OpenerAt, ItemAt, ItemsAt}
 use Rattle.control.specs.Items.{countOf, startsGroup, Proper}
-use Rattle.script.specs.Depth.{deepest}
+use Rattle.items.specs.Depth.{deepest}
+use Rattle.items.specs.Reserve.{reserve}
 use Rattle.control.specs.declared.Control.{Control}
 use Rattle.control.specs.declared.Wanted.{Wanted}
 use Rattle.control.specs.declared.Next.{Next}
@@ -20,17 +22,18 @@ use Rattle.control.specs.declared.Next.the-variants.{Finished, Want}
 use Rattle.control.specs.declared.Step.{Step}
 use Rattle.control.specs.declared.Step.the-variants.{On, Gives}
 
--- the words below n stay
-pub record Kept (w w′ : List ℕ) (n : ℕ) : Type 0 where
+-- the words below n and those of the reserve stay
+pub record ItemsKept (w w′ : List ℕ) (n : ℕ) : Type 0 where
   pub as-long : length w′ ≡ length w
   pub same : (i : ℕ) → i < n → getD w′ i 0 ≡ getD w i 0
+  pub top : (i : ℕ) → length w ≤ i + reserve → getD w′ i 0 ≡ getD w i 0
 
--- the items from k on, with room above `end` for a word for each body that they can open at once, d of them open
-pub record Stands (s w : List ℕ) (end k d : ℕ) (items : List Item) : Type 0 where
+-- the items from k on, with room between `end` and the reserve for a word for each body that they can open at once, d of them open
+pub record ItemsFrom (s w : List ℕ) (end k d : ℕ) (items : List Item) : Type 0 where
   pub lie : ItemsAt s w k end items
   pub proper : Proper items
   pub short : end ≤ 65536
-  pub room : end + deepest d items ≤ length w
+  pub room : end + deepest d items + reserve ≤ length w
 
 -- ---- the bodies that run
 
@@ -51,7 +54,7 @@ pub record FrameAt (s w : List ℕ) (end j d : ℕ) (g : Bool) (place : ℕ) (o 
   pub word : getD w j 0 ≡ item + 65536 * left
   pub before : item < end
   pub small : place < 32768
-  pub stands : Stands s w end start d body
+  pub stands : ItemsFrom s w end start d body
   pub group : g ≡ startsGroup body
 
 -- the bodies that run, the innermost last in the words
@@ -60,8 +63,8 @@ FramesAt s w end [] = Unit {0}
 FramesAt s w end (frame g place o body ∷ frames) = FrameAt s w end (end + length frames) (length frames + 1) g place o body × FramesAt s w end frames
 
 -- items from k on, in the frames; d bodies are open when those that are passed count too
-pub record Within (s w : List ℕ) (end k depth d : ℕ) (items : List Item) (frames : List Frame) : Type 0 where
-  pub stands : Stands s w end k d items
+pub record InFrames (s w : List ℕ) (end k depth d : ℕ) (items : List Item) (frames : List Frame) : Type 0 where
+  pub stands : ItemsFrom s w end k d items
   pub framed : FramesAt s w end frames
   pub deep : depth ≡ length frames
 
@@ -72,16 +75,16 @@ entered items (frame g place o body ∷ frames) = frame (startsGroup items || g)
 
 -- the run is at items from k on, in the frames
 abbrev pub Runs : List ℕ → List ℕ → ℕ → ℕ → ℕ → List Item → List Frame → Type 0
-Runs s w end k depth items frames = Within s w end k depth depth items (entered items frames)
+Runs s w end k depth items frames = InFrames s w end k depth depth items (entered items frames)
 
 -- ---- where the run stands: `mode` is 0 at items, 1 to go on after the kth close, 2 at an ELSE or after a close, 3 after a line end, 4 in a search
 
-unfoldable pub Shows : List ℕ → List ℕ → ℕ → Control → Ctl → Type 0
-Shows s w end c (running items frames) = (c .mode ≡ 0) × Runs s w end (c .at) (c .depth) items frames
-Shows s w end c (skipping k items frames) = (c .mode ≡ 1) × (c .count ≡ k) × (1 ≤ k) × Within s w end (c .at) (c .depth) (c .depth + k) items frames
-Shows s w end c (failing k items frames) = (c .mode ≡ 2) × (c .count ≡ k) × (1 ≤ k) × Within s w end (c .at) (c .depth) (c .depth + k) items frames
-Shows s w end c (leaving items) = (c .mode ≡ 3) × ((d : ℕ) × Stands s w end (c .at) d items)
-Shows s w end c (seeking place f se k items frames) =
+unfoldable pub ShowsCtl : List ℕ → List ℕ → ℕ → Control → Ctl → Type 0
+ShowsCtl s w end c (running items frames) = (c .mode ≡ 0) × Runs s w end (c .at) (c .depth) items frames
+ShowsCtl s w end c (skipping k items frames) = (c .mode ≡ 1) × (c .count ≡ k) × (1 ≤ k) × InFrames s w end (c .at) (c .depth) (c .depth + k) items frames
+ShowsCtl s w end c (failing k items frames) = (c .mode ≡ 2) × (c .count ≡ k) × (1 ≤ k) × InFrames s w end (c .at) (c .depth) (c .depth + k) items frames
+ShowsCtl s w end c (leaving items) = (c .mode ≡ 3) × ((d : ℕ) × ItemsFrom s w end (c .at) d items)
+ShowsCtl s w end c (seeking place f se k items frames) =
     (c .mode ≡ 4) × (c .lines ≡ k) × (place < 32768) × SearchAt s w (c .item) (c .at) (head (seekKind f) place) se
     × Runs s w end (c .at) (c .depth) items frames
 
@@ -96,12 +99,12 @@ pub record Opening (s w : List ℕ) (end at next depth place : ℕ) (o : Opener)
   pub opener : OpenerAt s w at next place o
   pub small : place < 32768
   pub few : countOf (opens place o) < 65536
-  pub rest : Within s w end next depth (depth + 1) items frames
+  pub rest : InFrames s w end next depth (depth + 1) items frames
 
 -- the run stands at the close of a body, `items` after it, from `next` on
 pub record Closing (s w : List ℕ) (end at next depth : ℕ) (items : List Item) (g : Bool) (place : ℕ) (o : Opener) (body : List Item) (frames : List Frame) : Type 0 where
   pub less : at < next
-  pub rest : Stands s w end next (depth - 1) items
+  pub rest : ItemsFrom s w end next (depth - 1) items
   pub past : startsGroup items ≡ false
   pub top : FrameAt s w end (end + length frames) (length frames + 1) g place o body
   pub framed : FramesAt s w end frames
@@ -112,9 +115,15 @@ pub record Closing (s w : List ℕ) (end at next depth : ℕ) (items : List Item
 abbrev pub wantedAt : ℕ → ℕ → ℕ → Control → Control → Wanted
 wantedAt what place item after₁ after₀ = record { what = what; place = place; item = item; lines = 0; yes = after₁; no = after₀ }
 
--- what begins a search, by its kind
+-- what an opener's test asks, what begins a search, and what tests a line in it, by the kind
+unfoldable pub testBy : ℕ → ℕ
+testBy kind = cond (eqb kind ifKind || eqb kind whileKind) 1 (cond (eqb kind unlessKind || eqb kind untilKind) 2 3)
+
 unfoldable pub beginBy : ℕ → ℕ
-beginBy kind = cond (eqb kind 33) 5 4
+beginBy kind = cond (eqb kind findBackKind) 5 4
+
+unfoldable pub lookBy : ℕ → ℕ
+lookBy kind = cond (eqb kind findKind) 6 (cond (eqb kind findBackKind) 7 8)
 
 -- the search of the item at k
 unfoldable pub SearchOf : List ℕ → List ℕ → ℕ → Search → Type 0
@@ -137,8 +146,8 @@ pub data Asks (s w : List ℕ) (x : Wanted) : Op → Type 0 where
 pub record ShowsWant (s w : List ℕ) (end n : ℕ) (x : Wanted) (place : ℕ) (op : Op) (c₁ c₀ : Ctl) : Type 0 where
   pub at-place : x .place ≡ place
   pub asks : Asks s w x op
-  pub yes-shows : Shows s w end (x .yes) c₁
-  pub no-shows : Shows s w end (x .no) c₀
+  pub yes-shows : ShowsCtl s w end (x .yes) c₁
+  pub no-shows : ShowsCtl s w end (x .no) c₀
   pub yes-few : x .yes .lines ≤ n
   pub no-few : x .no .lines ≤ n
 
@@ -151,7 +160,7 @@ ShowsNext s w end n (Want x) (want place op c₁ c₀) = ShowsWant s w end n x p
 -- where the run goes on without a step, further on in the items; what comes next from there is what comes next from `from`
 pub record Onward (s w : List ℕ) (end at : ℕ) (c : Control) (from : Ctl) : Type 0 where
   pub to : Ctl
-  pub shows : Shows s w end c to
+  pub shows : ShowsCtl s w end c to
   pub same : pull to ≡ pull from
   pub further : at < c .at
   pub no-search : c .mode < 4
@@ -159,3 +168,46 @@ pub record Onward (s w : List ℕ) (end at : ℕ) (c : Control) (from : Ctl) : T
 unfoldable pub ShowsStep : List ℕ → List ℕ → ℕ → ℕ → Step → Ctl → Type 0
 ShowsStep s w end at (On c) from = Onward s w end at c from
 ShowsStep s w end at (Gives r) from = ShowsNext s w end 0 r (pull from)
+
+-- ---- what the functions are handed, and what they answer; the words w become w′
+
+-- the run stands at an opener, at a close
+abbrev pub AtOpener : List ℕ → ℕ → ℕ → ℕ → ℕ → Type 0
+AtOpener w end at next depth = (s : List ℕ) × (place : ℕ) × (o : Opener) × (items : List Item) × (frames : List Frame) × Opening s w end at next depth place o items frames
+
+abbrev pub AtClose : List ℕ → ℕ → ℕ → ℕ → Type 0
+AtClose w end next depth =
+    (s : List ℕ) × (at : ℕ) × (items : List Item) × (g : Bool) × (place : ℕ) × (o : Opener) × (body : List Item) × (frames : List Frame) × Closing s w end at next depth items g place o body frames
+
+abbrev pub StartsBody : List ℕ → List ℕ → ℕ → ℕ → ℕ → ℕ → Step → Type 0
+StartsBody w w′ end at next depth r =
+    ItemsKept w w′ end × ((s : List ℕ) (place : ℕ) (o : Opener) (items : List Item) (frames : List Frame) → Opening s w end at next depth place o items frames
+    → ShowsStep s w′ end at r (running (opens place o ∷ items) frames))
+
+abbrev pub EndsBody : List ℕ → List ℕ → ℕ → ℕ → ℕ → Step → Type 0
+EndsBody w w′ end next depth r =
+    ItemsKept w w′ end × ((s : List ℕ) (at : ℕ) (items : List Item) (g : Bool) (place : ℕ) (o : Opener) (body : List Item) (frames : List Frame)
+    → Closing s w end at next depth items g place o body frames → ShowsStep s w′ end at r (running (close ∷ items) (frame g place o body ∷ frames)))
+
+-- AGP at the item before `next` leads to r
+abbrev pub LeadsOut : List ℕ → ℕ → ℕ → ℕ → Control → Type 0
+LeadsOut w end next depth r =
+    ((s : List ℕ) (items : List Item) (frames : List Frame) → InFrames s w end next depth depth items frames → ShowsCtl s w end r (leaveTo 0 items frames)) × (r .lines ≡ 0)
+
+-- an item is passed, to a close, or to an ELSE or a close
+abbrev pub SkipsItem : List ℕ → ℕ → ℕ → ℕ → Control → Type 0
+SkipsItem w at depth count r =
+    (s : List ℕ) (end : ℕ) (items : List Item) (frames : List Frame) → InFrames s w end at depth (depth + count) items frames → at < end → Onward s w end at r (skipping count items frames)
+
+abbrev pub FailsItem : List ℕ → List ℕ → ℕ → ℕ → ℕ → ℕ → Control → Type 0
+FailsItem w w′ end at depth count r =
+    ItemsKept w w′ end × ((s : List ℕ) (items : List Item) (frames : List Frame) → InFrames s w end at depth (depth + count) items frames → Onward s w′ end at r (failing count items frames))
+
+-- an item is run
+abbrev pub RunsItem : List ℕ → List ℕ → ℕ → ℕ → ℕ → Step → Type 0
+RunsItem w w′ end at depth r =
+    ItemsKept w w′ end × ((s : List ℕ) (items : List Item) (frames : List Frame) → Runs s w end at depth items frames → ShowsStep s w′ end at r (running items frames))
+
+-- what comes next from c
+abbrev pub PullsFrom : List ℕ → List ℕ → ℕ → Control → Next → Type 0
+PullsFrom w w′ end c r = ItemsKept w w′ end × ((s : List ℕ) (from : Ctl) → ShowsCtl s w end c from → ShowsNext s w′ end (c .lines + 1) r (pull from))

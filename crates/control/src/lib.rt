@@ -1,32 +1,30 @@
 // Which step comes next: the control machine over the items in the work area. It never sees the editor.
 mod bodies;
-mod items;
 
 ghost use mathlib.Core.Path.{_≡_};
 ghost use mathlib.Core.Bool.{cond};
-ghost use mathlib.Core.List.{List, []};
+ghost use mathlib.Core.List.{List};
 ghost use Prim.Native.Nat.{ℕ, _+_, _<_, _≤_};
 ghost use lib.ListN.{length};
-ghost use Rattle.definitions.specs.Control.{Item, Frame, Ctl, running, skipping, failing, leaving, pull as «pull-of»};
-ghost use Rattle.script.specs.Words.{ItemsAt};
-ghost use Rattle.control.specs.Items.{kindAt, placeAt, Proper};
-ghost use Rattle.script.specs.Depth.{deepest};
-ghost use Rattle.control.specs.Shown.{Kept, Stands, Within, Runs, Shows, ShowsNext, ShowsStep, Onward, standAt, seekAt, wantedAt, beginBy};
+ghost use Rattle.definitions.specs.Control.{Item, Frame, Ctl, leaving, pull as «pull-of»};
+ghost use Rattle.items.specs.Words.{kindAt, placeAt};
+ghost use Rattle.control.specs.Shown.{ItemsKept, ItemsFrom, InFrames, Runs, ShowsCtl, ShowsNext, ShowsStep, Onward, standAt, seekAt, wantedAt, beginBy, lookBy, SkipsItem, FailsItem, RunsItem, PullsFrom};
 use bodies::end_body;
 use bodies::leave_to;
 use bodies::push;
 use bodies::start_body;
-use items::AGP;
-use items::BRACKET;
-use items::CLOSE;
-use items::ELSE;
-use items::LINE_END;
-use items::OPENER;
-use items::SEARCH;
-use items::SIMPLE;
-use items::here;
-use items::kind_of;
-use items::place_of;
+use items::ends::OPENER;
+use items::ends::SEARCH;
+use items::ends::SIMPLE;
+use items::ends::here;
+use items::heads::kind_of;
+use items::heads::place_of;
+use items::kinds;
+use items::kinds::AGP;
+use items::kinds::BRACKET;
+use items::kinds::CLOSE;
+use items::kinds::ELSE;
+use items::kinds::LINE_END;
 
 // How the run stands: at an item; to go on after the `count`th close; at the ELSE, or after the close, of a test that failed, `count` bodies deep;
 // after the next line end; in the search of the item `item`, which has passed `lines` lines.
@@ -124,8 +122,8 @@ fn wants(what: u32, place: usize, item: usize, yes: Control, no: Control) -> Ste
 
 // Passes the item at `at`, to go on after the `count`th close.
 fn skip_item(w: &[u32], at: usize, depth: usize, count: usize) -> Control
-    requires { ⌜ ((s : List ℕ) × (end : ℕ) × (items : List Item) × (frames : List Frame) × Within s (now w) end at depth (depth + count) items frames × (at < end)) × (1 ≤ count) ⌝ }
-    ensures { λ r. ⌜ ((s : List ℕ) (end : ℕ) (items : List Item) (frames : List Frame) → Within s (now (w .entry)) end at depth (depth + count) items frames → at < end → Onward s (now (w .entry)) end at r (skipping count items frames)) ⌝ }
+    requires { ⌜ ((s : List ℕ) × (end : ℕ) × (items : List Item) × (frames : List Frame) × InFrames s (now w) end at depth (depth + count) items frames × (at < end)) × (1 ≤ count) ⌝ }
+    ensures { λ r. ⌜ SkipsItem (now (w .entry)) at depth count r ⌝ }
 {
     let seen = here(w, at);
     let class = seen.class;
@@ -144,8 +142,8 @@ fn skip_item(w: &[u32], at: usize, depth: usize, count: usize) -> Control
 
 // Passes the item at `at`, to go on at the ELSE, or after the close, of a test that failed, `count` bodies deep.
 fn else_item(w: &mut [u32], end: usize, at: usize, depth: usize, count: usize) -> Control
-    requires { ⌜ ((s : List ℕ) × (items : List Item) × (frames : List Frame) × Within s (now w) end at depth (depth + count) items frames) × (at < end) × (1 ≤ count) ⌝ }
-    ensures { λ r. ⌜ Kept (now (w .entry)) (now (w .exit)) end × ((s : List ℕ) (items : List Item) (frames : List Frame) → Within s (now (w .entry)) end at depth (depth + count) items frames → Onward s (now (w .exit)) end at r (failing count items frames)) ⌝ }
+    requires { ⌜ ((s : List ℕ) × (items : List Item) × (frames : List Frame) × InFrames s (now w) end at depth (depth + count) items frames) × (at < end) × (1 ≤ count) ⌝ }
+    ensures { λ r. ⌜ FailsItem (now (w .entry)) (now (w .exit)) end at depth count r ⌝ }
 {
     let seen = here(w, at);
     let class = seen.class;
@@ -171,8 +169,8 @@ fn else_item(w: &mut [u32], end: usize, at: usize, depth: usize, count: usize) -
 
 // Passes the item at `at`, to go on after the next line end.
 fn line_item(w: &[u32], at: usize) -> Control
-    requires { ⌜ ((s : List ℕ) × (end : ℕ) × (d : ℕ) × (items : List Item) × Stands s (now w) end at d items × (at < end)) ⌝ }
-    ensures { λ r. ⌜ ((s : List ℕ) (end : ℕ) (d : ℕ) (items : List Item) → Stands s (now (w .entry)) end at d items → at < end → Onward s (now (w .entry)) end at r (leaving items)) ⌝ }
+    requires { ⌜ ((s : List ℕ) × (end : ℕ) × (d : ℕ) × (items : List Item) × ItemsFrom s (now w) end at d items × (at < end)) ⌝ }
+    ensures { λ r. ⌜ ((s : List ℕ) (end : ℕ) (d : ℕ) (items : List Item) → ItemsFrom s (now (w .entry)) end at d items → at < end → Onward s (now (w .entry)) end at r (leaving items)) ⌝ }
 {
     let seen = here(w, at);
     let class = seen.class;
@@ -197,7 +195,7 @@ fn begin_search(w: &[u32], at: usize, next: usize, depth: usize) -> Step
         lines: 0,
     };
     let place = place_of(w, at);
-    if kind_of(w, at) == 33 {
+    if kind_of(w, at) == kinds::FIND_BACK {
         return wants(BEGIN_BACK, place, at, on, on);
     }
     wants(BEGIN, place, at, on, on)
@@ -206,7 +204,7 @@ fn begin_search(w: &[u32], at: usize, next: usize, depth: usize) -> Step
 // Runs the item at `at`.
 fn run_item(w: &mut [u32], end: usize, at: usize, depth: usize) -> Step
     requires { ⌜ ((s : List ℕ) × (items : List Item) × (frames : List Frame) × Runs s (now w) end at depth items frames) × (at < end) ⌝ }
-    ensures { λ r. ⌜ Kept (now (w .entry)) (now (w .exit)) end × ((s : List ℕ) (items : List Item) (frames : List Frame) → Runs s (now (w .entry)) end at depth items frames → ShowsStep s (now (w .exit)) end at r (running items frames)) ⌝ }
+    ensures { λ r. ⌜ RunsItem (now (w .entry)) (now (w .exit)) end at depth r ⌝ }
 {
     let seen = here(w, at);
     let class = seen.class;
@@ -242,8 +240,8 @@ fn run_item(w: &mut [u32], end: usize, at: usize, depth: usize) -> Step
 
 // One item, by how the run stands.
 fn item_step(w: &mut [u32], end: usize, c: Control) -> Step
-    requires { ⌜ ((s : List ℕ) × (from : Ctl) × Shows s (now w) end c from) × (c .mode < 4) × (c .at < end) ⌝ }
-    ensures { λ r. ⌜ Kept (now (w .entry)) (now (w .exit)) end × ((s : List ℕ) (from : Ctl) → Shows s (now (w .entry)) end c from → ShowsStep s (now (w .exit)) end (c .at) r from) ⌝ }
+    requires { ⌜ ((s : List ℕ) × (from : Ctl) × ShowsCtl s (now w) end c from) × (c .mode < 4) × (c .at < end) ⌝ }
+    ensures { λ r. ⌜ ItemsKept (now (w .entry)) (now (w .exit)) end × ((s : List ℕ) (from : Ctl) → ShowsCtl s (now (w .entry)) end c from → ShowsStep s (now (w .exit)) end (c .at) r from) ⌝ }
 {
     let mode = c.mode;
     if mode == RUNNING {
@@ -258,10 +256,21 @@ fn item_step(w: &mut [u32], end: usize, c: Control) -> Step
     Step::On(line_item(w, c.at))
 }
 
+// What tests a line in a search of this kind.
+fn look_of(kind: u32) -> u32
+    ensures { λ r. ⌜ r ≡ lookBy kind ⌝ }
+{
+    match kind {
+        kinds::FIND => FIND,
+        kinds::FIND_BACK => FIND_BACK,
+        _ => FIND_DELETE,
+    }
+}
+
 // The test of a line in a search; `lines` lines have been passed.
 fn look(w: &[u32], c: Control) -> Next
-    requires { ⌜ ((s : List ℕ) × (end : ℕ) × (from : Ctl) × Shows s (now w) end c from) × (c .mode ≡ 4) × (c .lines < 18446744073709551615) ⌝ }
-    ensures { λ r. ⌜ ((s : List ℕ) (end : ℕ) (from : Ctl) → Shows s (now (w .entry)) end c from → ShowsNext s (now (w .entry)) end (c .lines + 1) r («pull-of» from)) ⌝ }
+    requires { ⌜ ((s : List ℕ) × (end : ℕ) × (from : Ctl) × ShowsCtl s (now w) end c from) × (c .mode ≡ 4) × (c .lines < 18446744073709551615) ⌝ }
+    ensures { λ r. ⌜ ((s : List ℕ) (end : ℕ) (from : Ctl) → ShowsCtl s (now (w .entry)) end c from → ShowsNext s (now (w .entry)) end (c .lines + 1) r («pull-of» from)) ⌝ }
 {
     let item = c.item;
     let lines = c.lines;
@@ -269,7 +278,7 @@ fn look(w: &[u32], c: Control) -> Next
     let mut no = c;
     no.lines = lines + 1;
     Next::Want(Wanted {
-        what: kind_of(w, item) - 26,
+        what: look_of(kind_of(w, item)),
         place: place_of(w, item),
         item,
         lines,
@@ -280,15 +289,15 @@ fn look(w: &[u32], c: Control) -> Next
 
 // The start of a run.
 pub fn start() -> Control
-    ensures { λ r. ⌜ (r .lines ≡ 0) × ((s w : List ℕ) (end : ℕ) (items : List Item) → ItemsAt s w 0 end items → Proper items → end ≤ 65536 → end + deepest 0 items ≤ length w → Shows s w end r (running items [])) ⌝ }
+    ensures { λ r. ⌜ r ≡ standAt 0 0 0 0 ⌝ }
 {
     stand(RUNNING, 0, 0, 0)
 }
 
-// What comes next from where the run stands. The words below `end` stay.
+// What comes next from where the run stands. The words below `end` stay, and those of the reserve.
 pub fn pull(w: &mut [u32], end: usize, c: Control) -> Next
-    requires { ⌜ ((s : List ℕ) × (from : Ctl) × Shows s (now w) end c from) × (c .lines < 18446744073709551615) ⌝ }
-    ensures { λ r. ⌜ Kept (now (w .entry)) (now (w .exit)) end × ((s : List ℕ) (from : Ctl) → Shows s (now (w .entry)) end c from → ShowsNext s (now (w .exit)) end (c .lines + 1) r («pull-of» from)) ⌝ }
+    requires { ⌜ ((s : List ℕ) × (from : Ctl) × ShowsCtl s (now w) end c from) × (c .lines < 18446744073709551615) ⌝ }
+    ensures { λ r. ⌜ PullsFrom (now (w .entry)) (now (w .exit)) end c r ⌝ }
 {
     let mode = c.mode;
     if mode == SEEKING {

@@ -1,17 +1,20 @@
--- What one step reads, tests and does (document 01, "Commands"; numbers 20 to 28 of "Who causes which number").
-use mathlib.Core.Bool.{Bool, true, false, cond, not}
+-- What one step reads, tests and does, a program for each command (document 01, "Commands"; numbers 20 to 28 of "Who causes which number"). The lines of a
+-- program stand in document 01's order of tests.
+use mathlib.Core.Bool.{Bool, true, false, not}
 use mathlib.Core.Option.{Option, none, some}
-use mathlib.Core.List.{List, [], _∷_, _++_, reverseAux}
+use mathlib.Core.List.{List, [], _∷_, _++_}
 use Prim.Native.Nat.{ℕ, zero, suc, _+_, _-_}
 use lib.ListN.{length, take, drop, getD}
-use lib.Dec.{ltb, leb}
+use lib.Dec.{ltb, leb, eqb}
 use Rattle.definitions.specs.Bytes.{Line, upper, lower}
-use Rattle.definitions.specs.Journal.{Record, rewrite, erase, journalLength}
+use Rattle.definitions.specs.Journal.{Record, kept, changed, deleted, inserted}
 use Rattle.definitions.specs.Matching.{Qualified, placeOf, stringIn}
 use Rattle.definitions.specs.Search.{Search, holds, holdsAtEof}
-use Rattle.definitions.specs.Tape.{Reads, ret, bind, Need, readNeed}
-use Rattle.definitions.specs.Editor.{Ed, ed, Out, on, edited, halt, journal, sources, current, seen, land, landNeed, goBack}
-use Rattle.definitions.specs.Editor.{Target, here, line, eof, targetNeed, moveTo, Through, alone, upTo, toEof, isDeleted, afterSource, eraseThrough, eraseAll, eraseBack, putBefore}
+use Rattle.definitions.specs.Tape.{Reads}
+use Rattle.definitions.specs.Given.{Given}
+use Rattle.definitions.specs.Editor.{Ed, ed, records, sources, beforeOf, afterOf, current, hasLive, Stop, n20, n21, n22, n23, n24, n25, n27, n28}
+use Rattle.definitions.specs.Editor.{Target, here, line, eof, Through, alone, upTo, toEof, Move, ahead, back, to, pointTo, strike, strikeBack, put, retext}
+use Rattle.definitions.specs.StepProgram.{Program, gives, stops, looks, reads, moves, _>>=_, _>>_, RunState, Did, answers, changes, quits, Out, perform}
 
 -- A, B and E: insert after, before, or exchange
 pub data Change : Type 0 where
@@ -22,7 +25,7 @@ pub data Test : Type 0 where
   is isNot : Search → Test
   isEof : Test
 
--- What one step asks of the editor. F, BF and DF take a step to begin and one for each line they test; `findDelete se k`: DF has passed k lines.
+-- What one step asks of the editor. F, BF and DF take a step to begin and one for each line they test (R26); `findDelete se k`: DF has passed k lines.
 pub data Op : Type 0 where
   -- a round of a count, RPT or bare group; AGP
   round : Op
@@ -50,67 +53,59 @@ pub data Op : Type 0 where
   cutByte : Op
   recase : Bool → Op
 
--- ---- what a step reads before it acts
+-- ---- parts of programs
 
--- to delete through source line b and come to the next live line, where n source lines are read
-unfoldable pub throughNeed : ℕ → ℕ → List Record → Need
-throughNeed b n rs =
-    cond (ltb n b) (Need.next ((b - n) + 1))
-    (cond (isDeleted (b - 1) rs) (Need.next 0) (landNeed (afterSource (b - 1) rs)))
+-- a number where a test holds
+unfoldable pub stopIf : Stop → Bool → Program (Unit {0})
+stopIf n true = stops n
+stopIf n false = gives tt
 
--- D from the current line
-unfoldable pub deleteHereNeed : Through → List Record → List Record → Need
-deleteHereNeed b before [] = Need.next 0
-deleteHereNeed alone before (r ∷ after) = landNeed after
-deleteHereNeed (upTo b) before (r ∷ after) =
-    cond (leb b (sources before)) (Need.next 0) (throughNeed b (sources before + sources (r ∷ after)) (reverseAux before (r ∷ after)))
-deleteHereNeed toEof before (r ∷ after) = Need.all
+-- a number where there is no value
+unfoldable pub orStop : {A : Type 0} → Stop → Option A → Program A
+orStop n none = stops n
+orStop n (some a) = gives a
 
--- D from source line a, which n source lines read come up to
-unfoldable pub deleteLineNeed : ℕ → Through → ℕ → List Record → Need
-deleteLineNeed a alone n rs = throughNeed a n rs
-deleteLineNeed a (upTo b) n rs = cond (ltb b a) (Need.next (a - n)) (throughNeed b n rs)
-deleteLineNeed a toEof n rs = Need.all
+unfoldable pub either : {A : Type 0} → Bool → Program A → Program A → Program A
+either true m k = m
+either false m k = k
 
-unfoldable pub deleteNeed : Target → Through → Ed → Need
-deleteNeed here b (ed before after p) = deleteHereNeed b before after
-deleteNeed (line a) b (ed before after p) =
-    cond (isDeleted (a - 1) (reverseAux before after)) (Need.next 0) (deleteLineNeed a b (sources before + sources after) (reverseAux before after))
-deleteNeed eof b e = Need.all
+-- what the text as it stands tells
+unfoldable pub see : {A : Type 0} → (Ed → A) → Program A
+see f = looks (λ e. gives (f e))
 
--- F and DF: the next line is reached where the current one does not match
-unfoldable pub findNeed : Search → Ed → Need
-findNeed se (ed before [] p) = Need.next 0
-findNeed se (ed before (r ∷ after) p) = cond (holds se p (current r)) (Need.next 0) (landNeed after)
+unfoldable pub readUpTo : Target → Program (Unit {0})
+readUpTo a = reads a (gives tt)
 
-unfoldable pub nextNeed : Ed → Need
-nextNeed (ed before [] p) = Need.next 0
-nextNeed (ed before (r ∷ after) p) = landNeed after
+unfoldable pub go : Move → Program (Unit {0})
+go x = moves x (gives tt)
 
-unfoldable pub need : Op → Ed → Need
-need round e = Need.next 0
-need quit e = Need.next 0
-need (test c) e = Need.next 0
-need begin e = Need.next 0
-need beginBack e = Need.next 0
-need (find se) e = findNeed se e
-need (findBack se) e = Need.next 0
-need (findDelete se k) e = findNeed se e
-need (move a) e = targetNeed a e
-need next e = nextNeed e
-need previous e = Need.next 0
-need (delete a b) e = deleteNeed a b e
-need (replace a b ls) e = deleteNeed a b e
-need (insert none ls) e = Need.next 0
-need (insert (some a) ls) e = targetNeed a e
-need copy e = Need.next 0
-need (alter c pointing q new) e = Need.next 0
-need (point after q) e = Need.next 0
-need pointStart e = Need.next 0
-need right e = Need.next 0
-need left e = Need.next 0
-need cutByte e = Need.next 0
-need (recase up) e = Need.next 0
+-- the run goes on, no record changed
+unfoldable pub goesOn : Program Did
+goesOn = gives (answers true)
+
+-- the next live line after the k records from the current one on is read, or EOF
+unfoldable pub readPast : ℕ → Program (Unit {0})
+readPast k = looks (λ e. either (hasLive (drop k (afterOf e))) (gives tt) (readUpTo (line (suc (sources (records e))))))
+
+-- the next live line is read and becomes current, or EOF
+unfoldable pub goAhead : Program (Unit {0})
+goAhead = do
+  readPast 1
+  go ahead
+
+-- `M a`
+unfoldable pub goTo : Target → Program (Unit {0})
+goTo a = do
+  readUpTo a
+  go (to a)
+
+-- the current line and p, or a number where EOF is current
+unfoldable pub lineIn : Stop → Ed → Program (Line × ℕ)
+lineIn n (ed before [] p) = stops n
+lineIn n (ed before (r ∷ after) p) = gives (current r, p)
+
+unfoldable pub lineOr : Stop → Program (Line × ℕ)
+lineOr n = looks (lineIn n)
 
 -- ---- tests and searches
 
@@ -127,46 +122,24 @@ passes (is se) e = searchHolds se e
 passes (isNot se) e = not (searchHolds se e)
 passes isEof e = isAtEof e
 
--- "21 F, DF, or a line number, meets EOF unfound"
-unfoldable pub reached : Ed → Out
-reached (ed before [] p) = halt 21 (ed before [] p)
-reached (ed before (r ∷ after) p) = on false (ed before (r ∷ after) p)
+-- F and DF go on with the next live line: "21 F, DF, or a line number, meets EOF unfound"
+unfoldable pub lookOn : Program Did
+lookOn = do
+  goAhead
+  lineOr n21
+  gives (answers false)
 
--- F: found here, "p stays"; else on to the next live line
-unfoldable pub looked : Bool → List Record → Record → List Record → ℕ → Out
-looked true before r after p = on true (ed before (r ∷ after) p)
-looked false before r after p = reached (land (r ∷ before) after)
-
--- DF: found here, the k lines passed are deleted
-unfoldable pub lookedDelete : Bool → ℕ → List Record → Record → List Record → ℕ → Out
-lookedDelete true k before r after p = edited (ed (eraseBack k before []) (r ∷ after) p)
-lookedDelete false k before r after p = reached (land (r ∷ before) after)
-
--- the search goes on
-unfoldable pub notYet : Out → Out
-notYet (on t e) = on false e
-notYet (edited e) = edited e
-notYet (halt n e) = halt n e
-
--- BF: found here, or back to the previous live line
-unfoldable pub lookedBack : Bool → List Record → Record → List Record → ℕ → Out
-lookedBack true before r after p = on true (ed before (r ∷ after) p)
-lookedBack false before r after p = notYet (goBack (ed before (r ∷ after) p) before (r ∷ after))
+-- BF goes on with the previous one: "22 no previous line, or BF unfound"
+unfoldable pub lookBack : Program Did
+lookBack = do
+  go back
+  gives (answers false)
 
 -- ---- changes of the current line
-
--- "20 command needs a line and EOF is current"; else what the command does with the current record
-unfoldable pub withLine : (List Record → Record → List Record → ℕ → Out) → Ed → Out
-withLine f (ed before [] p) = halt 20 (ed before [] p)
-withLine f (ed before (r ∷ after) p) = f before r after p
 
 -- the line `l` with `new` for the `n` bytes from place i
 unfoldable pub splice : Line → ℕ → ℕ → Line → Line
 splice l i n new = take i l ++ (new ++ drop (i + n) l)
-
--- the current line's text becomes `l`, p becomes q; "25 line over 255"
-unfoldable pub retext : List Record → Record → List Record → ℕ → Line → ℕ → Out
-retext before r after p l q = cond (leb (length l) 255) (edited (ed before (rewrite r l ∷ after) q)) (halt 25 (ed before (r ∷ after) p))
 
 -- the line with `new` put after or before the string of `n` bytes at place i, or in exchange for it
 unfoldable pub altered : Change → Line → ℕ → ℕ → Line → Line
@@ -174,33 +147,17 @@ altered afterIt l i n new = splice l (i + n) 0 new
 altered beforeIt l i n new = splice l i 0 new
 altered exchange l i n new = splice l i n new
 
--- "AP, BP, EP: then p stands directly after both texts (EP: after the new one)"; "A, B, E, # leave p"
+-- "AP, BP, EP: then p stands directly after both texts (EP: after the new one)"; "A, B, E, # leave p" (R34)
 unfoldable pub alteredPoint : Change → Bool → ℕ → ℕ → ℕ → ℕ → ℕ
 alteredPoint c false p i n m = p
 alteredPoint afterIt true p i n m = i + n + m
 alteredPoint beforeIt true p i n m = i + n + m
 alteredPoint exchange true p i n m = i + m
 
--- A, B, E, AP, BP, EP where the string is found at a place; "24 no match"
-unfoldable pub alterAt : Change → Bool → Line → Line → List Record → Record → List Record → ℕ → Option ℕ → Out
-alterAt c pointing s new before r after p none = halt 24 (ed before (r ∷ after) p)
-alterAt c pointing s new before r after p (some i) =
-    retext before r after p (altered c (current r) i (length s) new) (alteredPoint c pointing p i (length s) (length new))
-
--- PA, PB: "p after or before the string"
-unfoldable pub pointAt : Bool → Line → List Record → Record → List Record → ℕ → Option ℕ → Out
-pointAt after′ s before r after p none = halt 24 (ed before (r ∷ after) p)
-pointAt true s before r after p (some i) = on true (ed before (r ∷ after) (i + length s))
-pointAt false s before r after p (some i) = on true (ed before (r ∷ after) i)
-
--- "27 p at the line's end (>, #, $, %)": else `out`
-unfoldable pub unlessEnd : List Record → Record → List Record → ℕ → Out → Out
-unlessEnd before r after p out = cond (ltb p (length (current r))) out (halt 27 (ed before (r ∷ after) p))
-
--- "or start (<)"
-unfoldable pub stepLeft : List Record → Record → List Record → ℕ → Out
-stepLeft before r after zero = halt 27 (ed before (r ∷ after) 0)
-stepLeft before r after (suc p) = on true (ed before (r ∷ after) p)
+-- PA, PB: "p after or before the string" of `n` bytes at place i
+unfoldable pub pointBy : Bool → ℕ → ℕ → ℕ
+pointBy true i n = i + n
+pointBy false i n = i
 
 -- % makes a byte upper, $ lower case
 unfoldable pub cased : Bool → ℕ → ℕ
@@ -211,72 +168,145 @@ cased false b = lower b
 unfoldable pub recased : Bool → Line → ℕ → Line
 recased up l p = splice l p 1 (cased up (getD l p 0) ∷ [])
 
--- ---- D, I, R
+-- the place of a string in the line's window; "24 no match"
+unfoldable pub placeOr24 : Qualified → Line → ℕ → Program ℕ
+placeOr24 q l p = orStop n24 (placeOf q p l)
 
--- one thing after another
-unfoldable pub thenDo : Out → (Ed → Out) → Out
-thenDo (on t e) f = f e
-thenDo (edited e) f = f e
-thenDo (halt n e) f = halt n e
+-- the current line and p; "27 p at the line's end (>, #, $, %)"
+unfoldable pub byteHere : Program (Line × ℕ)
+byteHere = do
+  (l, p) ← lineOr n20
+  stopIf n27 (leb (length l) p)
+  gives (l, p)
 
--- D where it has moved to: "D tests a as M does, then 20, 28, 23, 21"; `e` is the state to stop with
-unfoldable pub deleteThrough : Ed → Through → Ed → Out
-deleteThrough e b (ed before [] p) = halt 20 e
-deleteThrough e alone (ed before (r ∷ after) p) = edited (land (erase r ++ before) after)
-deleteThrough e (upTo b) (ed before (r ∷ after) p) =
-    cond (leb b (sources before)) (halt 28 e) (eraseThrough e (b - (sources before + 1)) before (r ∷ after))
-deleteThrough e toEof (ed before (r ∷ after) p) = edited (eraseAll before (r ∷ after))
+-- the current line's text becomes `l`, p becomes q; "25 line over 255"
+unfoldable pub write : Line → ℕ → Program Did
+write l q = do
+  stopIf n25 (ltb 255 (length l))
+  gives (changes (retext l q ∷ []))
 
-unfoldable pub deleteLines : Target → Through → Ed → Out
-deleteLines a b e = thenDo (moveTo a e) (λ e′. deleteThrough e b e′)
+-- ---- D
 
-unfoldable pub insertLines : List Line → Ed → Out
-insertLines ls (ed before after p) = edited (ed (putBefore ls before) after p)
+-- how many records there are through the one after `k` source records of `rs`, n standing before `rs`; 21 and 23 as in a move
+unfoldable pub countThrough : ℕ → ℕ → List Record → Program ℕ
+countThrough n k [] = stops n21
+countThrough n k (inserted l ∷ rs) = countThrough (suc n) k rs
+countThrough n zero (kept l ∷ rs) = gives (suc n)
+countThrough n zero (changed o m ∷ rs) = gives (suc n)
+countThrough n zero (deleted l ∷ rs) = stops n23
+countThrough n (suc k) (kept l ∷ rs) = countThrough (suc n) k rs
+countThrough n (suc k) (changed o m ∷ rs) = countThrough (suc n) k rs
+countThrough n (suc k) (deleted l ∷ rs) = countThrough (suc n) k rs
 
--- ---- what a step does, once it has read what it needs
+-- how many records there are from the current one through b, which is read; "28 line b is before the current line" (R31)
+unfoldable pub reach : Through → Program ℕ
+reach alone = gives 1
+reach (upTo b) = do
+  n ← see (λ e. sources (beforeOf e))
+  stopIf n28 (leb b n)
+  readUpTo (line b)
+  after ← see afterOf
+  countThrough 0 (b - suc n) after
+reach toEof = do
+  readUpTo eof
+  see (λ e. length (afterOf e))
 
-unfoldable pub act : Op → Ed → Out
-act round e = on true e
-act quit e = halt 0 e
-act (test c) e = on (passes c e) e
-act begin (ed before [] p) = halt 21 (ed before [] p)
-act begin (ed before (r ∷ after) p) = on true (ed before (r ∷ after) p)
-act beginBack (ed before [] p) = goBack (ed before [] p) before []
-act beginBack (ed before (r ∷ after) p) = on true (ed before (r ∷ after) p)
-act (find se) (ed before [] p) = halt 21 (ed before [] p)
-act (find se) (ed before (r ∷ after) p) = looked (holds se p (current r)) before r after p
-act (findBack se) (ed before [] p) = halt 22 (ed before [] p)
-act (findBack se) (ed before (r ∷ after) p) = lookedBack (holds se p (current r)) before r after p
-act (findDelete se k) (ed before [] p) = halt 21 (ed before [] p)
-act (findDelete se k) (ed before (r ∷ after) p) = lookedDelete (holds se p (current r)) k before r after p
-act (move a) e = moveTo a e
-act next e = withLine (λ before r after p. on true (land (r ∷ before) after)) e
-act previous (ed before after p) = goBack (ed before after p) before after
-act (delete a b) e = deleteLines a b e
-act (replace a b ls) e = thenDo (deleteLines a b e) (insertLines ls)
-act (insert none ls) e = insertLines ls e
-act (insert (some a) ls) e = thenDo (moveTo a e) (insertLines ls)
-act copy e = withLine (λ before r after p. insertLines (current r ∷ []) (ed before (r ∷ after) p)) e
-act (alter c pointing q new) e = withLine (λ before r after p. alterAt c pointing (stringIn q) new before r after p (placeOf q p (current r))) e
-act (point after′ q) e = withLine (λ before r after p. pointAt after′ (stringIn q) before r after p (placeOf q p (current r))) e
-act pointStart e = withLine (λ before r after p. on true (ed before (r ∷ after) 0)) e
-act right e = withLine (λ before r after p. unlessEnd before r after p (on true (ed before (r ∷ after) (suc p)))) e
-act left e = withLine stepLeft e
-act cutByte e = withLine (λ before r after p. unlessEnd before r after p (retext before r after p (splice (current r) p 1 []) p)) e
-act (recase up) e = withLine (λ before r after p. unlessEnd before r after p (retext before r after p (recased up (current r) p) (suc p))) e
+-- "D tests a as M does, then 20, 28, 23, 21": how many records it takes, from the current one on; the next live line is then read too (R32, R33)
+unfoldable pub span : Target → Through → Program ℕ
+span a b = do
+  goTo a
+  lineOr n20
+  k ← reach b
+  readPast k
+  gives k
+
+-- ---- every command
+
+unfoldable pub program : Op → Program Did
+-- a round; W; the tests
+program round = goesOn
+program quit = gives quits
+program (test c) = do
+  t ← see (passes c)
+  gives (answers t)
+-- "F tests live lines forward until one matches, the current line first"; "EOF is not tested" (R29, R35)
+program begin = do
+  lineOr n21
+  goesOn
+program (find se) = do
+  (l, p) ← lineOr n21
+  either (holds se p l) goesOn lookOn
+-- "BF se likewise backward"
+program beginBack = do
+  t ← see isAtEof
+  either t (go back) (gives tt)
+  goesOn
+program (findBack se) = do
+  (l, p) ← lineOr n22
+  either (holds se p l) goesOn lookBack
+-- "DF se finds as F and deletes the lines before the match, from the current one"
+program (findDelete se k) = do
+  (l, p) ← lineOr n21
+  either (holds se p l) (gives (changes (strikeBack k ∷ []))) lookOn
+-- M, N, P
+program (move a) = do
+  goTo a
+  goesOn
+program next = do
+  lineOr n20
+  goAhead
+  goesOn
+program previous = do
+  go back
+  goesOn
+-- D; "R is D, then I"
+program (delete a b) = do
+  k ← span a b
+  gives (changes (strike k ∷ []))
+program (replace a b ls) = do
+  k ← span a b
+  gives (changes (strike k ∷ put ls ∷ []))
+-- IS, I alone; I with a line (R30); IC
+program (insert none ls) = gives (changes (put ls ∷ []))
+program (insert (some a) ls) = do
+  goTo a
+  gives (changes (put ls ∷ []))
+program copy = do
+  (l, p) ← lineOr n20
+  gives (changes (put (l ∷ []) ∷ []))
+-- "Changes test 20, 27 or 24, 25, 26": A, B, E, AP, BP, EP
+program (alter c pointing q new) = do
+  (l, p) ← lineOr n20
+  i ← placeOr24 q l p
+  write (altered c l i (length (stringIn q)) new) (alteredPoint c pointing p i (length (stringIn q)) (length new))
+-- PA, PB, PR, >, <
+program (point after q) = do
+  (l, p) ← lineOr n20
+  i ← placeOr24 q l p
+  go (pointTo (pointBy after i (length (stringIn q))))
+  goesOn
+program pointStart = do
+  lineOr n20
+  go (pointTo 0)
+  goesOn
+program right = do
+  (l, p) ← byteHere
+  go (pointTo (suc p))
+  goesOn
+program left = do
+  (l, p) ← lineOr n20
+  stopIf n27 (eqb p 0)
+  go (pointTo (p - 1))
+  goesOn
+-- #; $ and % (R36)
+program cutByte = do
+  (l, p) ← byteHere
+  write (splice l p 1 []) p
+program (recase up) = do
+  (l, p) ← byteHere
+  write (recased up l p) (suc p)
 
 -- ---- a step
 
--- a step in a journal buffer without bounds: reading, then what it does
-unfoldable pub stepFree : Op → Ed → Reads Out
-stepFree op e = bind (readNeed (need op e)) (λ ls. ret (act op (seen e ls)))
-
--- "26 journal after the whole command would exceed its buffer": the records are then as they were, `e`, with what was read
-unfoldable pub within : ℕ → Ed → Out → Reads Out
-within size e (on b e′) t = (on b e′, t)
-within size e (edited e′) t = cond (leb (journalLength (journal e′ t)) size) (edited e′, t) (halt 26 e, t)
-within size e (halt n e′) t = (halt n e′, t)
-
--- a step in a journal buffer of `size` bytes
-unfoldable pub step : ℕ → Op → Ed → Reads Out
-step size op e = bind (readNeed (need op e)) (λ ls. within size (seen e ls) (act op (seen e ls)))
+unfoldable pub step : Given → Op → RunState → Reads Out
+step g op s = perform g (program op) s

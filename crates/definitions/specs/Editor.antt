@@ -1,22 +1,23 @@
--- The editor's state: the records as far as read, the current line, the window (document 01, "Tables and the journal").
-use mathlib.Core.Bool.{Bool, true, false}
+-- The text of a run: the records as far as read, the current line, the window (document 01, "Tables and the journal"); moves among the records, and
+-- changes of them.
+use mathlib.Core.Bool.{Bool, true, false, _||_}
 use mathlib.Core.List.{List, [], _∷_, _++_, map, reverseAux}
-use Prim.Native.Nat.{ℕ, zero, suc, _+_, _-_}
+use Prim.Native.Nat.{ℕ, zero, suc, _-_}
 use lib.ListN.{length}
 use Rattle.definitions.specs.Bytes.{Line}
-use Rattle.definitions.specs.Journal.{Record, kept, changed, deleted, inserted, erase, oldSide}
-use Rattle.definitions.specs.Tape.{Tape, unread, ended, restLines, Reads, ret, bind, Need, readNeed}
+use Rattle.definitions.specs.Journal.{Record, kept, changed, deleted, inserted, rewrite, erase, oldSide}
+use Rattle.definitions.specs.Tape.{Tape, unread, ended, restLines}
 
 -- The records before the current one, the nearest first; the records from the current one on, as far as read, none where EOF is current; and p.
 -- The current record is live.
 pub data Ed : Type 0 where
   ed : List Record → List Record → ℕ → Ed
 
--- what a step comes to: the run goes on, no record changed (with a test's result); it goes on, records changed; or it ends with a number
-pub data Out : Type 0 where
-  on : Bool → Ed → Out
-  edited : Ed → Out
-  halt : ℕ → Ed → Out
+unfoldable pub beforeOf : Ed → List Record
+beforeOf (ed before after p) = before
+
+unfoldable pub afterOf : Ed → List Record
+afterOf (ed before after p) = after
 
 -- the records as far as read
 unfoldable pub records : Ed → List Record
@@ -42,15 +43,58 @@ current (changed o n) = n
 current (deleted l) = l
 current (inserted l) = l
 
--- lines that are read come after the other records, kept
-unfoldable pub seen : Ed → List Line → Ed
-seen (ed before after p) ls = ed before (after ++ map kept ls) p
+-- "Live records are all but `--`"
+unfoldable pub isLive : Record → Bool
+isLive (kept l) = true
+isLive (changed o n) = true
+isLive (deleted l) = false
+isLive (inserted l) = true
 
--- "A run begins with every source line kept, the first line (or EOF) current and read"
-unfoldable pub opening : Reads Ed
-opening = bind (readNeed (Need.next 1)) (λ ls. ret (ed [] (map kept ls) 0))
+unfoldable pub hasLive : List Record → Bool
+hasLive [] = false
+hasLive (r ∷ rs) = isLive r || hasLive rs
 
--- ---- the next and the previous live line. "Live records are all but `--`"
+-- ---- numbers
+
+-- the numbers with which a command stops before its end ("The run: 20 ..")
+pub data Stop : Type 0 where
+  n20 n21 n22 n23 n24 n25 n26 n27 n28 : Stop
+
+unfoldable pub stopNumber : Stop → ℕ
+stopNumber n20 = 20
+stopNumber n21 = 21
+stopNumber n22 = 22
+stopNumber n23 = 23
+stopNumber n24 = 24
+stopNumber n25 = 25
+stopNumber n26 = 26
+stopNumber n27 = 27
+stopNumber n28 = 28
+
+-- an answer, or the number to stop with
+pub data Got (A : Type 0) : Type 0 where
+  got : A → Got A
+  stop : Stop → Got A
+
+-- ---- moves among the records that are read
+
+-- what M, D and I move to: `.`, a source line, `*`
+pub data Target : Type 0 where
+  here : Target
+  line : ℕ → Target
+  eof : Target
+
+-- how far D goes: one line; through a source line; through the last line
+pub data Through : Type 0 where
+  alone : Through
+  upTo : ℕ → Through
+  toEof : Through
+
+-- to the next live line, or EOF after the last; to the previous one; to what M names; p to so many bytes
+pub data Move : Type 0 where
+  ahead back : Move
+  to : Target → Move
+  pointTo : ℕ → Move
 
 -- the first live record of `after`, or EOF, becomes current: "a line that becomes current gets p = 0"
 unfoldable pub land : List Record → List Record → Ed
@@ -60,110 +104,74 @@ land before (changed o n ∷ after) = ed before (changed o n ∷ after) 0
 land before (deleted l ∷ after) = land (deleted l ∷ before) after
 land before (inserted l ∷ after) = ed before (inserted l ∷ after) 0
 
--- so many lines must be read for that: one where none of the records is live
-unfoldable pub landNeed : List Record → Need
-landNeed [] = Need.next 1
-landNeed (kept l ∷ after) = Need.next 0
-landNeed (changed o n ∷ after) = Need.next 0
-landNeed (deleted l ∷ after) = landNeed after
-landNeed (inserted l ∷ after) = Need.next 0
+-- the nearest live record of `before` becomes current; "22 no previous line"
+unfoldable pub goBack : List Record → List Record → Got Ed
+goBack [] after = stop n22
+goBack (kept l ∷ before) after = got (ed before (kept l ∷ after) 0)
+goBack (changed o n ∷ before) after = got (ed before (changed o n ∷ after) 0)
+goBack (deleted l ∷ before) after = goBack before (deleted l ∷ after)
+goBack (inserted l ∷ before) after = got (ed before (inserted l ∷ after) 0)
 
--- the nearest live record of `before` becomes current; 22 where there is none, `e` being the state to stop with
-unfoldable pub goBack : Ed → List Record → List Record → Out
-goBack e [] after = halt 22 e
-goBack e (kept l ∷ before) after = on true (ed before (kept l ∷ after) 0)
-goBack e (changed o n ∷ before) after = on true (ed before (changed o n ∷ after) 0)
-goBack e (deleted l ∷ before) after = goBack e before (deleted l ∷ after)
-goBack e (inserted l ∷ before) after = on true (ed before (inserted l ∷ after) 0)
+-- "The record of source line n is the nth record that gives the old side a line". The record after `k` source records of `rs` becomes current,
+-- `before` standing before `rs`. 21: "a line number, meets EOF unfound"; 23: "numbered line is deleted".
+unfoldable pub locate : ℕ → List Record → List Record → Got Ed
+locate k before [] = stop n21
+locate k before (inserted l ∷ rs) = locate k (inserted l ∷ before) rs
+locate zero before (kept l ∷ rs) = got (ed before (kept l ∷ rs) 0)
+locate zero before (changed o n ∷ rs) = got (ed before (changed o n ∷ rs) 0)
+locate zero before (deleted l ∷ rs) = stop n23
+locate (suc k) before (kept l ∷ rs) = locate k (kept l ∷ before) rs
+locate (suc k) before (changed o n ∷ rs) = locate k (changed o n ∷ before) rs
+locate (suc k) before (deleted l ∷ rs) = locate k (deleted l ∷ before) rs
 
--- ---- source lines by their numbers. "The record of source line n is the nth record that gives the old side a line"
+-- "`M a`: to source line a; `M *` to EOF; `M .`, or a move to the current line's own number, sets p to 0"
+unfoldable pub moved : Move → Ed → Got Ed
+moved ahead (ed before [] p) = got (ed before [] 0)
+moved ahead (ed before (r ∷ after) p) = got (land (r ∷ before) after)
+moved back (ed before after p) = goBack before after
+moved (to here) (ed before after p) = got (ed before after 0)
+moved (to (line a)) e = locate (a - 1) [] (records e)
+moved (to eof) (ed before after p) = got (ed (reverseAux after before) [] 0)
+moved (pointTo q) (ed before after p) = got (ed before after q)
 
--- what M, D and I move to: `.`, a source line, `*`
-pub data Target : Type 0 where
-  here : Target
-  line : ℕ → Target
-  eof : Target
+-- ---- changes of records
 
--- so many lines must be read for that
-unfoldable pub targetNeed : Target → Ed → Need
-targetNeed here e = Need.next 0
-targetNeed (line a) (ed before after p) = Need.next (a - (sources before + sources after))
-targetNeed eof e = Need.all
+pub data Edit : Type 0 where
+  -- the live ones of the next k records, the current one first, are deleted; the next live line is current
+  strike : ℕ → Edit
+  -- the nearest k live lines before the current one are deleted
+  strikeBack : ℕ → Edit
+  -- "An insertion goes directly before the current line's record, or at the end if EOF is current"
+  put : List Line → Edit
+  -- the current line's text, and p
+  retext : Line → ℕ → Edit
 
--- The record after `k` source records of `rs` becomes current, `before` standing before `rs`. 21: "a line number, meets EOF unfound";
--- 23: "numbered line is deleted"; `e` is the state to stop with.
-unfoldable pub locate : Ed → ℕ → List Record → List Record → Out
-locate e k before [] = halt 21 e
-locate e k before (inserted l ∷ rs) = locate e k (inserted l ∷ before) rs
-locate e zero before (kept l ∷ rs) = on true (ed before (kept l ∷ rs) 0)
-locate e zero before (changed o n ∷ rs) = on true (ed before (changed o n ∷ rs) 0)
-locate e zero before (deleted l ∷ rs) = halt 23 e
-locate e (suc k) before (kept l ∷ rs) = locate e k (kept l ∷ before) rs
-locate e (suc k) before (changed o n ∷ rs) = locate e k (changed o n ∷ before) rs
-locate e (suc k) before (deleted l ∷ rs) = locate e k (deleted l ∷ before) rs
+unfoldable pub struck : ℕ → List Record → List Record → Ed
+struck zero before after = land before after
+struck (suc k) before [] = ed before [] 0
+struck (suc k) before (r ∷ after) = struck k (erase r ++ before) after
 
--- `M a`: "to source line a; `M *` to EOF; `M .`, or a move to the current line's own number, sets p to 0"
-unfoldable pub moveTo : Target → Ed → Out
-moveTo here (ed before after p) = on true (ed before after 0)
-moveTo (line a) e = locate e (a - 1) [] (records e)
-moveTo eof (ed before after p) = on true (ed (reverseAux after before) [] 0)
+-- `passed` stood after them
+unfoldable pub struckBack : ℕ → List Record → List Record → List Record
+struckBack zero before passed = reverseAux passed before
+struckBack (suc k) [] passed = reverseAux passed []
+struckBack (suc k) (kept l ∷ before) passed = struckBack k before (deleted l ∷ passed)
+struckBack (suc k) (changed o n ∷ before) passed = struckBack k before (deleted o ∷ passed)
+struckBack (suc k) (deleted l ∷ before) passed = struckBack (suc k) before (deleted l ∷ passed)
+struckBack (suc k) (inserted l ∷ before) passed = struckBack k before passed
 
--- ---- deleting and inserting records
-
--- how far D goes: one line; through a source line; through the last line
-pub data Through : Type 0 where
-  alone : Through
-  upTo : ℕ → Through
-  toEof : Through
-
--- is the record after `k` source records deleted
-unfoldable pub isDeleted : ℕ → List Record → Bool
-isDeleted k [] = false
-isDeleted k (inserted l ∷ rs) = isDeleted k rs
-isDeleted zero (kept l ∷ rs) = false
-isDeleted zero (changed o n ∷ rs) = false
-isDeleted zero (deleted l ∷ rs) = true
-isDeleted (suc k) (kept l ∷ rs) = isDeleted k rs
-isDeleted (suc k) (changed o n ∷ rs) = isDeleted k rs
-isDeleted (suc k) (deleted l ∷ rs) = isDeleted k rs
-
--- the records after the one that follows `k` source records
-unfoldable pub afterSource : ℕ → List Record → List Record
-afterSource k [] = []
-afterSource k (inserted l ∷ rs) = afterSource k rs
-afterSource zero (kept l ∷ rs) = rs
-afterSource zero (changed o n ∷ rs) = rs
-afterSource zero (deleted l ∷ rs) = rs
-afterSource (suc k) (kept l ∷ rs) = afterSource k rs
-afterSource (suc k) (changed o n ∷ rs) = afterSource k rs
-afterSource (suc k) (deleted l ∷ rs) = afterSource k rs
-
--- The live ones of `rs` deleted, through the record after `k` source records; the next live line is current. 23 and 21 as in a move.
-unfoldable pub eraseThrough : Ed → ℕ → List Record → List Record → Out
-eraseThrough e k before [] = halt 21 e
-eraseThrough e k before (inserted l ∷ rs) = eraseThrough e k before rs
-eraseThrough e zero before (kept l ∷ rs) = edited (land (deleted l ∷ before) rs)
-eraseThrough e zero before (changed o n ∷ rs) = edited (land (deleted o ∷ before) rs)
-eraseThrough e zero before (deleted l ∷ rs) = halt 23 e
-eraseThrough e (suc k) before (kept l ∷ rs) = eraseThrough e k (deleted l ∷ before) rs
-eraseThrough e (suc k) before (changed o n ∷ rs) = eraseThrough e k (deleted o ∷ before) rs
-eraseThrough e (suc k) before (deleted l ∷ rs) = eraseThrough e k (deleted l ∷ before) rs
-
--- all of the records deleted; EOF is current
-unfoldable pub eraseAll : List Record → List Record → Ed
-eraseAll before [] = ed before [] 0
-eraseAll before (r ∷ rs) = eraseAll (erase r ++ before) rs
-
--- the nearest `k` live records of `before` deleted; `passed` stood after them
-unfoldable pub eraseBack : ℕ → List Record → List Record → List Record
-eraseBack zero before passed = reverseAux passed before
-eraseBack (suc k) [] passed = reverseAux passed []
-eraseBack (suc k) (kept l ∷ before) passed = eraseBack k before (deleted l ∷ passed)
-eraseBack (suc k) (changed o n ∷ before) passed = eraseBack k before (deleted o ∷ passed)
-eraseBack (suc k) (deleted l ∷ before) passed = eraseBack (suc k) before (deleted l ∷ passed)
-eraseBack (suc k) (inserted l ∷ before) passed = eraseBack k before passed
-
--- "An insertion goes directly before the current line's record, or at the end if EOF is current"
 unfoldable pub putBefore : List Line → List Record → List Record
 putBefore [] before = before
 putBefore (l ∷ ls) before = putBefore ls (inserted l ∷ before)
+
+unfoldable pub edit : Edit → Ed → Ed
+edit (strike k) (ed before after p) = struck k before after
+edit (strikeBack k) (ed before after p) = ed (struckBack k before []) after p
+edit (put ls) (ed before after p) = ed (putBefore ls before) after p
+edit (retext l q) (ed before [] p) = ed before [] p
+edit (retext l q) (ed before (r ∷ after) p) = ed before (rewrite r l ∷ after) q
+
+-- one after the other
+unfoldable pub edits : List Edit → Ed → Ed
+edits [] e = e
+edits (x ∷ xs) e = edits xs (edit x e)

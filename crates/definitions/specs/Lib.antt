@@ -5,7 +5,10 @@ pub mod Listing
 pub mod Matching
 pub mod Search
 pub mod Tape
+pub mod Given
 pub mod Editor
+pub mod Reading
+pub mod StepProgram
 pub mod Edit
 pub mod Control
 pub mod Reader

@@ -9,14 +9,17 @@ use Rattle.definitions.specs.Bytes.{Line, linesOf}
 use Rattle.definitions.specs.Table.{isTable, isScript}
 use Rattle.definitions.specs.Journal.{Record, kept, journalBytes, journalLength}
 use Rattle.definitions.specs.Tape.{Tape, unread, Reads, ret, bind}
-use Rattle.definitions.specs.Editor.{Ed, Out, on, edited, halt, opening, journal, furthest}
+use Rattle.definitions.specs.Given.{bytes, Given, given, carried}
+use Rattle.definitions.specs.Editor.{journal, furthest}
+use Rattle.definitions.specs.Reading.{opening}
+use Rattle.definitions.specs.StepProgram.{RunState, state, textOf, Out, on, edited, halt}
 use Rattle.definitions.specs.Edit.{Op, step}
 use Rattle.definitions.specs.Control.{Item, Ctl, running, Pull, finished, want, pull}
 use Rattle.definitions.specs.Script.{Script, items, refusedAt, readScript}
 
--- how a run ends: number, steps, place, and the editor's last state
+-- how a run ends: number, steps, place, and the last state
 pub data End : Type 0 where
-  end : ℕ → ℕ → ℕ → Ed → End
+  end : ℕ → ℕ → ℕ → RunState → End
 
 unfoldable pub choose : Bool → Ctl → Ctl → Ctl
 choose true c₁ c₀ = c₁
@@ -28,28 +31,28 @@ endPlace zero at = 0
 endPlace (suc n) at = at
 
 -- the budget is spent: "The run stops when its next step would exceed the budget" (29), at the place of that step
-unfoldable pub spent : ℕ → Ed → Pull → End
-spent steps e finished = end 0 steps 0 e
-spent steps e (want at op c₁ c₀) = end 29 steps at e
+unfoldable pub spent : ℕ → RunState → Pull → End
+spent steps s finished = end 0 steps 0 s
+spent steps s (want at op c₁ c₀) = end 29 steps at s
 
 -- after a step; `go` is the run with what is left of the budget
-unfoldable pub stepped : (Ctl → Ed → Reads End) → ℕ → ℕ → Ctl → Ctl → Out → Reads End
-stepped go steps at c₁ c₀ (on b e) = go (choose b c₁ c₀) e
-stepped go steps at c₁ c₀ (edited e) = go c₁ e
-stepped go steps at c₁ c₀ (halt n e) = ret (end n steps (endPlace n at) e)
+unfoldable pub stepped : (Ctl → RunState → Reads End) → ℕ → ℕ → Ctl → Ctl → Out → Reads End
+stepped go steps at c₁ c₀ (on b s) = go (choose b c₁ c₀) s
+stepped go steps at c₁ c₀ (edited s) = go c₁ s
+stepped go steps at c₁ c₀ (halt n s) = ret (end n steps (endPlace n at) s)
 
 -- the next step, if there is one
-unfoldable pub stepping : (Op → Ed → Reads Out) → (Ctl → Ed → Reads End) → ℕ → Ed → Pull → Reads End
-stepping take-step go steps e finished = ret (end 0 steps 0 e)
-stepping take-step go steps e (want at op c₁ c₀) = bind (take-step op e) (stepped go (suc steps) at c₁ c₀)
+unfoldable pub stepping : (Op → RunState → Reads Out) → (Ctl → RunState → Reads End) → ℕ → RunState → Pull → Reads End
+stepping take-step go steps s finished = ret (end 0 steps 0 s)
+stepping take-step go steps s (want at op c₁ c₀) = bind (take-step op s) (stepped go (suc steps) at c₁ c₀)
 
 -- the run with so much of the budget left, `steps` being made; `take-step` is what one step does
-unfoldable pub run : (Op → Ed → Reads Out) → ℕ → ℕ → Ctl → Ed → Reads End
-run take-step zero steps c e = ret (spent steps e (pull c))
-run take-step (suc budget) steps c e = stepping take-step (λ c′ e′. run take-step budget (suc steps) c′ e′) steps e (pull c)
+unfoldable pub run : (Op → RunState → Reads Out) → ℕ → ℕ → Ctl → RunState → Reads End
+run take-step zero steps c s = ret (spent steps s (pull c))
+run take-step (suc budget) steps c s = stepping take-step (λ c′ s′. run take-step budget (suc steps) c′ s′) steps s (pull c)
 
-unfoldable pub runItems : (Op → Ed → Reads Out) → ℕ → List Item → Reads End
-runItems take-step budget is = bind opening (λ e. run take-step budget 0 (running is []) e)
+unfoldable pub runItems : (Op → RunState → Reads Out) → ℕ → List Item → Reads End
+runItems take-step budget is = bind opening (λ e. run take-step budget 0 (running is []) (state e carried))
 
 -- ---- the answer
 
@@ -59,9 +62,9 @@ pub data Answer : Type 0 where
   refusal : ℕ → ℕ → Answer
 
 unfoldable pub answerOf : End → Tape → Answer
-answerOf (end n steps at e) t = answer n steps (furthest e t) at (journal e t)
+answerOf (end n steps at s) t = answer n steps (furthest (textOf s) t) at (journal (textOf s) t)
 
-unfoldable pub ranItems : (Op → Ed → Reads Out) → ℕ → List Item → List Line → Answer
+unfoldable pub ranItems : (Op → RunState → Reads Out) → ℕ → List Item → List Line → Answer
 ranItems take-step budget is ls = let r = runItems take-step budget is (unread ls) in answerOf (r .0) (r .1)
 
 -- "9 journal buffer shorter than the opening journal", which keeps every source line
@@ -74,7 +77,7 @@ workLength script = 2 * length script + 64
 
 unfoldable pub ranTable : List ℕ → ℕ → ℕ → List Item → Answer
 ranTable table budget size is =
-    cond (leb (openingLength (linesOf table)) size) (ranItems (step size) budget is (linesOf table)) (refusal 9 0)
+    cond (leb (openingLength (linesOf table)) size) (ranItems (step (given (bytes size))) budget is (linesOf table)) (refusal 9 0)
 
 unfoldable pub ranScript : List ℕ → ℕ → ℕ → Script → Answer
 ranScript table budget size (items is) = cond (isTable table) (ranTable table budget size is) (refusal 7 0)

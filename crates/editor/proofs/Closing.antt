@@ -4,7 +4,7 @@ use mathlib.Core.Bool.{true}
 use Prim.Native.Nat.{ℕ, suc, _+_, _-_, _<_}
 use native.Mathlib.Omega.{arith}
 use native.Mathlib.Numerals.{add-one}
-use mathlib.Core.List.{List, [], _∷_, _++_, map, reverseAux, append-assoc, append-nil}
+use mathlib.Core.List.{List, [], _∷_, _++_, map, map-append, reverseAux, append-assoc, append-nil}
 use lib.ListN.{length, take, drop, getD, set, length-append}
 use lib.Seq.{take-suc, drop-cons, set-at, getD-at, take-at, drop-at, length-take-le}
 use borrow.Author.Tests.{ne-eqb}
@@ -17,7 +17,6 @@ use Rattle.editor.specs.Shows.{Holds}
 use Rattle.editor.specs.declared.State.{State}
 use Rattle.editor.proofs.Records.{Text, line-text, all-length, before-all, goods-reverse}
 use Rattle.editor.proofs.Held.{held-length}
-use Rattle.editor.proofs.Reading.{map-append}
 
 text-ends : (l : List ℕ) → Text l → map lineEnd l ≡ l
 unfolding Text

@@ -10,20 +10,19 @@ use Rattle.definitions.specs.Bytes.{Line, linesOf, lineBytes, linesBytes}
 use Rattle.definitions.specs.Table.{isTable}
 use Rattle.definitions.specs.Journal.{Record, kept, changed, deleted, inserted, oldOf, oldSide}
 use Rattle.definitions.specs.Tape.{Tape, restLines}
-use Rattle.definitions.specs.Editor.{Ed, ed, current}
-use Rattle.theorems.specs.RecordLaws.{old-append}
-use Rattle.theorems.specs.JournalBytes.{lines-back}
+use Rattle.definitions.specs.Editor.{Ed, ed, beforeOf, afterOf, current}
+use Rattle.theorems.specs.RecordLaws.{reverse-append, old-append}
+use Rattle.theorems.specs.JournalBytes.{table-reads-back}
 use Rattle.editor.specs.Records.{oldBytes}
 use Rattle.editor.specs.Shows.{Holds, Shows, TextAt}
-use Rattle.editor.specs.Current.{textOf, PointIn, TableOf}
+use Rattle.editor.specs.Current.{currentLine, PointIn, TableOf}
 use Rattle.editor.specs.declared.State.{State}
 use Rattle.editor.proofs.Records.{line-short, old-bytes-nil, old-bytes-reverse}
 use Rattle.editor.proofs.Held.{held-mark}
-use Rattle.editor.proofs.Reading.{reverse-append}
-use Rattle.editor.proofs.Answers.{journal-is, shown-record}
+use Rattle.editor.proofs.Reading.{journal-is}
+use Rattle.editor.proofs.Parts.{shown-record}
+use Rattle.editor.proofs.Texts.{text-here, text-size, current-good}
 use Rattle.text.proofs.Lines.{lines-bytes-append}
-use Rattle.editor.proofs.Opening.{table-last}
-use Rattle.editor.proofs.Texts.{text-size, current-good}
 
 -- ---- a kept line in the table
 
@@ -35,7 +34,7 @@ table-from table b l a good q =
     let B : List ℕ = linesBytes (oldSide (reverseAux b [])) in
     let A : List ℕ = (l ++ (10 ∷ [])) ++ linesBytes (oldSide a) in
     let whole : table ≡ B ++ A =
-    sym (lines-back table (table-last table good)) ∙ ap linesBytes (sym q ∙ ap oldSide (reverse-append b [] (kept l ∷ a)) ∙ old-append (reverseAux b []) (kept l ∷ a))
+    sym (table-reads-back table good) ∙ ap linesBytes (sym q ∙ ap oldSide (reverse-append b [] (kept l ∷ a)) ∙ old-append (reverseAux b []) (kept l ∷ a))
     ∙ lines-bytes-append (oldSide (reverseAux b [])) (l ∷ oldSide a) in
     let long : length B ≡ oldBytes b = omega (arith, old-bytes-reverse b [], old-bytes-nil) in
     rw whole (drop-at B A (oldBytes b) long ∙ append-assoc l (10 ∷ []) (linesBytes (oldSide a)))
@@ -49,7 +48,7 @@ module _ {j : List ℕ} {st : State} (from n : ℕ) (more : st .back < length j)
     (texts : (b : List Record) (x : Record) (a : List Record) → Holds j st b (x ∷ a) → TextAt j (st .back) from n x) where
   kept-here : (table : List ℕ) (b : List Record) (l : Line) (a : List Record) (p : ℕ) (t : Tape)
       → Shows j st (ed b (kept l ∷ a) p) t → TableOf table (ed b (kept l ∷ a) p) t → KeptAt table (st .source) n (kept l)
-  unfolding current
+  unfolding current beforeOf afterOf
   kept-here table b l a p t h w =
       let A : List Record = a ++ map kept (restLines t) in
       let z : List ℕ = linesBytes (oldSide A) in
@@ -61,6 +60,7 @@ module _ {j : List ℕ} {st : State} (from n : ℕ) (more : st .back < length j)
 
   module _ (table : List ℕ) (m : getD j (st .back) 0 ≡ 61) where
     kept-at : (b : List Record) (r : Record) (a : List Record) (p : ℕ) (t : Tape) → Shows j st (ed b (r ∷ a) p) t → TableOf table (ed b (r ∷ a) p) t → KeptAt table (st .source) n r
+    unfolding beforeOf afterOf
     kept-at b (kept l) a p t h w = kept-here table b l a p t h w
     kept-at b (changed o l) a p t h w = absurd (omega (arith, held-mark (h .holds)))
     kept-at b (deleted l) a p t h w = absurd (omega (arith, held-mark (h .holds)))
@@ -70,7 +70,7 @@ module _ {j : List ℕ} {st : State} (from n : ℕ) (more : st .back < length j)
     kept-room (ed b [] p) t h w = absurd (shown-record b p t h more)
     kept-room (ed b (r ∷ a) p) t h w = kept-at b r a p t h w .room
 
-    pub kept-line : (e : Ed) (t : Tape) → Shows j st e t → TableOf table e t → take ((st .source + n) - st .source) (drop (st .source) table) ≡ textOf e
+    pub kept-line : (e : Ed) (t : Tape) → Shows j st e t → TableOf table e t → take ((st .source + n) - st .source) (drop (st .source) table) ≡ currentLine e
     kept-line (ed b [] p) t h w = absurd (shown-record b p t h more)
     kept-line (ed b (r ∷ a) p) t h w =
         let q : (st .source + n) - st .source ≡ n = omega arith in
@@ -79,23 +79,22 @@ module _ {j : List ℕ} {st : State} (from n : ℕ) (more : st .back < length j)
   -- ---- a line in the journal
 
   pub other-room : (e : Ed) (t : Tape) → Shows j st e t → from + n ≤ length j
-  other-room (ed b [] p) t h = absurd (shown-record b p t h more)
-  other-room (ed b (r ∷ a) p) t h = omega (arith, texts b r (a ++ map kept (restLines t)) (h .holds) .within)
+  other-room e t h = omega (arith, text-here e t h more texts .within)
 
-  pub other-line : (e : Ed) (t : Tape) → Shows j st e t → take ((from + n) - from) (drop from j) ≡ textOf e
-  other-line (ed b [] p) t h = absurd (shown-record b p t h more)
-  other-line (ed b (r ∷ a) p) t h =
+  pub other-line : (e : Ed) (t : Tape) → Shows j st e t → take ((from + n) - from) (drop from j) ≡ currentLine e
+  other-line e t h =
       let q : (from + n) - from ≡ n = omega arith in
-      rw q (texts b r (a ++ map kept (restLines t)) (h .holds) .text)
+      rw q (text-here e t h more texts .text)
 
 -- ---- the current line
 
 -- it is no longer than a line can be
-pub shown-short : {j : List ℕ} {st : State} (e : Ed) (t : Tape) → Shows j st e t → length (textOf e) ≤ 255
+pub shown-short : {j : List ℕ} {st : State} (e : Ed) (t : Tape) → Shows j st e t → length (currentLine e) ≤ 255
+unfolding afterOf
 shown-short (ed b [] p) t h = omega arith
 shown-short (ed b (r ∷ a) p) t h = line-short (current r) (current-good r (h .holds .good .0))
 
 -- p is within it
-pub line-window : {j : List ℕ} {st : State} → st .back < length j → (e : Ed) (t : Tape) → Shows j st e t → PointIn e → (l : List ℕ) → l ≡ textOf e → st .p ≤ length l
+pub line-window : {j : List ℕ} {st : State} → st .back < length j → (e : Ed) (t : Tape) → Shows j st e t → PointIn e → (l : List ℕ) → l ≡ currentLine e → st .p ≤ length l
 line-window more (ed b [] p) t h i l q = absurd (shown-record b p t h more)
 line-window more (ed b (r ∷ a) p) t h i l q = rw (q, h .p) i

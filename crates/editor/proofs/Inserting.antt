@@ -1,29 +1,21 @@
--- Insertion of a line before the current one. Assumes nothing.
+-- A line written into the gap as an inserted record before the current one. Assumes nothing.
 use mathlib.Core.Path.{_≡_, refl, sym, ap, _∙_}
-use mathlib.Core.Bool.{true, cond}
-use mathlib.Core.Option.{none}
-use Prim.Native.Nat.{ℕ, suc, _+_, _-_, _≤_, _<_}
+use mathlib.Core.Bool.{true}
+use Prim.Native.Nat.{ℕ, suc, _+_, _-_, _≤_}
 use native.Mathlib.Omega.{arith}
 use mathlib.Core.List.{List, [], _∷_, _++_, map, reverseAux, append-assoc}
 use lib.ListN.{length, take, drop, set, length-append, length-replicate, length-drop, replicate-append-replicate}
 use lib.Seq.{paste, set-at, length-take-le}
-use lib.Dec.{leb}
-use borrow.Author.Tests.{le-leb, lt-leb}
 use Rattle.gap.specs.Gap.{zeros}
 use Rattle.text.proofs.Pastes.{paste-parts}
 use Rattle.definitions.specs.Bytes.{Line, isLine}
-use Rattle.definitions.specs.Journal.{Record, kept, inserted, recordLength, journalLength}
-use Rattle.definitions.specs.Tape.{Tape, restLines}
-use Rattle.definitions.specs.Editor.{Ed, ed, edited, halt, journal, putBefore}
-use Rattle.definitions.specs.Edit.{Op, need, act, insertLines, within, step}
-use Rattle.editor.specs.Records.{encAll, encBefore}
-use Rattle.editor.specs.Shows.{Holds, Shows, Stays, Answers, Answered}
+use Rattle.definitions.specs.Journal.{Record, inserted, recordLength, journalLength}
+use Rattle.definitions.specs.Editor.{putBefore}
+use Rattle.editor.specs.Records.{encAll, encBefore, LineIn}
+use Rattle.editor.specs.Shows.{Holds}
 use Rattle.editor.specs.declared.State.{State}
-use Rattle.editor.specs.declared.Moved.the-variants.{On, Stop}
 use Rattle.editor.proofs.Records.{line-short, sources-cons, old-bytes-cons, sum-reverse, all-length, before-all}
 use Rattle.editor.proofs.Held.{held-length}
-use Rattle.editor.proofs.Reading.{reachOf}
-use Rattle.editor.proofs.Answers.{step-still, shown-reach, journal-is, shows-of, leaves-of, same-here}
 
 -- ---- bytes
 
@@ -56,8 +48,8 @@ module _ (B A s : List ℕ) (f n r : ℕ) (at : length B ≡ f) (fits : n ≤ le
 pub put-holds : (j k : List ℕ) (st s : State) (text : List ℕ) (n : ℕ) → n ≤ length text → isLine (take n text) ≡ true → st .front + (n + 3) ≤ st .back
     → k ≡ set (paste (set (set j (st .front) 43) (st .front + 1) 43) (st .front + 2) text n) (st .front + 2 + n) 10
     → s .front ≡ st .front + 2 + n + 1 → s .back ≡ st .back → s .past ≡ st .past → s .lines ≡ st .lines → s .source ≡ st .source → s .size ≡ st .size
-    → (b a : List Record) → Holds j st b a → Holds k s (inserted (take n text) ∷ b) a
-unfolding encBefore
+    → (b a : List Record) → Holds j st b a → Holds k s (putBefore (take n text ∷ []) b) a
+unfolding encBefore putBefore
 put-holds j k st s text n fits good room is f e c l o z b a h =
     let T : List ℕ = take n text in
     let r : ℕ = s .back - s .front in
@@ -81,8 +73,8 @@ put-holds j k st s text n fits good room is f e c l o z b a h =
 pub text-length : (s : List ℕ) (from n : ℕ) → from + n ≤ length s → length (take n (drop from s)) ≡ n
 text-length s from n fits = length-take-le n (drop from s) (simp length-drop (omega arith))
 
-pub text-short : (s : List ℕ) (from n : ℕ) → from + n ≤ length s → isLine (take n (drop from s)) ≡ true → n ≤ 255
-text-short s from n fits good = omega (arith, line-short (take n (drop from s)) good, text-length s from n fits)
+pub text-short : (s : List ℕ) (from n : ℕ) → LineIn s from n → n ≤ 255
+text-short s from n h = omega (arith, line-short (take n (drop from s)) (h .1), text-length s from n (h .0))
 
 -- ---- the journal's length
 
@@ -100,50 +92,6 @@ pub put-length : (ls : List Line) (b a : List Record) → journalLength (reverse
 unfolding journalLength recordLength putBefore
 put-length [] b a = omega arith
 put-length (l ∷ ls) b a = omega (arith, put-length ls (inserted l ∷ b) a, length-reverse (inserted l ∷ b) a, length-reverse b a)
-
--- ---- I and IS
-
-insert-step : (n : ℕ) (ls : List Line) (b a : List Record) (p : ℕ) (t : Tape)
-    → step n (Op.insert none ls) (ed b a p) t
-    ≡ cond (leb (journalLength (journal (ed (putBefore ls b) a p) t)) n) (edited (ed (putBefore ls b) a p), t) (halt 26 (ed b a p), t)
-unfolding need act insertLines within
-insert-step n ls b a p t = step-still n (Op.insert none ls) (ed b a p) t refl
-
--- how long the journal would be
-insert-length : {j : List ℕ} {st : State} (ls : List Line) (b a : List Record) (p : ℕ) (t : Tape) → Shows j st (ed b a p) t
-    → journalLength (journal (ed (putBefore ls b) a p) t) + (st .back - st .front) ≡ journalLength (map inserted ls) + length j
-insert-length ls b a p t h =
-    let U : List Record = a ++ map kept (restLines t) in
-    let new : journalLength (journal (ed (putBefore ls b) a p) t) ≡ journalLength (reverseAux (putBefore ls b) U) = ap journalLength (sym (journal-is (putBefore ls b) a p t)) in
-    omega (arith, put-length ls b U, held-journal (h .holds))
-
-pub lines-full : {j : List ℕ} {st : State} (ls : List Line) (e : Ed) (t : Tape) → Shows j st e t → st .back - st .front < journalLength (map inserted ls)
-    → Answered j (Stop 26 st) (step (length j) (Op.insert none ls) e t)
-unfolding Answers
-lines-full {j} ls (ed b a p) t h full =
-    rw (insert-step (length j) ls b a p t, lt-leb (journalLength (journal (ed (putBefore ls b) a p) t)) (length j) (omega (arith, insert-length ls b a p t h)))
-    (refl, leaves-of b a p t (same-here (h .holds)) (shown-reach b a p t h))
-
-pub lines-on : {j k : List ℕ} {st s : State} (ls : List Line) (e : Ed) (t : Tape) → Shows j st e t → journalLength (map inserted ls) ≤ st .back - st .front
-    → ((b : List Record) (a : List Record) → Holds j st b a → Holds k s (putBefore ls b) a) → Stays st s
-    → Answered k (On s) (step (length j) (Op.insert none ls) e t)
-unfolding Answers
-lines-on {j} ls (ed b a p) t h room puts same =
-    rw (insert-step (length j) ls b a p t, le-leb (journalLength (journal (ed (putBefore ls b) a p) t)) (length j) (omega (arith, insert-length ls b a p t h)))
-    (shows-of (putBefore ls b) a p t (puts b (a ++ map kept (restLines t)) (h .holds))
-    (same .furthest ∙ shown-reach b a p t h ∙ ap (λ (m : ℕ). reachOf m t) (sym (same .lines))) (same .p ∙ h .p) (h .grounded))
-
--- one line
-pub insert-full : {j : List ℕ} {st : State} (l : Line) (e : Ed) (t : Tape) → Shows j st e t → st .back - st .front < length l + 3
-    → Answered j (Stop 26 st) (step (length j) (Op.insert none (l ∷ [])) e t)
-unfolding journalLength recordLength
-insert-full l e t h full = lines-full (l ∷ []) e t h (omega arith)
-
-pub insert-on : {j k : List ℕ} {st s : State} (l : Line) (e : Ed) (t : Tape) → Shows j st e t → length l + 3 ≤ st .back - st .front
-    → ((b : List Record) (a : List Record) → Holds j st b a → Holds k s (inserted l ∷ b) a) → Stays st s
-    → Answered k (On s) (step (length j) (Op.insert none (l ∷ [])) e t)
-unfolding journalLength recordLength putBefore
-insert-on l e t h room puts same = lines-on (l ∷ []) e t h (omega arith) puts same
 
 -- the text is in the slice
 pub text-fits : (s : List ℕ) (from n : ℕ) → from + n ≤ length s → n ≤ length (drop from s)

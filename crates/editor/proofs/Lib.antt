@@ -1,22 +1,21 @@
--- `Lines`: bytes walked by lines. `Records`, `Sizes`: records in the buffer. `Held`, `Landed`: a buffer that holds records, and the gap that moves.
--- `Reading`, `Reaching`: the definitions over what is read, and over all. `Opening`, `Closing`: a run's start and end. `Texts`, `CurrentText`: the
--- current line's text. `Tables`: the journal stays one of its table. `Answers`, `Moving`, `Inserting`, `Striking`, `Deleting`: the commands. `Alike`:
--- commands that come to the like.
+-- `Lines`: bytes walked by lines. `Records`, `Sizes`: records in the buffer. `Held`: a buffer that holds records, and the gap that moves over one.
+-- `Reading`, `Reaching`: the definitions over what is read, and over all. `Walking`: walks of the gap, and its way back. `Parts`: a step put together
+-- from its parts. `Moving`: the parts that move; N, P and M. `Inserting`, `Striking`: one record put in, one struck. `Changing`: changes of records,
+-- and 26. `Opening`, `Closing`: a run's start and end. `Texts`, `CurrentText`: the current line's text; IC. `Tables`: the journal stays one of its table.
 pub mod Lines
 pub mod Records
 pub mod Held
 pub mod Reading
 pub mod Reaching
-pub mod Answers
+pub mod Walking
+pub mod Parts
 pub mod Moving
-pub mod Closing
-pub mod Landed
-pub mod Opening
-pub mod Inserting
-pub mod Striking
 pub mod Sizes
-pub mod Deleting
+pub mod Striking
+pub mod Inserting
+pub mod Changing
+pub mod Opening
+pub mod Closing
 pub mod Texts
-pub mod Tables
 pub mod CurrentText
-pub mod Alike
+pub mod Tables

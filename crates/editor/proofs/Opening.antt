@@ -8,24 +8,25 @@ use mathlib.Core.List.{List, [], _∷_, _++_, map, append-assoc, append-nil}
 use lib.ListN.{length, take, drop, getD, set, length-append, length-drop, drop-of-length-le}
 use lib.Seq.{sets-eq, paste, take-append-le, take-take, take-suc, drop-at, drop-cons, getD-drop, length-take-le, take-all}
 use lib.Dec.{eqb, leb}
-use borrow.Author.Tests.{eq-eqb, eqb-true, leb-true}
+use borrow.Author.Tests.{eq-eqb, eqb-true}
 use Rattle.gap.specs.Gap.{zeros, cleared}
 use Rattle.text.specs.Feeds.{lineStart}
-use Rattle.text.proofs.Lines.{other-byte}
 use Rattle.gap.proofs.Laws.{clear-parts}
 use Rattle.definitions.specs.Bytes.{Line, before, linesOf, lastByte, isLine, allLines, areLines}
 use Rattle.definitions.specs.Table.{isTable}
 use Rattle.definitions.specs.Journal.{kept}
-use Rattle.definitions.specs.Tape.{unread, ended, restLines, bind, readNext, readNeed}
-use Rattle.definitions.specs.Editor.{opening}
+use Rattle.definitions.specs.Tape.{unread, ended, restLines}
+use Rattle.definitions.specs.Editor.{isLive}
+use Rattle.definitions.specs.Reading.{opening}
 use Rattle.definitions.specs.Run.{openingLength}
-use Rattle.theorems.specs.JournalBytes.{lines-back}
-use Rattle.editor.specs.Records.{encAll, encBefore, Goods}
-use Rattle.editor.specs.Shows.{Holds, Opens}
+use Rattle.theorems.specs.Lines.{lines-lf, lines-other}
+use Rattle.theorems.specs.JournalBytes.{table-reads-back, table-lines, table-short}
+use Rattle.theorems.specs.RecordLaws.{sources-kept}
+use Rattle.editor.specs.Records.{encAll, encBefore, Goods, OpeningAt}
+use Rattle.editor.specs.Shows.{Holds, Opens, raised}
 use Rattle.editor.specs.declared.State.{State}
-use Rattle.editor.proofs.Records.{both, all-length, sources-nil, sources-kept, old-bytes-nil, old-bytes-kept}
-use Rattle.editor.proofs.Reading.{reachOf}
-use Rattle.editor.proofs.Answers.{shows-of}
+use Rattle.editor.proofs.Records.{both, all-length, sources-nil, old-bytes-nil, old-bytes-kept}
+use Rattle.editor.proofs.Reading.{reachOf, shows-of}
 
 -- ---- one line of the table
 
@@ -91,11 +92,6 @@ part-more t u s k h lt =
     let byte : getD (drop s t) n 0 ≡ getD t k 0 = getD-drop s t n 0 ∙ rw at in
     rw (up, take-suc (drop s t) n 0 in-d, byte) (sym (append-assoc (take n (drop s t)) (getD t k 0 ∷ []) u))
 
--- the lines of one byte more
-lines-feed : (x : ℕ) (t : List ℕ) → eqb x 10 ≡ true → linesOf (x ∷ t) ≡ [] ∷ linesOf t
-unfolding linesOf
-lines-feed x t e = rw (e, linesOf)
-
 before-first : (x : ℕ) (u : Line) (ls us : List Line) → us ≡ u ∷ ls → before x us ≡ (x ∷ u) ∷ ls
 unfolding before
 before-first x u ls us e = ap (before x) e
@@ -108,7 +104,7 @@ line-back t u ls zero h e = e
 line-back t u ls (suc k) h e = go (eqb (getD t k 0) 10) refl (line-back t (getD t k 0 ∷ u) ls k (omega arith))
   where
     longer : eqb (getD t k 0) 10 ≡ false → linesOf (drop k t) ≡ (getD t k 0 ∷ u) ∷ ls
-    longer q = ap linesOf (drop-cons t k 0 (omega arith)) ∙ other-byte (getD t k 0) (drop (suc k) t) q ∙ before-first (getD t k 0) u ls (linesOf (drop (suc k) t)) e
+    longer q = ap linesOf (drop-cons t k 0 (omega arith)) ∙ lines-other (getD t k 0) (drop (suc k) t) q ∙ before-first (getD t k 0) u ls (linesOf (drop (suc k) t)) e
 
     go : (b : Bool) → eqb (getD t k 0) 10 ≡ b
         → (linesOf (drop k t) ≡ (getD t k 0 ∷ u) ∷ ls → linesOf (drop (lineStart t k) t) ≡ (take (k - lineStart t k) (drop (lineStart t k) t) ++ (getD t k 0 ∷ u)) ∷ ls)
@@ -126,7 +122,7 @@ module _ (t : List ℕ) (i : ℕ) (some : 0 < i) (within : i ≤ length t) (feed
   the-line : linesOf (drop (lineStart t (i - 1)) t) ≡ take (i - 1 - lineStart t (i - 1)) (drop (lineStart t (i - 1)) t) ∷ linesOf (drop i t)
   the-line =
       let up : suc (i - 1) ≡ i = omega arith in
-      let empty : linesOf (drop (i - 1) t) ≡ [] ∷ linesOf (drop i t) = rw up at (ap linesOf (drop-cons t (i - 1) 0 (omega arith)) ∙ lines-feed (getD t (i - 1) 0) (drop (suc (i - 1)) t) (eq-eqb (getD t (i - 1) 0) 10 feed)) in
+      let empty : linesOf (drop (i - 1) t) ≡ [] ∷ linesOf (drop i t) = rw up at (ap linesOf (drop-cons t (i - 1) 0 (omega arith)) ∙ lines-lf (getD t (i - 1) 0) (drop (suc (i - 1)) t) (eq-eqb (getD t (i - 1) 0) 10 feed)) in
       line-back t [] (linesOf (drop i t)) (i - 1) (omega arith) empty ∙ rw append-nil
 
   line-counted : length (linesOf (drop (lineStart t (i - 1)) t)) ≡ suc (length (linesOf (drop i t)))
@@ -154,8 +150,8 @@ kept-more : (x : ℕ) (t : List ℕ) → length (keptLines t) ≤ length (keptLi
 kept-more x t = go (eqb x 10) refl
   where
     go : (b : Bool) → eqb x 10 ≡ b → length (keptLines t) ≤ length (keptLines (x ∷ t))
-    go true e = rw (lines-feed x t e) (empty-more (linesOf t))
-    go false e = rw (other-byte x t e) (before-more x (linesOf t))
+    go true e = rw (lines-lf x t e) (empty-more (linesOf t))
+    go false e = rw (lines-other x t e) (before-more x (linesOf t))
 
 kept-less : (t : List ℕ) (i : ℕ) → length (keptLines (drop i t)) ≤ length (keptLines t)
 kept-less t zero = omega arith
@@ -238,8 +234,8 @@ module _ {t j₀ j : List ℕ} {o i lines : ℕ} (w : Writing t j₀ j o i lines
 
 -- all is written
 pub writing-done : {t j₀ j : List ℕ} {o i lines : ℕ} → Writing t j₀ j o i lines → i ≡ 0
-    → (j ≡ take o j₀ ++ keptLines t) × (o + openingLength (linesOf t) ≡ length j₀) × (lines ≡ length (linesOf t))
-writing-done {t} {j₀} {j} {o} {i} {lines} w z = (rw z at (w .bytes), rw (opening-room t) (rw z at (w .at)), rw z at (w .counted))
+    → OpeningAt (linesOf t) j₀ j o × (lines ≡ length (linesOf t))
+writing-done {t} {j₀} {j} {o} {i} {lines} w z = ((rw z at (w .bytes), rw (opening-room t) (rw z at (w .at))), rw z at (w .counted))
 
 -- ---- a table is good
 
@@ -250,23 +246,15 @@ goods-kept (l ∷ ls) h =
     let q : (isLine l ≡ true) × (allLines ls ≡ true) = both (isLine l) (allLines ls) h in
     (q .0, goods-kept ls (q .1))
 
-table-goods : (t : List ℕ) → isTable t ≡ true → Goods (map kept (linesOf t))
-unfolding isTable areLines
-table-goods t h = goods-kept (linesOf t) (both (eqb (lastByte 10 t) 10) (allLines (linesOf t)) (both (areLines t) (leb (length (linesOf t)) 65535) h .0) .1)
-
-table-few : (t : List ℕ) → isTable t ≡ true → length (linesOf t) ≤ 65535
-unfolding isTable
-table-few t h = leb-true (length (linesOf t)) 65535 (both (areLines t) (leb (length (linesOf t)) 65535) h .1)
-
 -- ---- the state shown
 
 opened-shows : {j : List ℕ} {st : State} (ls : List Line) → Holds j st [] (map kept ls) → st .furthest ≡ 1 → st .p ≡ 0 → Opens j st (opening (unread ls))
-unfolding opening bind readNeed readNext restLines reachOf
+unfolding opening restLines reachOf isLive
 opened-shows [] h f p = shows-of [] [] 0 ended h (omega (arith, h .lines, sources-nil)) p tt
 opened-shows (l ∷ ls) h f p =
-    shows-of [] (kept l ∷ []) 0 (unread ls) h (omega (arith, h .lines, sources-nil, sources-kept (l ∷ ls))) p tt
+    shows-of [] (kept l ∷ []) 0 (unread ls) h (omega (arith, h .lines, sources-nil, sources-kept (l ∷ ls))) p refl
 
-pub opening-holds : {j : List ℕ} {st : State} (t : List ℕ) → isTable t ≡ true → j ≡ zeros (st .back) ++ encAll (map kept (linesOf t))
+opening-holds : {j : List ℕ} {st : State} (t : List ℕ) → isTable t ≡ true → j ≡ zeros (st .back) ++ encAll (map kept (linesOf t))
     → st .front ≡ 0 → st .past ≡ 0 → st .lines ≡ length (linesOf t) → st .source ≡ 0 → st .size ≡ length t → st .furthest ≡ 1 → st .p ≡ 0
     → Opens j st (opening (unread (linesOf t)))
 unfolding encBefore
@@ -278,13 +266,19 @@ opening-holds {j} {st} t good q f n l o z far p =
       front = sym f;
       order = omega arith;
       past-good = tt;
-      good = table-goods t good;
+      good = goods-kept (linesOf t) (table-lines t good);
       past = n ∙ sym sources-nil;
       lines = omega (arith, sources-nil, sources-kept (linesOf t));
       source = o ∙ sym old-bytes-nil;
-      size = omega (arith, old-bytes-nil, old-bytes-kept (linesOf t), ap length (lines-back t (table-last t good)));
-      few = omega (arith, table-few t good);
+      size = omega (arith, old-bytes-nil, old-bytes-kept (linesOf t), ap length (table-reads-back t good));
+      few = omega (arith, table-short t good);
     }) far p
+
+-- the same with nothing read, and then the first line
+pub opening-read : {j : List ℕ} {st s : State} (t : List ℕ) → isTable t ≡ true → j ≡ zeros (st .back) ++ encAll (map kept (linesOf t))
+    → st .front ≡ 0 → st .past ≡ 0 → st .lines ≡ length (linesOf t) → st .source ≡ 0 → st .size ≡ length t → st .furthest ≡ 0 → st .p ≡ 0 → s ≡ raised st 1
+    → Opens j s (opening (unread (linesOf t)))
+opening-read {st = st} t good q f n l o z far p is = rw is (opening-holds {st = raised st 1} t good q f n l o z (omega arith) p)
 
 -- zeros before what is written
 pub opened-bytes : (t j k : List ℕ) (at : ℕ) → k ≡ take at j ++ keptLines t → at ≤ length j → cleared 0 at k ≡ zeros at ++ keptLines t

@@ -1,26 +1,23 @@
 -- Reading moves no byte: what is read was in the buffer before. Assumes nothing.
 use mathlib.Core.Path.{_≡_, refl, sym, ap, _∙_}
 use mathlib.Core.Logic.{_⊎_, inl, inr}
-use Prim.Native.Nat.{ℕ, zero, suc, _+_, _-_, _≤_, min}
+use Prim.Native.Nat.{ℕ, zero, suc, _+_, _-_, _≤_, _<_, min, max}
 use native.Mathlib.Omega.{arith}
-use mathlib.Core.List.{List, [], _∷_, _++_, map, reverseAux, append-assoc, append-nil}
+use mathlib.Core.List.{List, [], _∷_, _++_, map, map-append, reverseAux, append-assoc}
 use lib.ListN.{length}
-use Rattle.definitions.specs.Bytes.{Line}
 use Rattle.definitions.specs.Journal.{Record, kept}
-use Rattle.definitions.specs.Tape.{Tape, unread, ended, restLines, Need, readNext, readNeed}
-use Rattle.definitions.specs.Editor.{ed, on, records, sources, furthest, seen}
-use Rattle.editor.specs.Shows.{Placed, Shows, GroundedAt}
+use Rattle.definitions.specs.Tape.{Tape, unread, ended, restLines}
+use Rattle.definitions.specs.Given.{Given, Carried}
+use Rattle.definitions.specs.Editor.{Ed, ed, beforeOf, afterOf, records, sources, furthest, journal, Target}
+use Rattle.definitions.specs.StepProgram.{runs}
+use Rattle.definitions.specs.Edit.{readUpTo}
+use Rattle.theorems.specs.RecordLaws.{reverse-append, sources-append, sources-reverse, sources-kept}
+use Rattle.theorems.specs.ReadLines.{readNext, seenAll, next-all, next-ended, next-keeps, read-line, read-eof}
+use Rattle.editor.specs.Shows.{Holds, Placed, Shows, pointOf, restOf, GroundedAt, CameTo, Came, raised}
 use Rattle.editor.specs.declared.State.{State}
-use Rattle.editor.proofs.Records.{sources-nil, sources-append, sources-reverse, sources-kept}
-use Rattle.editor.proofs.Held.{holds-as, holds-lists}
-
-pub map-append : {A B : Type 0} (f : A → B) (x y : List A) → map f (x ++ y) ≡ map f x ++ map f y
-map-append f [] y = refl
-map-append {B = B} f (a ∷ x) y = ap (λ (z : List B). f a ∷ z) (map-append f x y)
-
-pub reverse-append : {A : Type 0} (b a c : List A) → reverseAux b (a ++ c) ≡ reverseAux b a ++ c
-reverse-append [] a c = refl
-reverse-append (x ∷ b) a c = reverse-append b (x ∷ a) c
+use Rattle.editor.specs.declared.Moved.the-variants.{On}
+use Rattle.editor.proofs.Records.{sources-nil}
+use Rattle.editor.proofs.Held.{holds-as, holds-lists, placed-by}
 
 -- ---- the furthest line read
 
@@ -37,82 +34,134 @@ reach-of b a p ended = omega (arith, sources-reverse b a, sources-append a [], s
 pub rest-few : (b a : List Record) (t : Tape) → length (restLines t) ≤ sources b + sources (a ++ map kept (restLines t))
 rest-few b a t = omega (arith, sources-append a (map kept (restLines t)), sources-kept (restLines t))
 
+pub shown-reach : {j : List ℕ} {st : State} (e : Ed) (t : Tape) → Shows j st e t → st .furthest ≡ reachOf (st .lines) t
+unfolding beforeOf afterOf
+shown-reach (ed b a p) t h = h .furthest ∙ reach-of b a p t ∙ ap (λ (k : ℕ). reachOf k t) (sym (h .holds .lines))
+
+pub unread-few : {j : List ℕ} {st : State} (e : Ed) (t : Tape) → Shows j st e t → length (restLines t) ≤ st .lines
+unfolding beforeOf afterOf
+unread-few (ed b a p) t h = omega (arith, h .holds .lines, rest-few b a t)
+
+-- A buffer that holds the records of a text shows it.
+pub shows-at : {k : List ℕ} {s : State} (e : Ed) (t : Tape) → Holds k s (beforeOf e) (restOf e t)
+    → s .furthest ≡ reachOf (s .lines) t → s .p ≡ pointOf e → GroundedAt (afterOf e) t → Shows k s e t
+unfolding beforeOf afterOf
+shows-at (ed b a p) t h f q g = record {
+  holds = h;
+  furthest = f ∙ ap (λ (n : ℕ). reachOf n t) (h .lines) ∙ sym (reach-of b a p t);
+  p = q;
+  grounded = g;
+}
+
+pub shows-of : {k : List ℕ} {s : State} (b a : List Record) (p : ℕ) (t : Tape) → Holds k s b (a ++ map kept (restLines t))
+    → s .furthest ≡ reachOf (s .lines) t → s .p ≡ p → GroundedAt a t → Shows k s (ed b a p) t
+unfolding beforeOf afterOf
+shows-of b a p t h f q g = shows-at (ed b a p) t h f q g
+
+-- Another text with the same lines unread, the furthest line read and the number of lines being as they were.
+pub shows-anew : {j k : List ℕ} {st s : State} (e x : Ed) (t : Tape) → Shows j st e t → Holds k s (beforeOf x) (restOf x t)
+    → s .furthest ≡ st .furthest → s .lines ≡ st .lines → s .p ≡ pointOf x → GroundedAt (afterOf x) t → Shows k s x t
+shows-anew e x t h held f l q g = shows-at x t held (f ∙ shown-reach e t h ∙ ap (λ (n : ℕ). reachOf n t) (sym l)) q g
+
+-- the buffer's records are the journal
+pub journal-is : (b a : List Record) (p : ℕ) (t : Tape) → reverseAux b (a ++ map kept (restLines t)) ≡ journal (ed b a p) t
+unfolding journal records
+journal-is b a p t = reverse-append b a (map kept (restLines t))
+
 -- ---- what is read
 
-read-next-lines : (n : ℕ) (t : Tape) → (readNext n t) .0 ++ restLines ((readNext n t) .1) ≡ restLines t
-unfolding readNext restLines
-read-next-lines zero t = refl
-read-next-lines (suc n) ended = refl
-read-next-lines (suc n) (unread []) = refl
-read-next-lines (suc n) (unread (l ∷ ls)) = ap (λ (z : List Line). l ∷ z) (read-next-lines n (unread ls))
-
-pub read-lines : (n : Need) (t : Tape) → (readNeed n t) .0 ++ restLines ((readNeed n t) .1) ≡ restLines t
-unfolding readNeed restLines
-read-lines (Need.next n) t = read-next-lines n t
-read-lines Need.all t = append-nil (restLines t)
-
--- "n lines more, at most lines + 1; all: lines + 1"
-unfoldable pub raisedBy : ℕ → ℕ → Need → ℕ
-raisedBy lines f (Need.next n) = min (f + n) (suc lines)
-raisedBy lines f Need.all = suc lines
-
-read-next-reach : (lines n : ℕ) (t : Tape) → length (restLines t) ≤ lines → reachOf lines ((readNext n t) .1) ≡ min (reachOf lines t + n) (suc lines)
+next-reach : (lines n : ℕ) (t : Tape) → length (restLines t) ≤ lines → reachOf lines ((readNext n t) .1) ≡ min (reachOf lines t + n) (lines + 1)
 unfolding readNext reachOf restLines
-read-next-reach lines zero (unread ls) h = omega arith
-read-next-reach lines zero ended h = omega arith
-read-next-reach lines (suc n) ended h = omega arith
-read-next-reach lines (suc n) (unread []) h = omega arith
-read-next-reach lines (suc n) (unread (l ∷ ls)) h = omega (arith, read-next-reach lines n (unread ls) (omega arith))
-
-pub read-reach : (lines : ℕ) (n : Need) (t : Tape) → length (restLines t) ≤ lines → reachOf lines ((readNeed n t) .1) ≡ raisedBy lines (reachOf lines t) n
-unfolding readNeed raisedBy reachOf
-read-reach lines (Need.next n) t h = read-next-reach lines n t h
-read-reach lines Need.all t h = refl
-
--- all is read, or as many lines as were asked for
-pub read-enough : (n : ℕ) (t : Tape) → (n ≤ length ((readNext n t) .0)) ⊎ (restLines ((readNext n t) .1) ≡ [])
-unfolding readNext restLines
-read-enough zero t = inl (omega arith)
-read-enough (suc n) ended = inr refl
-read-enough (suc n) (unread []) = inr refl
-read-enough (suc n) (unread (l ∷ ls)) = one-more (read-enough n (unread ls))
-  where
-    one-more : (n ≤ length ((readNext n (unread ls)) .0)) ⊎ (restLines ((readNext n (unread ls)) .1) ≡ [])
-        → (suc n ≤ suc (length ((readNext n (unread ls)) .0))) ⊎ (restLines ((readNext n (unread ls)) .1) ≡ [])
-    one-more (inl h) = inl (omega arith)
-    one-more (inr q) = inr q
+next-reach lines zero (unread ls) h = omega arith
+next-reach lines zero ended h = omega arith
+next-reach lines (suc n) ended h = omega arith
+next-reach lines (suc n) (unread []) h = omega arith
+next-reach lines (suc n) (unread (l ∷ ls)) h = omega (arith, next-reach lines n (unread ls) (omega arith))
 
 -- the records from the current one on are the same before and after
-pub read-rest : (n : Need) (a : List Record) (t : Tape)
-    → (a ++ map kept ((readNeed n t) .0)) ++ map kept (restLines ((readNeed n t) .1)) ≡ a ++ map kept (restLines t)
-read-rest n a t =
-    append-assoc a (map kept ((readNeed n t) .0)) (map kept (restLines ((readNeed n t) .1)))
-    ∙ ap (λ (z : List Record). a ++ z) (sym (map-append kept ((readNeed n t) .0) (restLines ((readNeed n t) .1))) ∙ ap (map kept) (read-lines n t))
+pub next-rest : (n : ℕ) (a : List Record) (t : Tape) → (a ++ map kept ((readNext n t) .0)) ++ map kept (restLines ((readNext n t) .1)) ≡ a ++ map kept (restLines t)
+next-rest n a t =
+    append-assoc a (map kept ((readNext n t) .0)) (map kept (restLines ((readNext n t) .1)))
+    ∙ ap (λ (z : List Record). a ++ z) (sym (map-append kept ((readNext n t) .0) (restLines ((readNext n t) .1))) ∙ ap (map kept) (next-keeps n t))
 
-read-grounded : (n : Need) (a : List Record) (t : Tape) → GroundedAt a t → GroundedAt (a ++ map kept ((readNeed n t) .0)) ((readNeed n t) .1)
-unfolding readNeed readNext restLines
-read-grounded n [] (unread ls) g = absurd g
-read-grounded (Need.next zero) [] ended g = tt
-read-grounded (Need.next (suc n)) [] ended g = tt
-read-grounded Need.all [] ended g = tt
-read-grounded n (r ∷ a) t g = g
+next-grounded : (n : ℕ) (a : List Record) (t : Tape) → GroundedAt a t → GroundedAt (a ++ map kept ((readNext n t) .0)) ((readNext n t) .1)
+unfolding readNext restLines
+next-grounded n [] (unread ls) g = absurd g
+next-grounded zero [] ended g = tt
+next-grounded (suc n) [] ended g = tt
+next-grounded n (r ∷ a) t g = g
 
--- THE LAW OF READING: the buffer shows the state with what is read, once `furthest` is raised
-pub reading : {j : List ℕ} {st : State} (n : Need) (b a : List Record) (p : ℕ) (t : Tape) → Shows j st (ed b a p) t
-    → (s : State) → Placed st s → s .p ≡ st .p → s .furthest ≡ raisedBy (st .lines) (st .furthest) n
-    → Shows j s (seen (ed b a p) ((readNeed n t) .0)) ((readNeed n t) .1)
-unfolding seen
-reading {j} {st} n b a p t h s q sp sf =
-    let x : List Line = (readNeed n t) .0 in
-    let u : Tape = (readNeed n t) .1 in
-    let total : st .lines ≡ sources b + sources (a ++ map kept (restLines t)) = h .holds .lines in
-    let was : st .furthest ≡ reachOf (st .lines) t = h .furthest ∙ reach-of b a p t ∙ ap (λ (k : ℕ). reachOf k t) (sym total) in
-    let few : length (restLines t) ≤ st .lines = omega (arith, rest-few b a t) in
-    let now : furthest (ed b (a ++ map kept x) p) u ≡ reachOf (st .lines) u =
-    reach-of b (a ++ map kept x) p u ∙ ap (λ (k : List Record). reachOf (sources b + sources k) u) (read-rest n a t) ∙ ap (λ (k : ℕ). reachOf k u) (sym total) in
-    record {
-      holds = holds-lists refl (sym (read-rest n a t)) (holds-as q (h .holds));
-      furthest = sf ∙ ap (λ (k : ℕ). raisedBy (st .lines) k n) was ∙ sym (read-reach (st .lines) n t few) ∙ sym now;
-      p = sp ∙ h .p;
-      grounded = read-grounded n a t (h .grounded);
-    }
+-- THE LAW OF READING: the buffer shows the text with what is read, once `furthest` is raised
+pub reading : {j : List ℕ} {st s : State} (n : ℕ) (e : Ed) (t : Tape) → Shows j st e t
+    → Placed st s → s .p ≡ st .p → s .furthest ≡ min (st .furthest + n) (st .lines + 1)
+    → Shows j s (seenAll ((readNext n t) .0) e) ((readNext n t) .1)
+unfolding seenAll beforeOf afterOf
+reading {j} {st} {s} n (ed b a p) t h q sp sf =
+    shows-of b (a ++ map kept ((readNext n t) .0)) p ((readNext n t) .1)
+    (holds-lists refl (sym (next-rest n a t)) (holds-as q (h .holds)))
+    (sf ∙ ap (λ (k : ℕ). min (k + n) (st .lines + 1)) (shown-reach (ed b a p) t h) ∙ sym (next-reach (st .lines) n t (unread-few (ed b a p) t h)) ∙ ap (λ (k : ℕ). reachOf k ((readNext n t) .1)) (sym (q .lines)))
+    (sp ∙ h .p)
+    (next-grounded n a t (h .grounded))
+
+-- ---- up to a source line, and up to EOF
+
+-- so many source lines are read, at most so many as there are; all of them where EOF is read
+pub reach-sources : {j : List ℕ} {st : State} (e : Ed) (t : Tape) → Shows j st e t → (sources (records e) ≡ st .furthest) ⊎ ((sources (records e) ≡ st .lines) × (st .furthest ≡ st .lines + 1) × (t ≡ ended))
+unfolding beforeOf afterOf furthest records restLines
+reach-sources (ed b a p) (unread ls) h = inl (sym (h .furthest))
+reach-sources (ed b a p) ended h =
+    let all : sources (reverseAux b a) ≡ sources b + sources (a ++ []) = omega (arith, sources-reverse b a, sources-append a [], sources-nil) in
+    inr (all ∙ sym (h .holds .lines), omega (arith, h .furthest, h .holds .lines), refl)
+
+pub read-few : {j : List ℕ} {st : State} (e : Ed) (t : Tape) → Shows j st e t → sources (records e) ≤ st .lines
+unfolding beforeOf afterOf records
+read-few (ed b a p) t h = omega (arith, h .holds .lines, sources-reverse b a, sources-append a (map kept (restLines t)))
+
+-- the numbers once line a is read
+raise-line : {j : List ℕ} {st : State} (a : ℕ) (e : Ed) (t : Tape) → Shows j st e t
+    → max (st .furthest) (min a (st .lines + 1)) ≡ min (st .furthest + (a - sources (records e))) (st .lines + 1)
+raise-line {j} {st} a e t h = by (reach-sources e t h)
+  where
+    by : (sources (records e) ≡ st .furthest) ⊎ ((sources (records e) ≡ st .lines) × (st .furthest ≡ st .lines + 1) × (t ≡ ended))
+        → max (st .furthest) (min a (st .lines + 1)) ≡ min (st .furthest + (a - sources (records e))) (st .lines + 1)
+    by (inl q) = omega (arith, read-few e t h)
+    by (inr q) = omega (arith, q .0, q .1)
+
+all-read : {j : List ℕ} {st : State} (e : Ed) (t : Tape) → Shows j st e t → Shows j (raised st (st .lines + 1)) (seenAll (restLines t) e) ended
+unfolding restLines reachOf
+all-read {st = st} e (unread ls) h =
+    rw (next-all ls) at
+    (reading {s = raised st (st .lines + 1)} (suc (length ls)) e (unread ls) h (placed-by st _ _) refl (omega (arith, shown-reach e (unread ls) h, unread-few e (unread ls) h)))
+all-read {st = st} e ended h = rw (next-ended 1) at (reading {s = raised st (st .lines + 1)} 1 e ended h (placed-by st _ _) refl (omega (arith, shown-reach e ended h)))
+
+module _ {j : List ℕ} {st : State} (g : Given) (c : Carried) (e : Ed) (t : Tape) (h : Shows j st e t) where
+  pub reads-line : (a : ℕ) → Came j (On (raised st a)) (runs g c (readUpTo (Target.line a)) e t)
+  unfolding CameTo
+  reads-line a = rw (read-line g c a e t) (reading (a - sources (records e)) e t h (placed-by st _ _) refl (raise-line a e t h))
+
+  pub reads-eof : Came j (On (raised st (st .lines + 1))) (runs g c (readUpTo Target.eof) e t)
+  unfolding CameTo
+  reads-eof = rw (read-eof g c e t) (all-read e t h)
+
+-- the furthest line is then EOF
+pub eof-far : {j : List ℕ} {st : State} (e : Ed) (t : Tape) → Shows j st e t → max (st .furthest) (min (st .lines + 1) (st .lines + 1)) ≡ st .lines + 1
+eof-far e t h = omega (arith, raise-line 0 e t h)
+
+-- where it is, EOF is read
+pub eof-read : {j : List ℕ} {st : State} (e : Ed) (t : Tape) → Shows j st e t → st .furthest ≡ st .lines + 1 → t ≡ ended
+eof-read {st = st} e t h all = by (reach-sources e t h)
+  where
+    by : (sources (records e) ≡ st .furthest) ⊎ ((sources (records e) ≡ st .lines) × (st .furthest ≡ st .lines + 1) × (t ≡ ended)) → t ≡ ended
+    by (inl q) = absurd (omega (arith, read-few e t h))
+    by (inr q) = q .2
+
+-- the line is read, or all lines are
+pub line-read : {j : List ℕ} {st : State} (a : ℕ) (e : Ed) (t : Tape) → Shows j st e t → 0 < a → min a (st .lines + 1) ≤ st .furthest
+    → (a - 1 < sources (records e)) ⊎ (map kept (restLines t) ≡ [])
+unfolding restLines
+line-read {j} {st} a e t h pos far = by (reach-sources e t h) (read-few e t h)
+  where
+    by : (sources (records e) ≡ st .furthest) ⊎ ((sources (records e) ≡ st .lines) × (st .furthest ≡ st .lines + 1) × (t ≡ ended))
+        → sources (records e) ≤ st .lines → (a - 1 < sources (records e)) ⊎ (map kept (restLines t) ≡ [])
+    by (inl q) l = inl (omega arith)
+    by (inr q) l = inr (rw (q .2))

@@ -102,12 +102,6 @@ old-line (changed o n) e = refl
 old-line (deleted l) e = refl
 old-line (inserted l) e = absurd (e refl)
 
-pub at-most-one : (r : Record) → sourced r ≤ 1
-at-most-one (kept l) = omega arith
-at-most-one (changed o n) = omega arith
-at-most-one (deleted l) = omega arith
-at-most-one (inserted l) = omega arith
-
 pub sources-cons : (r : Record) (rs : List Record) → sources (r ∷ rs) ≡ sourced r + sources rs
 unfolding sources oldSide oldOf
 sources-cons (kept l) rs = omega arith
@@ -121,23 +115,9 @@ sources-nil = refl
 
 -- a number that is the sum of what the records have
 module _ (total : List Record → ℕ) (one : Record → ℕ) (none : total [] ≡ 0) (first : (r : Record) (rs : List Record) → total (r ∷ rs) ≡ one r + total rs) where
-  pub sum-append : (a b : List Record) → total (a ++ b) ≡ total a + total b
-  sum-append [] b = omega arith
-  sum-append (r ∷ a) b = omega (arith, first r (a ++ b), first r a, sum-append a b)
-
   pub sum-reverse : (a b : List Record) → total (reverseAux a b) ≡ total a + total b
   sum-reverse [] b = omega arith
   sum-reverse (r ∷ a) b = omega (arith, sum-reverse a (r ∷ b), first r b, first r a)
-
-pub sources-append : (a b : List Record) → sources (a ++ b) ≡ sources a + sources b
-sources-append = sum-append sources sourced sources-nil sources-cons
-
-pub sources-reverse : (a b : List Record) → sources (reverseAux a b) ≡ sources a + sources b
-sources-reverse = sum-reverse sources sourced sources-nil sources-cons
-
-pub sources-kept : (ls : List Line) → sources (map kept ls) ≡ length ls
-sources-kept [] = sources-nil
-sources-kept (l ∷ ls) = omega (arith, sources-cons (kept l) (map kept ls), sources-kept ls)
 
 -- ---- the bytes of source lines
 

@@ -1,7 +1,6 @@
 -- The text of the current line, and its copy. Assumes nothing.
 use mathlib.Core.Path.{_≡_, refl, sym, ap, _∙_}
 use mathlib.Core.Bool.{true}
-use mathlib.Core.Option.{none}
 use Prim.Native.Nat.{ℕ, suc, _+_, _-_, _≤_, _<_}
 use native.Mathlib.Omega.{arith}
 use mathlib.Core.List.{List, [], _∷_, _++_, map, append-assoc}
@@ -10,18 +9,22 @@ use lib.Seq.{paste, take-at, drop-drop, drop-at, drop-set-lt, length-take-le}
 use Rattle.definitions.specs.Bytes.{Line, isLine}
 use Rattle.definitions.specs.Journal.{Record, kept, changed, deleted, inserted}
 use Rattle.definitions.specs.Tape.{Tape, restLines}
-use Rattle.definitions.specs.Editor.{Ed, ed, current}
-use Rattle.definitions.specs.Edit.{Op, need, act, withLine, insertLines, within, step}
+use Rattle.definitions.specs.Given.{Carried}
+use Rattle.definitions.specs.Editor.{Ed, ed, beforeOf, afterOf, current, n20, stopNumber, putBefore, put}
+use Rattle.definitions.specs.StepProgram.{gives, state, changes, perform}
+use Rattle.definitions.specs.Edit.{Op, program, step}
 use Rattle.text.specs.Feeds.{lineLength}
 use Rattle.editor.specs.Records.{enc, encAll, Good, zeroPlace}
-use Rattle.editor.specs.Shows.{Holds, Shows, Stays, TextAt, Answers, Answered}
+use Rattle.editor.specs.Shows.{Holds, Shows, TextAt, lent, Answered, Puts}
+use Rattle.editor.specs.Current.{currentLine}
 use Rattle.editor.specs.declared.State.{State}
 use Rattle.editor.specs.declared.Moved.the-variants.{On, Stop}
 use Rattle.editor.proofs.Records.{line-short}
-use Rattle.editor.proofs.Held.{held-drop, held-record, held-mark, held-more, held-first, held-none}
-use Rattle.editor.proofs.Answers.{step-still, shown-reach, leaves-of, same-here, current-is, unread-none}
+use Rattle.editor.proofs.Held.{held-drop, held-record, held-mark, held-more}
+use Rattle.editor.proofs.Parts.{shown-record, perform-line, perform-no-line}
 use Rattle.editor.proofs.Sizes.{zero-place}
-use Rattle.editor.proofs.Inserting.{put-holds, insert-full, insert-on}
+use Rattle.editor.proofs.Inserting.{put-holds}
+use Rattle.editor.proofs.Changing.{one-length, put-on, put-full}
 
 -- ---- where it stands
 
@@ -91,6 +94,19 @@ module _ {j : List ℕ} {st : State} {b : List Record} {a : List Record} where
   zero-inside m (deleted l) h = absurd (omega (arith, held-mark h))
   zero-inside m (inserted l) h = absurd (omega (arith, held-mark h))
 
+-- where the current line's text stands
+pub record TextHere (j : List ℕ) (from n : ℕ) (l : Line) : Type 0 where
+  pub text : take n (drop from j) ≡ l
+  pub within : from + n < length j
+
+pub text-here : {j : List ℕ} {st : State} {from n : ℕ} (e : Ed) (t : Tape) → Shows j st e t → st .back < length j
+    → ((b : List Record) (x : Record) (a : List Record) → Holds j st b (x ∷ a) → TextAt j (st .back) from n x) → TextHere j from n (currentLine e)
+unfolding beforeOf afterOf
+text-here (ed b [] p) t h more texts = absurd (shown-record b p t h more)
+text-here {j} {st} {from} {n} (ed b (r ∷ a) p) t h more texts =
+    let x : TextAt j (st .back) from n r = texts b r (a ++ map kept (restLines t)) (h .holds) in
+    record { text = x .text; within = x .within }
+
 -- ---- its copy
 
 pub current-good : (r : Record) → Good r → isLine (current r) ≡ true
@@ -100,66 +116,39 @@ current-good (changed o n) g = g .1
 current-good (deleted l) g = g
 current-good (inserted l) g = g
 
-copy-none : {j : List ℕ} {st : State} (n : ℕ) (b : List Record) (p : ℕ) (t : Tape) → Shows j st (ed b [] p) t → Answered j (Stop 20 st) (step n Op.copy (ed b [] p) t)
-unfolding Answers need act withLine within
-copy-none n b p t h = rw (step-still n Op.copy (ed b [] p) t refl) (refl, leaves-of b [] p t (same-here (h .holds)) (shown-reach b [] p t h))
-
-pub copy-eof : {j : List ℕ} {st : State} (n : ℕ) (e : Ed) (t : Tape) → Shows j st e t → length j ≤ st .back → Answered j (Stop 20 st) (step n Op.copy e t)
-copy-eof {j} {st} n (ed b a p) t h end = at-none a (unread-none a t (held-none (h .holds) end)) h
-  where
-    at-none : (c : List Record) → c ≡ [] → Shows j st (ed b c p) t → Answered j (Stop 20 st) (step n Op.copy (ed b c p) t)
-    at-none [] q h = copy-none n b p t h
-    at-none (r ∷ c) q h = absurd (let z : _≡_ {A = ℕ} 0 1 = cc in omega arith)
-
--- IC is the insertion of the current line's text
-copy-step : (n : ℕ) (b : List Record) (r : Record) (a : List Record) (p : ℕ) (t : Tape)
-    → step n Op.copy (ed b (r ∷ a) p) t ≡ step n (Op.insert none (current r ∷ [])) (ed b (r ∷ a) p) t
-unfolding need act withLine insertLines
-copy-step n b r a p t = step-still n Op.copy (ed b (r ∷ a) p) t refl ∙ sym (step-still n (Op.insert none (current r ∷ [])) (ed b (r ∷ a) p) t refl)
-
 -- the text's length
 pub text-size : {j : List ℕ} {b from n : ℕ} {r : Record} → TextAt j b from n r → length (current r) ≡ n
 text-size {j} {b} {from} {n} x = ap length (sym (x .text)) ∙ length-take-le n (drop from j) (simp length-drop (omega (arith, x .within)))
 
-module _ {j : List ℕ} {st : State} (from n : ℕ) (e : Ed) (t : Tape) (more : st .back < length j)
-    (texts : (b : List Record) (x : Record) (a : List Record) → Holds j st b (x ∷ a) → TextAt j (st .back) from n x) where
-  pub copy-full : Shows j st e t → st .back - st .front < n + 3 → Answered j (Stop 26 st) (step (length j) Op.copy e t)
-  copy-full = elim e [
-    | ed b a p ↦ λ h full.
-        let f : (r : Record) × (c : List Record) × (a ++ map kept (restLines t) ≡ r ∷ c) = held-first (h .holds) more in
-        full-at b p a h (current-is a t (h .grounded) (f .0) (f .1) (f .2)) full
-  ]
-    where
-      full-at : (b : List Record) (p : ℕ) (a : List Record) → Shows j st (ed b a p) t → {r : Record} {d : List Record} → (c : List Record) × (a ≡ r ∷ c) × (d ≡ c ++ map kept (restLines t))
-          → st .back - st .front < n + 3 → Answered j (Stop 26 st) (step (length j) Op.copy (ed b a p) t)
-      full-at b p [] h w full = absurd (let z : _≡_ {A = ℕ} 0 1 = cc (w .1) in omega arith)
-      full-at b p (r ∷ c) h w full =
-          rw (copy-step (length j) b r c p t)
-          (insert-full (current r) (ed b (r ∷ c) p) t h (omega (arith, text-size (texts b r (c ++ map kept (restLines t)) (h .holds)))))
+-- IC at EOF
+pub copy-eof : {j : List ℕ} {st : State} (c : Carried) (e : Ed) (t : Tape) → Shows j st e t → length j ≤ st .back → Answered j (Stop 20 st) (step (lent j) Op.copy (state e c) t)
+unfolding step program stopNumber
+copy-eof {j} c e t h end = perform-no-line (lent j) c n20 (λ x. gives (changes (put (x .0 ∷ []) ∷ []))) e t h 20 refl end
 
-  pub copy-on : {k : List ℕ} {s : State} → Shows j st e t → n + 3 ≤ st .back - st .front
-      → ((b : List Record) (a : List Record) → Holds j st b a → Holds k s (inserted (take n (drop from j)) ∷ b) a) → Stays st s
-      → Answered k (On s) (step (length j) Op.copy e t)
-  copy-on {k} {s} = elim e [
-    | ed b a p ↦ λ h room puts same.
-        let f : (r : Record) × (c : List Record) × (a ++ map kept (restLines t) ≡ r ∷ c) = held-first (h .holds) more in
-        on-at b p a h (current-is a t (h .grounded) (f .0) (f .1) (f .2)) room puts same
-  ]
-    where
-      on-at : (b : List Record) (p : ℕ) (a : List Record) → Shows j st (ed b a p) t → {r : Record} {d : List Record} → (c : List Record) × (a ≡ r ∷ c) × (d ≡ c ++ map kept (restLines t))
-          → n + 3 ≤ st .back - st .front → ((b : List Record) (a : List Record) → Holds j st b a → Holds k s (inserted (take n (drop from j)) ∷ b) a) → Stays st s
-          → Answered k (On s) (step (length j) Op.copy (ed b a p) t)
-      on-at b p [] h w room puts same = absurd (let z : _≡_ {A = ℕ} 0 1 = cc (w .1) in omega arith)
-      on-at b p (r ∷ c) h w room puts same =
-          let x : TextAt j (st .back) from n r = texts b r (c ++ map kept (restLines t)) (h .holds) in
-          rw (copy-step (length j) b r c p t)
-          (insert-on (current r) (ed b (r ∷ c) p) t h (omega (arith, text-size x)) (λ b₁ a₁ h₁. rw (x .text) at (puts b₁ a₁ h₁)) same)
+-- and elsewhere: it is the insertion of the current line's text
+module _ {j : List ℕ} {st : State} (from n : ℕ) (c : Carried) (e : Ed) (t : Tape) (h : Shows j st e t) (more : st .back < length j)
+    (texts : (b : List Record) (x : Record) (a : List Record) → Holds j st b (x ∷ a) → TextAt j (st .back) from n x) where
+  copy-step : step (lent j) Op.copy (state e c) t ≡ perform (lent j) (gives (changes (put (currentLine e ∷ []) ∷ []))) (state e c) t
+  unfolding step program
+  copy-step = perform-line (lent j) c n20 (λ x. gives (changes (put (x .0 ∷ []) ∷ []))) e t h more
+
+  copied : take n (drop from j) ≡ currentLine e
+  copied = text-here e t h more texts .text
+
+  copied-long : length (currentLine e) ≡ n
+  copied-long = ap length (sym copied) ∙ length-take-le n (drop from j) (simp length-drop (omega (arith, text-here e t h more texts .within)))
+
+  pub copy-full : st .back - st .front < n + 3 → Answered j (Stop 26 st) (step (lent j) Op.copy (state e c) t)
+  copy-full full = rw copy-step (put-full c (currentLine e ∷ []) e t h (omega (arith, one-length (currentLine e), copied-long)))
+
+  pub copy-on : {k : List ℕ} {s : State} → length k ≡ length j → Puts (take n (drop from j) ∷ []) j st k s → Answered k (On s) (step (lent j) Op.copy (state e c) t)
+  copy-on q puts = rw copy-step (put-on c (currentLine e ∷ []) e t h q (rw copied at puts))
 
 -- what `put_copy` makes of a buffer
 pub put-copy-holds : (j k : List ℕ) (st s : State) (from n : ℕ) → st .back ≤ from → from + n ≤ length j → isLine (take n (drop from j)) ≡ true → st .front + (n + 3) ≤ st .back
     → k ≡ set (paste (set (set j (st .front) 43) (st .front + 1) 43) (st .front + 2) (drop from (set (set j (st .front) 43) (st .front + 1) 43)) n) (st .front + 2 + n) 10
     → s .front ≡ st .front + 2 + n + 1 → s .back ≡ st .back → s .past ≡ st .past → s .lines ≡ st .lines → s .source ≡ st .source → s .size ≡ st .size
-    → (b a : List Record) → Holds j st b a → Holds k s (inserted (take n (drop from j)) ∷ b) a
+    → (b a : List Record) → Holds j st b a → Holds k s (putBefore (take n (drop from j) ∷ []) b) a
 put-copy-holds j k st s from n far fits good room is f e c l o z =
     let f₀ : ℕ = st .front in
     let same : drop from (set (set j f₀ 43) (f₀ + 1) 43) ≡ drop from j = drop-set-lt from (set j f₀ 43) (f₀ + 1) 43 (omega arith) ∙ drop-set-lt from j f₀ 43 (omega arith) in

@@ -8,12 +8,15 @@ use Rattle.definitions.specs.Bytes.{Line, linesOf}
 use Rattle.definitions.specs.Table.{isTable}
 use Rattle.definitions.specs.Journal.{oldSide}
 use Rattle.definitions.specs.Tape.{Tape}
-use Rattle.definitions.specs.Editor.{Ed, ed, Out, on, edited, halt, journal, current}
+use Rattle.definitions.specs.Editor.{Ed, ed, journal, current}
+use Rattle.definitions.specs.StepProgram.{textOf, Out, on, edited, halt}
+use Rattle.editor.specs.declared.State.{State}
+use Rattle.editor.specs.Shows.{Shows}
 
 -- the current line's text; none where EOF is current
-abbrev pub textOf : Ed → Line
-textOf (ed before [] p) = []
-textOf (ed before (r ∷ after) p) = current r
+abbrev pub currentLine : Ed → Line
+currentLine (ed before [] p) = []
+currentLine (ed before (r ∷ after) p) = current r
 
 -- p is within the current line
 abbrev pub PointIn : Ed → Type 0
@@ -27,9 +30,15 @@ pub record TableOf (table : List ℕ) (e : Ed) (t : Tape) : Type 0 where
 
 -- the same of what a step comes to
 abbrev pub TableOut : List ℕ → Out → Tape → Type 0
-TableOut table (on b e) t = TableOf table e t
-TableOut table (edited e) t = TableOf table e t
-TableOut table (halt n e) t = TableOf table e t
+TableOut table (on b s) t = TableOf table (textOf s) t
+TableOut table (edited s) t = TableOf table (textOf s) t
+TableOut table (halt n s) t = TableOf table (textOf s) t
 
 abbrev pub TableOutcome : List ℕ → Out × Tape → Type 0
 TableOutcome table x = TableOut table (x .0) (x .1)
+
+-- buffer and table show the text `e`, the lines of `t` being unread, and p is within the current line
+pub record Ready (table j : List ℕ) (st : State) (e : Ed) (t : Tape) : Type 0 where
+  pub shows : Shows j st e t
+  pub point : PointIn e
+  pub old : TableOf table e t

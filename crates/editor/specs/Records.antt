@@ -1,13 +1,14 @@
 -- Records as they stand in the journal buffer during a run: one line feed a record, so that they can be walked both ways. Assumes nothing.
 use mathlib.Core.Path.{_≡_}
 use mathlib.Core.Bool.{true, cond}
-use mathlib.Core.List.{List, [], _∷_, _++_}
-use Prim.Native.Nat.{ℕ}
-use lib.ListN.{length}
+use mathlib.Core.List.{List, [], _∷_, _++_, map}
+use Prim.Native.Nat.{ℕ, _+_, _≤_}
+use lib.ListN.{length, take, drop}
 use lib.Dec.{eqb}
 use Rattle.text.specs.Feeds.{placeOf}
-use Rattle.definitions.specs.Bytes.{linesBytes, isLine}
+use Rattle.definitions.specs.Bytes.{Line, linesBytes, isLine}
 use Rattle.definitions.specs.Journal.{Record, kept, changed, deleted, inserted, oldSide}
+use Rattle.definitions.specs.Run.{openingLength}
 
 -- a record without the line feed that ends it; a 0 stands between the two lines of a changed one
 abbrev pub body : Record → List ℕ
@@ -47,16 +48,13 @@ abbrev pub Goods : List Record → Type 0
 Goods [] = Unit {0}
 Goods (r ∷ rs) = Good r × Goods rs
 
--- "Live records are all but `--`"
-abbrev pub Live : Record → Type 0
-Live (kept l) = Unit {0}
-Live (changed o n) = Unit {0}
-Live (deleted l) = ⊥
-Live (inserted l) = Unit {0}
-
 -- the bytes of the table that records have: their source lines, each with its line feed
 unfoldable pub oldBytes : List Record → ℕ
 oldBytes rs = length (linesBytes (oldSide rs))
+
+-- the n bytes of s from `from` on are a line
+abbrev pub LineIn : List ℕ → ℕ → ℕ → Type 0
+LineIn s from n = (from + n ≤ length s) × (isLine (take n (drop from s)) ≡ true)
 
 -- ---- walking bytes
 
@@ -64,7 +62,11 @@ oldBytes rs = length (linesBytes (oldSide rs))
 abbrev pub zeroPlace : List ℕ → ℕ
 zeroPlace l = placeOf 0 l
 
--- ---- the end
+-- ---- the opening and the end
+
+-- the opening journal of the lines `ls`, written into the buffer j so that it ends where the buffer does: it starts at `at`
+abbrev pub OpeningAt : List Line → List ℕ → List ℕ → ℕ → Type 0
+OpeningAt ls j k at = (k ≡ take at j ++ encAll (map kept ls)) × (at + openingLength ls ≡ length j)
 
 -- the byte that a 0 between two lines becomes
 abbrev pub lineEnd : ℕ → ℕ

@@ -1,18 +1,25 @@
--- How the journal buffer and the numbers that go with it show the editor's state. Assumes nothing.
+-- How the journal buffer and the numbers that go with it show the text of a run, and what the functions on them promise. Assumes nothing.
 use mathlib.Core.Path.{_≡_}
-use mathlib.Core.Bool.{true, false}
-use mathlib.Core.Logic.{_⊎_}
+use mathlib.Core.Bool.{true, false, cond}
 use mathlib.Core.List.{List, [], _∷_, _++_, map, reverseAux}
-use Prim.Native.Nat.{ℕ, suc, _+_, _-_, _≤_, _<_, max}
-use lib.ListN.{length, getD, take, drop}
-use Rattle.definitions.specs.Journal.{Record, kept, changed}
+use Prim.Native.Nat.{ℕ, suc, _+_, _-_, _≤_, _<_, min, max}
+use lib.ListN.{length, take, drop}
+use lib.Dec.{leb, eqb}
+use Rattle.definitions.specs.Bytes.{Line}
+use Rattle.definitions.specs.Journal.{Record, kept, changed, deleted, erase, upToLine, afterLine, journalBytes, journalLength}
 use Rattle.definitions.specs.Tape.{Tape, unread, ended, restLines}
-use Rattle.definitions.specs.Editor.{Ed, ed, Out, on, edited, halt, journal, sources, furthest, current}
+use Rattle.definitions.specs.Given.{Given, given, Room, Carried}
+use Rattle.definitions.specs.Editor.{Ed, ed, beforeOf, afterOf, sources, furthest, current, isLive, stopNumber, land, putBefore, Target, here, line, eof}
+use Rattle.definitions.specs.Reading.{Ran, gave, stopped}
+use Rattle.definitions.specs.StepProgram.{Program, runs, state, Out, on, edited, halt}
+use Rattle.definitions.specs.Edit.{Op, step}
 use Rattle.gap.specs.Gap.{zeros}
 use Rattle.editor.specs.declared.State.{State}
 use Rattle.editor.specs.declared.Moved.{Moved}
 use Rattle.editor.specs.declared.Moved.the-variants.{On, Stop}
-use Rattle.editor.specs.Records.{enc, encAll, encBefore, Good, Goods, Live, oldBytes}
+use Rattle.editor.specs.Records.{enc, encAll, encBefore, Good, Goods, oldBytes}
+
+-- ---- a buffer that holds records
 
 -- The buffer has the records `before` (nearest first) at the front and the records `rest` at the back, and zeros between.
 -- `rest` are the records from the current one on, read or not.
@@ -65,11 +72,7 @@ pub record Stays (st s : State) : Type 0 where
   pub lines : s .lines ≡ st .lines
   pub p : s .p ≡ st .p
 
-abbrev pub beforeOf : Ed → List Record
-beforeOf (ed before after p) = before
-
-abbrev pub afterOf : Ed → List Record
-afterOf (ed before after p) = after
+-- ---- a buffer that shows a text
 
 abbrev pub pointOf : Ed → ℕ
 pointOf (ed before after p) = p
@@ -82,55 +85,170 @@ restOf e t = afterOf e ++ map kept (restLines t)
 abbrev pub GroundedAt : List Record → Tape → Type 0
 GroundedAt [] (unread ls) = ⊥
 GroundedAt [] ended = Unit {0}
-GroundedAt (r ∷ after) t = Live r
+GroundedAt (r ∷ after) t = isLive r ≡ true
 
--- the buffer and its numbers show the state `e`, the lines of `t` being unread
+-- the buffer and its numbers show the text `e`, the lines of `t` being unread
 pub record Shows (j : List ℕ) (st : State) (e : Ed) (t : Tape) : Type 0 where
   pub holds : Holds j st (beforeOf e) (restOf e t)
   pub furthest : st .furthest ≡ furthest e t
   pub p : st .p ≡ pointOf e
   pub grounded : GroundedAt (afterOf e) t
 
+-- they show some text
+abbrev pub ShowsText : List ℕ → State → Type 0
+ShowsText j st = (e : Ed) × (t : Tape) × Shows j st e t
+
 abbrev pub Opens : List ℕ → State → Ed × Tape → Type 0
 Opens j st x = Shows j st (x .0) (x .1)
 
--- The run has stopped in the state `e`: the buffer has its journal. The gap may stand anywhere.
-pub record Leaves (j : List ℕ) (st : State) (e : Ed) (t : Tape) : Type 0 where
-  pub before : List Record
-  pub rest : List Record
-  pub holds : Holds j st before rest
-  pub same : reverseAux before rest ≡ journal e t
-  pub furthest : st .furthest ≡ furthest e t
+-- ---- a part of a step, and a whole one
+
+-- what a run is given whose journal buffer is j
+unfoldable pub lent : List ℕ → Given
+lent j = given (Room.bytes (length j))
+
+-- what a function answers that does a part of a step, and what that part comes to: a stop too leaves the buffer showing the text as it then is
+unfoldable pub CameTo : {A : Type 0} → List ℕ → Moved → Ran A → Tape → Type 0
+CameTo j (On s) (gave a e) t = Shows j s e t
+CameTo j (On s) (stopped n e) t = ⊥
+CameTo j (Stop m s) (gave a e) t = ⊥
+CameTo j (Stop m s) (stopped n e) t = (m ≡ stopNumber n) × Shows j s e t
+
+abbrev pub Came : {A : Type 0} → List ℕ → Moved → Ran A × Tape → Type 0
+Came j r x = CameTo j r (x .0) (x .1)
 
 -- what a command's function answers, and what the command comes to
 unfoldable pub Answers : List ℕ → Moved → Out → Tape → Type 0
-Answers j (On s) (on true e) t = Shows j s e t
-Answers j (On s) (on false e) t = ⊥
-Answers j (On s) (edited e) t = Shows j s e t
-Answers j (On s) (halt n e) t = ⊥
-Answers j (Stop m s) (on b e) t = ⊥
-Answers j (Stop m s) (edited e) t = ⊥
-Answers j (Stop m s) (halt n e) t = (m ≡ n) × Leaves j s e t
+Answers j (On s) (on true (state e c)) t = Shows j s e t
+Answers j (On s) (on false (state e c)) t = ⊥
+Answers j (On s) (edited (state e c)) t = Shows j s e t
+Answers j (On s) (halt n (state e c)) t = ⊥
+Answers j (Stop m s) (on b (state e c)) t = ⊥
+Answers j (Stop m s) (edited (state e c)) t = ⊥
+Answers j (Stop m s) (halt n (state e c)) t = (m ≡ n) × Shows j s e t
 
 abbrev pub Answered : List ℕ → Moved → Out × Tape → Type 0
 Answered j r x = Answers j r (x .0) (x .1)
 
+-- with the buffer j and its numbers st before, and the buffer k after, the function that answered r did the part m of a step
+abbrev pub DoesPart : {A : Type 0} → List ℕ → State → Program A → List ℕ → Moved → Type 0
+DoesPart j st m k r = (e : Ed) (c : Carried) (t : Tape) → Shows j st e t → Came k r (runs (lent j) c m e t)
+
+-- the same of a whole command
+abbrev pub Performs : List ℕ → State → Op → List ℕ → Moved → Type 0
+Performs j st op k r = (e : Ed) (c : Carried) (t : Tape) → Shows j st e t → Answered k r (step (lent j) op (state e c) t)
+
 -- ---- moves of the gap
 
--- the buffer holds the same records in the same order, the gap standing anywhere
-pub record Same (j : List ℕ) (s : State) (before rest : List Record) : Type 0 where
+-- over the current record
+abbrev pub PassesOver : List ℕ → State → List ℕ → State → Type 0
+PassesOver j st k r =
+    ((b : List Record) (x : Record) (a : List Record) → Holds j st b (x ∷ a) → Holds k r (x ∷ b) a) × Stays st r × (st .back < r .back)
+
+-- back over the nearest record before it
+abbrev pub PassesBack : List ℕ → State → List ℕ → State → Type 0
+PassesBack j st k r =
+    ((x : Record) (b : List Record) (a : List Record) → Holds j st (x ∷ b) a → Holds k r b (x ∷ a)) × Stays st r × (r .front < st .front)
+
+-- over deleted records, to the line that is landed on: "a line that becomes current gets p = 0"
+abbrev pub Lands : List ℕ → State → List ℕ → State → Type 0
+Lands j st k r =
+    ((b : List Record) (a : List Record) → Holds j st b a → Holds k r (beforeOf (land b a)) (afterOf (land b a)))
+    × (r .furthest ≡ st .furthest) × (r .lines ≡ st .lines) × (r .p ≡ 0)
+
+-- from the records `before` and `rest` round it to those that `way` gives
+abbrev pub Walks : (List Record → List Record → List Record × List Record) → List ℕ → State → List ℕ → State → Type 0
+Walks way j st k r =
+    ((b : List Record) (a : List Record) → Holds j st b a → Holds k r ((way b a) .0) ((way b a) .1)) × Stays st r
+
+-- back until at most k source lines stand before it
+unfoldable pub backTo : ℕ → List Record → List Record → List Record × List Record
+backTo k [] rest = ([], rest)
+backTo k (r ∷ before) rest = elim (leb (sources (r ∷ before)) k) [ true ↦ (r ∷ before, rest) | false ↦ backTo k before (r ∷ rest) ]
+
+-- on until the record after k source lines is current, or EOF
+unfoldable pub onTo : ℕ → List Record → List Record → List Record × List Record
+onTo k before rest = (reverseAux (upToLine (k - sources before) rest) before, afterLine (k - sources before) rest)
+
+-- back or on to there
+unfoldable pub toSource : ℕ → List Record → List Record → List Record × List Record
+toSource k before rest = onTo k [] (reverseAux before rest)
+
+-- The buffer i with the numbers `there`, and the buffer j with the numbers st, hold the same records, the gap standing elsewhere.
+pub record Away (i : List ℕ) (there : State) (j : List ℕ) (st : State) : Type 0 where
+  pub before : List Record
+  pub rest : List Record
   pub front : List Record
   pub back : List Record
-  pub holds : Holds j s front back
+  pub was : Holds i there before rest
+  pub now : Holds j st front back
   pub same : reverseAux front back ≡ reverseAux before rest
+  pub long : length i ≡ length j
 
--- EOF is current, or a record that has a source line and stands after k of them at least
-abbrev pub AtSource : List ℕ → State → ℕ → Type 0
-AtSource j s k = (length j ≤ s .back) ⊎ ((k ≤ s .past) × (getD j (s .back) 0 ≡ 43 → ⊥))
+-- ---- changes of records
 
--- ---- reading
+-- the lines `ls` go in before the current record
+abbrev pub Puts : List Line → List ℕ → State → List ℕ → State → Type 0
+Puts ls j st k r = ((b : List Record) (a : List Record) → Holds j st b a → Holds k r (putBefore ls b) a) × Stays st r
 
--- the furthest line read once the first record of `rest` is current
-abbrev pub reachedBy : ℕ → ℕ → List Record → List Record → ℕ
-reachedBy lines f before [] = suc lines
-reachedBy lines f before (r ∷ rest) = max f (sources before + sources (r ∷ []))
+-- the records `rs`, in order, passed with their lines deleted
+unfoldable pub strikeOver : List Record → List Record → List Record
+strikeOver [] before = before
+strikeOver (r ∷ rs) before = strikeOver rs (erase r ++ before)
+
+-- the line of the record from f up to the gap is deleted
+abbrev pub Strikes : ℕ → List ℕ → State → List ℕ → State → Type 0
+Strikes f j st k r =
+    ((x : Record) (b : List Record) (a : List Record) → Holds j st (x ∷ b) a → length (encBefore b) ≡ f → Holds k r (erase x ++ b) a) × Stays st r
+
+-- the same once the record has the mark of a deleted one
+abbrev pub Cuts : ℕ → List ℕ → State → List ℕ → State → Type 0
+Cuts f j st k r =
+    ((o : Line) (n : Line) (b : List Record) (a : List Record) → HoldsCut j st f o n b a → Holds k r (deleted o ∷ b) a) × Stays st r
+
+-- ---- the end of a run
+
+-- n bytes of journal from the buffer's start on, zeros after it
+abbrev pub ClosesJournal : List ℕ → State → List ℕ → ℕ → Type 0
+ClosesJournal j st k n =
+    (b : List Record) (a : List Record) → Holds j st b a
+    → (n ≡ journalLength (reverseAux b a)) × (k ≡ journalBytes (reverseAux b a) ++ zeros (length j - journalLength (reverseAux b a)))
+
+-- ---- numbers that are set
+
+-- the furthest line read is raised to source line a, or to EOF where there is no such line
+abbrev pub raised : State → ℕ → State
+raised st a = record {
+  front = st .front;
+  back = st .back;
+  past = st .past;
+  furthest = max (st .furthest) (min a (st .lines + 1));
+  lines = st .lines;
+  source = st .source;
+  size = st .size;
+  p = st .p;
+}
+
+-- p is set
+abbrev pub atPoint : State → ℕ → State
+atPoint st q = record {
+  front = st .front;
+  back = st .back;
+  past = st .past;
+  furthest = st .furthest;
+  lines = st .lines;
+  source = st .source;
+  size = st .size;
+  p = q;
+}
+
+-- the source line to read where the first record of `rest` is current: its own; the one before where it is inserted; EOF where there is none
+unfoldable pub lineAt : List Record → List Record → ℕ
+lineAt before [] = suc (sources before)
+lineAt before (r ∷ rest) = sources before + sources (r ∷ [])
+
+-- ---- M's line as a number
+
+-- 0 is `.`, 65,536 is `*`, any other number is that of a source line
+unfoldable pub targetNumbered : ℕ → Target
+targetNumbered n = cond (eqb n 0) here (cond (eqb n 65536) eof (line n))

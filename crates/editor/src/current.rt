@@ -6,12 +6,12 @@ ghost use lib.ListN.{length};
 ghost use Rattle.definitions.specs.Tape.{Tape};
 ghost use Rattle.definitions.specs.Editor.{Ed};
 ghost use Rattle.editor.specs.Shows.{Shows};
-ghost use Rattle.editor.specs.Current.{TableOf, textOf};
+ghost use Rattle.editor.specs.Current.{TableOf, currentLine};
 
 // The text of the current line: a part of the table where the line is kept, and else of the journal.
 pub fn current_line<'a>(table: &'a [u8], j: &'a [u8], st: State) -> &'a [u8]
     requires { ⌜ ((e : Ed) × (t : Tape) × Shows (now j) st e t × TableOf (now table) e t) × (st .back < length (now j)) ⌝ }
-    ensures { λ r. ⌜ ((e : Ed) (t : Tape) → Shows (now (j .entry)) st e t → TableOf (now (table .entry)) e t → now r ≡ textOf e) ⌝ }
+    ensures { λ r. ⌜ ((e : Ed) (t : Tape) → Shows (now (j .entry)) st e t → TableOf (now (table .entry)) e t → now r ≡ currentLine e) ⌝ }
 {
     let at = st.back;
     let x = crate::walk::line_text(j, st);

@@ -2,18 +2,17 @@
 use crate::State;
 ghost use mathlib.Core.Path.{_≡_};
 ghost use mathlib.Core.Bool.{true};
-ghost use mathlib.Core.List.{List, _∷_, _++_, map, reverseAux};
-ghost use Prim.Native.Nat.{_+_, _-_, _≤_};
+ghost use mathlib.Core.List.{List, _∷_, _++_, map};
+ghost use Prim.Native.Nat.{_+_, _≤_};
 ghost use lib.ListN.{length, take, drop};
-ghost use Rattle.gap.specs.Gap.{zeros};
-ghost use Rattle.definitions.specs.Journal.{Record, kept, journalBytes, journalLength};
+ghost use Rattle.definitions.specs.Journal.{Record};
 ghost use Rattle.definitions.specs.Bytes.{linesOf};
 ghost use Rattle.definitions.specs.Table.{isTable};
 ghost use Rattle.definitions.specs.Run.{openingLength};
 ghost use Rattle.definitions.specs.Tape.{unread};
-ghost use Rattle.definitions.specs.Editor.{opening};
-ghost use Rattle.editor.specs.Records.{encAll, lineEnd};
-ghost use Rattle.editor.specs.Shows.{Holds, Opens};
+ghost use Rattle.definitions.specs.Reading.{opening};
+ghost use Rattle.editor.specs.Records.{OpeningAt, lineEnd};
+ghost use Rattle.editor.specs.Shows.{Holds, Opens, ClosesJournal};
 
 // Writes the n bytes of the table t from `from` on, a line with its line feed, as a kept record that ends at o, and hands its start back.
 fn put_kept(j: &mut [u8], o: usize, t: &[u8], from: usize, n: usize) -> usize
@@ -37,7 +36,7 @@ struct Opened {
 // Writes the opening journal of the table t so that it ends at the buffer's end, the last line first: its start need not be known.
 fn write_opening(t: &[u8], j: &mut [u8]) -> Opened
     requires { ⌜ (isTable (now t) ≡ true) × (openingLength (linesOf (now t)) ≤ length (now j)) ⌝ }
-    ensures { λ r. ⌜ (now (j .exit) ≡ take (r .at) (now (j .entry)) ++ encAll (map kept (linesOf (now (t .entry))))) × (r .at + openingLength (linesOf (now (t .entry))) ≡ length (now (j .entry))) × (r .lines ≡ length (linesOf (now (t .entry)))) ⌝ }
+    ensures { λ r. ⌜ OpeningAt (linesOf (now (t .entry))) (now (j .entry)) (now (j .exit)) (r .at) × (r .lines ≡ length (linesOf (now (t .entry)))) ⌝ }
 {
     let mut i = t.len();
     let mut o = j.len();
@@ -63,16 +62,17 @@ pub fn open_journal(t: &[u8], j: &mut [u8]) -> State
     let w = write_opening(t, j);
     let b = w.at;
     gap::clear(j, 0, b);
-    State {
+    let st = State {
         front: 0,
         back: b,
         past: 0,
-        furthest: 1,
+        furthest: 0,
         lines: w.lines,
         source: 0,
         size: t.len(),
         p: 0,
-    }
+    };
+    crate::walk::read_to(st, 1)
 }
 
 // A 0, which stands between the two lines of a changed record, becomes a line feed; every other byte stays.
@@ -101,7 +101,7 @@ fn end_lines(j: &mut [u8], n: usize)
 // The end of a run: the journal from the buffer's start on, zeros after it. Its length is handed back.
 pub fn close_journal(j: &mut [u8], st: State) -> usize
     requires { ⌜ ((b : List Record) × (a : List Record) × Holds (now j) st b a) ⌝ }
-    ensures { λ r. ⌜ ((b : List Record) (a : List Record) → Holds (now (j .entry)) st b a → (r ≡ journalLength (reverseAux b a)) × (now (j .exit) ≡ journalBytes (reverseAux b a) ++ zeros (length (now (j .entry)) - journalLength (reverseAux b a)))) ⌝ }
+    ensures { λ r. ⌜ ClosesJournal (now (j .entry)) st (now (j .exit)) r ⌝ }
 {
     let f = st.front;
     let b = st.back;

@@ -5,10 +5,9 @@ ghost use mathlib.Core.List.{List, [], _∷_, _++_};
 ghost use Prim.Native.Nat.{ℕ, _+_, _-_, _≤_, _<_};
 ghost use lib.ListN.{length, drop};
 ghost use Rattle.definitions.specs.Journal.{Record};
-ghost use Rattle.definitions.specs.Editor.{land};
 ghost use Rattle.text.specs.Feeds.{lineLength};
 ghost use Rattle.editor.specs.Records.{enc, Good, oldBytes, zeroPlace};
-ghost use Rattle.editor.specs.Shows.{Holds, Placed, Stays, beforeOf, afterOf, reachedBy, TextAt};
+ghost use Rattle.editor.specs.Shows.{Holds, TextAt, PassesOver, PassesBack, Lands, Walks, backTo, onTo, toSource, Away, raised, lineAt};
 
 // The place after the next line feed from `at` on, or the end.
 pub fn record_end(j: &[u8], at: usize) -> usize
@@ -72,7 +71,7 @@ fn source_bytes(j: &[u8], at: usize, n: usize) -> usize
 // Over the current record: it then stands before the gap.
 pub fn pass_record(j: &mut [u8], st: State) -> State
     requires { ⌜ ((b : List Record) × (x : Record) × (a : List Record) × Holds (now j) st b (x ∷ a)) ⌝ }
-    ensures { λ r. ⌜ ((b : List Record) (x : Record) (a : List Record) → Holds (now (j .entry)) st b (x ∷ a) → Holds (now (j .exit)) r (x ∷ b) a) × Stays st r × (st .back < r .back) ⌝ }
+    ensures { λ r. ⌜ PassesOver (now (j .entry)) st (now (j .exit)) r ⌝ }
 {
     let f = st.front;
     let b = st.back;
@@ -91,7 +90,7 @@ pub fn pass_record(j: &mut [u8], st: State) -> State
 // Back over the nearest record before the gap: it is then the current one.
 pub fn unpass_record(j: &mut [u8], st: State) -> State
     requires { ⌜ ((x : Record) × (b : List Record) × (a : List Record) × Holds (now j) st (x ∷ b) a) ⌝ }
-    ensures { λ r. ⌜ ((x : Record) (b : List Record) (a : List Record) → Holds (now (j .entry)) st (x ∷ b) a → Holds (now (j .exit)) r b (x ∷ a)) × Stays st r × (r .front < st .front) ⌝ }
+    ensures { λ r. ⌜ PassesBack (now (j .entry)) st (now (j .exit)) r ⌝ }
 {
     let f = st.front;
     let b = st.back;
@@ -112,7 +111,7 @@ pub fn unpass_record(j: &mut [u8], st: State) -> State
 // Over the deleted records that stand first. A line that becomes current gets p = 0.
 pub fn land_live(j: &mut [u8], st: State) -> State
     requires { ⌜ ((b : List Record) × (a : List Record) × Holds (now j) st b a) ⌝ }
-    ensures { λ r. ⌜ ((b : List Record) (a : List Record) → Holds (now (j .entry)) st b a → Holds (now (j .exit)) r (beforeOf (land b a)) (afterOf (land b a))) × (r .furthest ≡ st .furthest) × (r .lines ≡ st .lines) × (r .p ≡ 0) ⌝ }
+    ensures { λ r. ⌜ Lands (now (j .entry)) st (now (j .exit)) r ⌝ }
 {
     let mut s = st;
     loop {
@@ -129,23 +128,91 @@ pub fn land_live(j: &mut [u8], st: State) -> State
     s
 }
 
+// Back until at most k source lines stand before the gap.
+fn back_to(j: &mut [u8], st: State, k: usize) -> State
+    requires { ⌜ ((b : List Record) × (a : List Record) × Holds (now j) st b a) ⌝ }
+    ensures { λ r. ⌜ Walks (backTo k) (now (j .entry)) st (now (j .exit)) r ⌝ }
+{
+    let mut s = st;
+    while k < s.past {
+        s = unpass_record(j, s);
+    }
+    s
+}
+
+// On until the record of the source line after k others is current, or EOF.
+fn on_to(j: &mut [u8], st: State, k: usize) -> State
+    requires { ⌜ ((b : List Record) × (a : List Record) × Holds (now j) st b a) ⌝ }
+    ensures { λ r. ⌜ Walks (onTo k) (now (j .entry)) st (now (j .exit)) r ⌝ }
+{
+    let mut s = st;
+    loop {
+        let at = s.back;
+        if at >= j.len() {
+            return s;
+        }
+        if s.past >= k {
+            if j[at] != 43 {
+                return s;
+            }
+        }
+        s = pass_record(j, s);
+    }
+}
+
+// Back or on to the record of the source line after k others, or EOF.
+pub fn to_source(j: &mut [u8], st: State, k: usize) -> State
+    requires { ⌜ ((b : List Record) × (a : List Record) × Holds (now j) st b a) ⌝ }
+    ensures { λ r. ⌜ Walks (toSource k) (now (j .entry)) st (now (j .exit)) r ⌝ }
+{
+    let near = back_to(j, st, k);
+    on_to(j, near, k)
+}
+
+// The gap goes back to where it stood with the numbers `there`: the buffer is then as it was.
+pub fn gap_to(j: &mut [u8], st: State, there: State)
+    requires { ⌜ ((i : List ℕ) × Away i there (now j) st) ⌝ }
+    ensures { λ _. ⌜ ((i : List ℕ) → Away i there (now (j .entry)) st → now (j .exit) ≡ i) ⌝ }
+{
+    let f = st.front;
+    let b = st.back;
+    let to = there.front;
+    if to <= f {
+        gap::shift_up(j, to, f, b);
+        return;
+    }
+    let n = to - f;
+    gap::shift_down(j, f, b, n);
+}
+
+// Source line a is read, and the lines before it; EOF where there is no such line: the part `readUpTo (line a)` of a step, and `readUpTo eof` for lines + 1
+// (laws reads-line, reads-eof). No other function sets the furthest line read.
+pub fn read_to(st: State, a: usize) -> State
+    requires { ⌜ st .lines ≤ 65535 ⌝ }
+    ensures { λ r. ⌜ r ≡ raised st a ⌝ }
+{
+    let mut s = st;
+    let mut to = st.lines + 1;
+    if a < to {
+        to = a;
+    }
+    if st.furthest < to {
+        s.furthest = to;
+    }
+    s
+}
+
 // The line that is current now, or EOF, is read.
 pub fn read_current(j: &[u8], st: State) -> State
     requires { ⌜ ((b : List Record) × (a : List Record) × Holds (now j) st b a) ⌝ }
-    ensures { λ r. ⌜ ((b : List Record) (a : List Record) → Holds (now (j .entry)) st b a → r .furthest ≡ reachedBy (st .lines) (st .furthest) b a) × Placed st r × (r .p ≡ st .p) ⌝ }
+    ensures { λ r. ⌜ ((b : List Record) (a : List Record) → Holds (now (j .entry)) st b a → r ≡ raised st (lineAt b a)) ⌝ }
 {
     let at = st.back;
-    let mut s = st;
-    if at >= j.len() {
-        s.furthest = st.lines + 1;
-        return s;
+    if at < j.len() {
+        if j[at] == 43 {
+            // An inserted line has no number: the line before it is read already, or is read now.
+            return read_to(st, st.past);
+        }
     }
-    let mut reached = st.past;
-    if j[at] != 43 {
-        reached += 1;
-    }
-    if st.furthest < reached {
-        s.furthest = reached;
-    }
-    s
+    read_to(st, st.past + 1)
 }

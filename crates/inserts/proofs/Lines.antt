@@ -9,7 +9,7 @@ use lib.Seq.{drop-cons, length-take-le, take-nil, take-take, drop-drop}
 use lib.Dec.{eqb}
 use borrow.Author.Tests.{eq-eqb, ne-eqb}
 use Rattle.definitions.specs.Bytes.{linesOf, before}
-use Rattle.script.specs.Words.{partOf}
+use Rattle.items.specs.Words.{partOf}
 use Rattle.inserts.specs.Lines.{feedPlace}
 
 -- ---- bytes

@@ -8,15 +8,15 @@ use lib.ListN.{length, take, drop}
 use Rattle.definitions.specs.Bytes.{Line, linesOf, isLine, allLines}
 use Rattle.definitions.specs.Journal.{Record, inserted, recordLength, journalLength}
 use Rattle.definitions.specs.Editor.{putBefore}
-use Rattle.script.specs.Words.{partOf}
+use Rattle.items.specs.Words.{partOf}
 use Rattle.editor.specs.Shows.{Holds, Stays}
 use Rattle.editor.specs.declared.State.{State}
 use Rattle.editor.proofs.Records.{both}
 use Rattle.editor.proofs.Held.{holds-lists, stays-still, stays-on}
 use Rattle.editor.proofs.Inserting.{held-journal, put-length}
-use Rattle.inserts.specs.Lines.{feedPlace, Insertable}
+use Rattle.inserts.specs.Lines.{feedPlace, Insertable, roomOf}
 use Rattle.inserts.proofs.Lines.{part-length, lines-none, lines-first}
-use Rattle.inserts.proofs.Room.{roomOf, room-first}
+use Rattle.inserts.proofs.Room.{room-first}
 
 -- The records of the lines up to `at` are put: those of the lines from there on, put too, make all of them.
 pub record Putting (j₀ : List ℕ) (st : State) (s : List ℕ) (start end : ℕ) (j : List ℕ) (r : State) (at : ℕ) : Type 0 where
@@ -66,7 +66,7 @@ module _ {j₀ : List ℕ} {st : State} {s : List ℕ} {start end : ℕ} {j : Li
     putting-room = omega (arith, w .room, room-first s at end inside more e is)
 
     pub putting-on : {k : List ℕ} {u : State} → ((b : List Record) × (a : List Record) × Holds j₀ st b a)
-        → ((b : List Record) (a : List Record) → Holds j r b a → Holds k u (inserted (take (e - at) (drop at s)) ∷ b) a) → Stays r u → length k ≡ length j
+        → ((b : List Record) (a : List Record) → Holds j r b a → Holds k u (putBefore (take (e - at) (drop at s) ∷ []) b) a) → Stays r u → length k ≡ length j
         → Putting j₀ st s start end k u (e + 1)
     unfolding partOf putBefore
     putting-on {k} {u} x puts stays q =

@@ -6,13 +6,9 @@ use native.Mathlib.Omega.{arith}
 use lib.ListN.{length}
 use Rattle.definitions.specs.Bytes.{Line, linesOf}
 use Rattle.definitions.specs.Journal.{inserted, recordLength, journalLength}
-use Rattle.script.specs.Words.{partOf}
-use Rattle.inserts.specs.Lines.{feedPlace}
+use Rattle.items.specs.Words.{partOf}
+use Rattle.inserts.specs.Lines.{feedPlace, roomOf}
 use Rattle.inserts.proofs.Lines.{part-length, stop-inside, lines-none, lines-first}
-
--- the journal bytes of the lines from `at` up to `end`
-abbrev pub roomOf : List ℕ → ℕ → ℕ → ℕ
-roomOf s at end = journalLength (map inserted (linesOf (partOf s at end)))
 
 line-room : (l : Line) (ls : List Line) → journalLength (map inserted (l ∷ ls)) ≡ 3 + length l + journalLength (map inserted ls)
 unfolding journalLength recordLength

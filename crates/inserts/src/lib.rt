@@ -1,23 +1,17 @@
 // Lines of the script, inserted before the current line: I, and the lines of R.
-pub mod words;
-
 use editor::Moved;
 use editor::State;
 ghost use mathlib.Core.Path.{_≡_};
-ghost use mathlib.Core.Bool.{true};
-ghost use mathlib.Core.Option.{Option, none};
-ghost use mathlib.Core.List.{List, map};
+ghost use mathlib.Core.Option.{none};
+ghost use mathlib.Core.List.{List};
 ghost use Prim.Native.Nat.{_+_, _≤_};
 ghost use lib.ListN.{length};
 ghost use Rattle.definitions.specs.Bytes.{linesOf};
-ghost use Rattle.definitions.specs.Journal.{Record, inserted, journalLength};
-ghost use Rattle.definitions.specs.Tape.{Tape};
-ghost use Rattle.definitions.specs.Editor.{Ed, Target, putBefore};
-ghost use Rattle.definitions.specs.Edit.{Op, step};
-ghost use Rattle.theorems.specs.GoodItems.{goodTarget, goodOption};
-ghost use Rattle.script.specs.Words.{partOf, targetCode, spotCode};
-ghost use Rattle.editor.specs.Shows.{Holds, Stays, Shows, Answered};
-ghost use Rattle.inserts.specs.Lines.{feedPlace, Insertable};
+ghost use Rattle.definitions.specs.Journal.{Record};
+ghost use Rattle.definitions.specs.Edit.{Op};
+ghost use Rattle.items.specs.Words.{partOf};
+ghost use Rattle.editor.specs.Shows.{Holds, ShowsText, Performs, Puts};
+ghost use Rattle.inserts.specs.Lines.{feedPlace, Insertable, roomOf, spotOf};
 
 // The end of the line that starts at `at`: the place of its line feed, or `end`.
 fn line_end(s: &[u8], at: usize, end: usize) -> usize
@@ -37,7 +31,7 @@ fn line_end(s: &[u8], at: usize, end: usize) -> usize
 // How many bytes of the journal the lines from `start` up to `end` take.
 pub fn lines_room(s: &[u8], start: usize, end: usize) -> usize
     requires { ⌜ Insertable (now s) start end ⌝ }
-    ensures { λ r. ⌜ r ≡ journalLength (map inserted (linesOf (partOf (now (s .entry)) start end))) ⌝ }
+    ensures { λ r. ⌜ r ≡ roomOf (now (s .entry)) start end ⌝ }
 {
     let mut room: usize = 0;
     let mut at = start;
@@ -51,8 +45,8 @@ pub fn lines_room(s: &[u8], start: usize, end: usize) -> usize
 
 // The lines from `start` up to `end` become inserted records before the current one. There is room for them.
 pub fn put_lines(j: &mut [u8], st: State, s: &[u8], start: usize, end: usize) -> State
-    requires { ⌜ ((b : List Record) × (a : List Record) × Holds (now j) st b a) × Insertable (now s) start end × (st .front + journalLength (map inserted (linesOf (partOf (now s) start end))) ≤ st .back) ⌝ }
-    ensures { λ r. ⌜ ((b : List Record) (a : List Record) → Holds (now (j .entry)) st b a → Holds (now (j .exit)) r (putBefore (linesOf (partOf (now (s .entry)) start end)) b) a) × Stays st r ⌝ }
+    requires { ⌜ ((b : List Record) × (a : List Record) × Holds (now j) st b a) × Insertable (now s) start end × (st .front + roomOf (now s) start end ≤ st .back) ⌝ }
+    ensures { λ r. ⌜ Puts (linesOf (partOf (now (s .entry)) start end)) (now (j .entry)) st (now (j .exit)) r ⌝ }
 {
     let mut r = st;
     let mut at = start;
@@ -67,8 +61,8 @@ pub fn put_lines(j: &mut [u8], st: State, s: &[u8], start: usize, end: usize) ->
 
 // I: the lines are inserted before the current one. The room is tested for all of them at once.
 pub fn insert_lines(j: &mut [u8], st: State, s: &[u8], start: usize, end: usize) -> Moved
-    requires { ⌜ ((e : Ed) × (t : Tape) × Shows (now j) st e t) × Insertable (now s) start end ⌝ }
-    ensures { λ r. ⌜ ((e : Ed) (t : Tape) → Shows (now (j .entry)) st e t → Answered (now (j .exit)) r (step (length (now (j .entry))) (Op.insert none (linesOf (partOf (now (s .entry)) start end))) e t)) ⌝ }
+    requires { ⌜ ShowsText (now j) st × Insertable (now s) start end ⌝ }
+    ensures { λ r. ⌜ Performs (now (j .entry)) st (Op.insert none (linesOf (partOf (now (s .entry)) start end))) (now (j .exit)) r ⌝ }
 {
     let room = st.back - st.front;
     if room < lines_room(s, start, end) {
@@ -77,29 +71,15 @@ pub fn insert_lines(j: &mut [u8], st: State, s: &[u8], start: usize, end: usize)
     Moved::On(put_lines(j, st, s, start, end))
 }
 
-// M by its word: 0 is the current line, 65536 is EOF, and any other number is that source line.
-pub fn move_by(j: &mut [u8], st: State, code: usize) -> Moved
-    requires { ⌜ ((e : Ed) × (t : Tape) × Shows (now j) st e t) × (code ≤ 65536) ⌝ }
-    ensures { λ r. ⌜ ((e : Ed) (t : Tape) → Shows (now (j .entry)) st e t → (a : Target) → code ≡ targetCode a → goodTarget a ≡ true → Answered (now (j .exit)) r (step (length (now (j .entry))) (Op.move a) e t)) ⌝ }
-{
-    if code == 0 {
-        return editor::moves::move_here(st);
-    }
-    if code == 65536 {
-        return editor::moves::move_to_eof(j, st);
-    }
-    editor::moves::move_to(j, st, code)
-}
-
-// I with a line to move to or none, by its word: 0 is none, and any other number is that of the line in M, plus 1.
+// I with a line to move to or none, by its number: 0 is none, and any other number is that of the line in M, plus 1.
 pub fn insert_at(j: &mut [u8], st: State, spot: usize, s: &[u8], start: usize, end: usize) -> Moved
-    requires { ⌜ ((e : Ed) × (t : Tape) × Shows (now j) st e t) × Insertable (now s) start end × (spot ≤ 65537) ⌝ }
-    ensures { λ r. ⌜ ((e : Ed) (t : Tape) → Shows (now (j .entry)) st e t → (a : Option Target) → spot ≡ spotCode a → goodOption a ≡ true → Answered (now (j .exit)) r (step (length (now (j .entry))) (Op.insert a (linesOf (partOf (now (s .entry)) start end))) e t)) ⌝ }
+    requires { ⌜ ShowsText (now j) st × Insertable (now s) start end ⌝ }
+    ensures { λ r. ⌜ Performs (now (j .entry)) st (Op.insert (spotOf spot) (linesOf (partOf (now (s .entry)) start end))) (now (j .exit)) r ⌝ }
 {
     if spot == 0 {
         return insert_lines(j, st, s, start, end);
     }
-    let moved = move_by(j, st, spot - 1);
+    let moved = editor::moves::go_to(j, st, spot - 1);
     let Moved::On(there) = moved else {
         return moved;
     };

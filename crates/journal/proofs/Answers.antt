@@ -15,11 +15,11 @@ use Rattle.text.proofs.Buffer.{laid-zero}
 use Rattle.journal.specs.Measuring.{measuresOf, checked, lengthBy, roomFor}
 use Rattle.journal.specs.Views.{outOf}
 use Rattle.journal.specs.Reading.{readingNumber, readingLength, answered}
-use Rattle.journal.specs.declared.Reading.the-variants.{Written as Out, Short, Malformed}
+use Rattle.journal.specs.declared.Reading.the-variants.{Wrote as Out, Short, Malformed}
 use Rattle.journal.specs.declared.records.View.{View}
 use Rattle.journal.specs.declared.measure.Measures.{Measures}
 use Rattle.journal.specs.declared.measure.Checked.the-variants.{Records, NotRecords}
-use Rattle.journal.specs.declared.measure.Room.the-variants.{Enough, Lacking}
+use Rattle.journal.specs.declared.measure.Fit.the-variants.{Enough, Lacking}
 use Rattle.journal.proofs.Walk.{recordsFrom, records-few}
 use Rattle.journal.proofs.Going.{few-some}
 use Rattle.journal.proofs.Views.{out-length}

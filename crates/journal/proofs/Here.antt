@@ -132,6 +132,12 @@ here j at x h = goMark (markIn (drop at j)) refl
     goMark NoMark e = absurd (none-found x (sym (no-mark j at e) ∙ h))
     goMark (Is m) e = goFirst m e (lineEnd (at + 2) (drop (at + 2) j)) refl
 
+-- a record ends after its place, within the journal
+pub ends-after : (j : List ℕ) (at : ℕ) (x : Extent) → recordAt j at ≡ Found x → (at < x .end) × (x .end < length j)
+ends-after j at x h =
+    let w = here j at x h in
+    (omega (arith, w .first .low, w .order), w .inside)
+
 -- none found
 pub nowhere : (j : List ℕ) (at : ℕ) → at < length j → recordAt j at ≡ NoRecord → recordsFrom (drop at j) ≡ none
 nowhere j at inj h = goMark (markIn (drop at j)) refl

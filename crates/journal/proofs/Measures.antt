@@ -6,16 +6,17 @@ use mathlib.Core.List.{List, [], _∷_}
 use Prim.Native.Nat.{ℕ, _+_, _-_, _≤_, _<_}
 use native.Mathlib.Nat.{add-zero, zero-add}
 use native.Mathlib.Omega.{arith}
-use lib.ListN.{length, drop, length-append, length-take, length-drop, drop-of-length-le}
+use lib.ListN.{length, drop, length-append, drop-of-length-le}
 use lib.Dec.{leb}
 use borrow.Author.Tests.{le-leb, lt-leb}
 use Rattle.definitions.specs.Bytes.{Line, linesBytes}
 use Rattle.definitions.specs.Journal.{Record, oldOf, oldSide, newOf, newSide, followed, fewOldLines, recordsOf}
 use Rattle.text.specs.Lines.{part}
+use Rattle.text.proofs.Parts.{part-length}
 use Rattle.text.proofs.Lines.{lines-bytes-append, lines-bytes-one}
 use Rattle.text.proofs.Ends.{Ended, ended-bytes}
 use Rattle.journal.specs.Records.{recordAt, recordOf, recordIn, unchangedIn, InOrder, oldSpan, newSpan}
-use Rattle.journal.specs.Measuring.{spanLines, spanLength, AtMost, counted, measuresOf, checked, roomFor}
+use Rattle.journal.specs.Measuring.{spanLines, spanLength, AtMost, withRecord, measuresOf, checked, roomFor}
 use Rattle.journal.specs.declared.records.Mark.{Mark}
 use Rattle.journal.specs.declared.records.Mark.the-variants.{Kept, Changed, Deleted, Inserted}
 use Rattle.journal.specs.declared.records.Extent.{Extent}
@@ -25,7 +26,7 @@ use Rattle.journal.specs.declared.records.Span.the-variants.{Bytes, Noth
 use Rattle.journal.specs.declared.measure.Measures.{Measures}
 use Rattle.journal.specs.declared.measure.Checked.{Checked}
 use Rattle.journal.specs.declared.measure.Checked.the-variants.{Records, NotRecords}
-use Rattle.journal.specs.declared.measure.Room.the-variants.{Enough, Lacking}
+use Rattle.journal.specs.declared.measure.Fit.the-variants.{Enough, Lacking}
 use Rattle.journal.proofs.Walk.{recordsFrom, records-few, records-none}
 use Rattle.journal.proofs.Here.{Here, LastLine, nowhere}
 
@@ -44,16 +45,13 @@ module _ (j : List ℕ) (x : Extent) (f : Ended j (x .at + 2) (x .mid)) where
   old-bytes Deleted = ended-bytes j (x .at + 2) (x .mid) f ∙ sym (lines-bytes-one _)
   old-bytes Inserted = refl
 
-  only : x .end ≡ x .mid → part (x .at + 2) (x .end + 1) j ≡ linesBytes (part (x .at + 2) (x .mid) j ∷ [])
-  only e = rw e (ended-bytes j (x .at + 2) (x .mid) f ∙ sym (lines-bytes-one _))
-
   pub new-bytes : (m : Mark) → LastLine m j (x .mid) (x .end)
       → spanBytes j (newSpan m x) ≡ linesBytes (newOf (recordOf m (part (x .at + 2) (x .mid) j) (part (x .mid + 1) (x .end) j)))
   unfolding spanBytes newSpan newOf recordOf linesBytes
-  new-bytes Kept l = only l
+  new-bytes Kept l = ended-bytes j (x .at + 2) (x .mid) f ∙ sym (lines-bytes-one _)
   new-bytes Changed l = ended-bytes j (x .mid + 1) (x .end) l ∙ sym (lines-bytes-one _)
   new-bytes Deleted l = refl
-  new-bytes Inserted l = only l
+  new-bytes Inserted l = ended-bytes j (x .at + 2) (x .mid) f ∙ sym (lines-bytes-one _)
 
   pub old-lines : (m : Mark) (k n : Line) → spanLines (oldSpan m x) ≡ length (oldOf (recordOf m k n))
   unfolding spanLines oldSpan oldOf recordOf
@@ -69,9 +67,6 @@ module _ (j : List ℕ) (x : Extent) (f : Ended j (x .at + 2) (x .mid)) where
   new-lines Deleted k n = refl
   new-lines Inserted k n = refl
 
-pub part-length : (j : List ℕ) (a e : ℕ) → e ≤ length j → length (part a e j) ≡ e - a
-part-length j a e h = simp (length-take, length-drop) (omega arith)
-
 module _ (j : List ℕ) (x : Extent) (mid : x .mid < length j) (end : x .end < length j) where
   old-length : (m : Mark) → length (spanBytes j (oldSpan m x)) ≡ spanLength (oldSpan m x)
   unfolding spanBytes oldSpan spanLength
@@ -82,10 +77,10 @@ module _ (j : List ℕ) (x : Extent) (mid : x .mid < length j) (end : x .end < l
 
   new-length : (m : Mark) → length (spanBytes j (newSpan m x)) ≡ spanLength (newSpan m x)
   unfolding spanBytes newSpan spanLength
-  new-length Kept = part-length j (x .at + 2) (x .end + 1) (omega arith)
+  new-length Kept = part-length j (x .at + 2) (x .mid + 1) (omega arith)
   new-length Changed = part-length j (x .mid + 1) (x .end + 1) (omega arith)
   new-length Deleted = refl
-  new-length Inserted = part-length j (x .at + 2) (x .end + 1) (omega arith)
+  new-length Inserted = part-length j (x .at + 2) (x .mid + 1) (omega arith)
 
 -- ---- no measure passes the place that is reached
 
@@ -105,8 +100,8 @@ module _ (x : Extent) (o : InOrder x) where
   new-small Inserted = let l = o .low in let h = o .high in omega arith
 
   -- the sums are numbers
-  pub counted-small : (m : Measures) → AtMost m (x .at) → AtMost (counted m x) (x .end + 1)
-  unfolding counted
+  pub counted-small : (m : Measures) → AtMost m (x .at) → AtMost (withRecord m x) (x .end + 1)
+  unfolding withRecord
   counted-small m a =
       let p = old-small (x .mark) in
       let q = new-small (x .mark) in record {
@@ -178,37 +173,37 @@ module _ (j : List ℕ) (at : ℕ) (m : Measures) (x : Extent) (w : Here j at x)
   mid-inside : x .mid < length j
   mid-inside = let o = w .order in let i = w .inside in omega arith
 
-  old-grown : (rs : List Record) → m .old + length (linesBytes (oldSide (recordIn j x ∷ rs))) ≡ counted m x .old + length (linesBytes (oldSide rs))
-  unfolding oldSide counted recordIn
+  old-grown : (rs : List Record) → m .old + length (linesBytes (oldSide (recordIn j x ∷ rs))) ≡ withRecord m x .old + length (linesBytes (oldSide rs))
+  unfolding oldSide withRecord recordIn
   old-grown rs =
       let is : spanLength (oldSpan (x .mark) x) ≡ length (linesBytes (oldOf (recordIn j x))) = sym (old-length j x mid-inside (w .inside) (x .mark)) ∙ ap length (old-bytes j x first (x .mark)) in
       rw (lines-bytes-append, length-append) (omega (arith, is))
 
-  new-grown : (rs : List Record) → m .new + length (linesBytes (newSide (recordIn j x ∷ rs))) ≡ counted m x .new + length (linesBytes (newSide rs))
-  unfolding newSide counted recordIn
+  new-grown : (rs : List Record) → m .new + length (linesBytes (newSide (recordIn j x ∷ rs))) ≡ withRecord m x .new + length (linesBytes (newSide rs))
+  unfolding newSide withRecord recordIn
   new-grown rs =
       let is : spanLength (newSpan (x .mark) x) ≡ length (linesBytes (newOf (recordIn j x))) = sym (new-length j x mid-inside (w .inside) (x .mark)) ∙ ap length (new-bytes j x first (x .mark) (w .last)) in
       rw (lines-bytes-append, length-append) (omega (arith, is))
 
-  lines-grown : (rs : List Record) → m .lines + length (oldSide (recordIn j x ∷ rs)) ≡ counted m x .lines + length (oldSide rs)
-  unfolding oldSide counted recordIn
+  lines-grown : (rs : List Record) → m .lines + length (oldSide (recordIn j x ∷ rs)) ≡ withRecord m x .lines + length (oldSide rs)
+  unfolding oldSide withRecord recordIn
   lines-grown rs =
       let is : spanLines (oldSpan (x .mark) x) ≡ length (oldOf (recordIn j x)) = old-lines j x first (x .mark) _ _ in
       rw (length-append) (omega (arith, is))
 
-  shown-grown : (rs : List Record) → m .shown + length (newSide (recordIn j x ∷ rs)) ≡ counted m x .shown + length (newSide rs)
-  unfolding newSide counted recordIn
+  shown-grown : (rs : List Record) → m .shown + length (newSide (recordIn j x ∷ rs)) ≡ withRecord m x .shown + length (newSide rs)
+  unfolding newSide withRecord recordIn
   shown-grown rs =
       let is : spanLines (newSpan (x .mark) x) ≡ length (newOf (recordIn j x)) = new-lines j x first (x .mark) _ _ in
       rw (length-append) (omega (arith, is))
 
-  check-more : (o : Option (List Record)) → checkedFrom m (followed true (recordIn j x) o) ≡ checkedFrom (counted m x) o
+  check-more : (o : Option (List Record)) → checkedFrom m (followed true (recordIn j x) o) ≡ checkedFrom (withRecord m x) o
   unfolding checkedFrom followed
   check-more none = refl
   check-more (some rs) =
-      ap verdict (measures-eq (plus m (recordIn j x ∷ rs)) (plus (counted m x) rs) (lines-grown rs) (old-grown rs) (shown-grown rs) (new-grown rs))
+      ap verdict (measures-eq (plus m (recordIn j x ∷ rs)) (plus (withRecord m x) rs) (lines-grown rs) (old-grown rs) (shown-grown rs) (new-grown rs))
 
-  pub check-step : unchangedIn j x ≡ false → checkedFrom m (recordsFrom (drop at j)) ≡ checkedFrom (counted m x) (recordsFrom (drop (x .end + 1) j))
+  pub check-step : unchangedIn j x ≡ false → checkedFrom m (recordsFrom (drop at j)) ≡ checkedFrom (withRecord m x) (recordsFrom (drop (x .end + 1) j))
   check-step e = ap (checkedFrom m) (w .records ∙ rw e) ∙ check-more (recordsFrom (drop (x .end + 1) j))
 
 -- ---- room
@@ -224,8 +219,8 @@ room-lacking n size h = rw (lt-leb n size h)
 -- what `count` adds up
 pub counted-is : (m : Measures) (x : Extent) (o w : Span) (a b c d : ℕ) → o ≡ oldSpan (x .mark) x → w ≡ newSpan (x .mark) x
     → a ≡ spanLines o → b ≡ spanLength o → c ≡ spanLines w → d ≡ spanLength w
-    → record { lines = m .lines + a; old = m .old + b; shown = m .shown + c; new = m .new + d } ≡ counted m x
-unfolding counted
+    → record { lines = m .lines + a; old = m .old + b; shown = m .shown + c; new = m .new + d } ≡ withRecord m x
+unfolding withRecord
 counted-is m x o w a b c d p q e f g h = rw (e, f, g, h, p, q)
 
 pub verdict-good : (m : Measures) → m .lines ≤ 65535 → verdict m ≡ Records m

@@ -12,7 +12,7 @@ use Rattle.definitions.specs.Listing.{listedLine, listingFrom}
 use Rattle.text.specs.Lines.{part}
 use Rattle.text.proofs.Lines.{lines-bytes-append, lines-bytes-one}
 use Rattle.text.proofs.Ends.{Ended}
-use Rattle.journal.specs.Records.{recordOf, recordIn, oldSpan, newSpan, spanOf}
+use Rattle.journal.specs.Records.{recordOf, recordIn, oldSpan, newSpan, viewSpan}
 use Rattle.journal.specs.Measuring.{measuresOf, lengthBy}
 use Rattle.journal.specs.Views.{originalHead, headOf, headBy, goneBy, listed, piece, outFrom, outOf}
 use Rattle.journal.specs.declared.records.Mark.{Mark}
@@ -83,8 +83,8 @@ module _ (j : List ℕ) (x : Extent) (f : Ended j (x .at + 2) (x .mid)) (g : Gon
   shown-listing Deleted l = refl
   shown-listing Inserted l = ap (λ (r : List ℕ). headOf Inserted g ++ r) (sym (new-bytes j x f Inserted l ∙ lines-bytes-one _))
 
-  pub piece-shown : (view : View) → LastLine (x .mark) j (x .mid) (x .end) → piece view g (recordIn j x) ≡ shownAs j view (x .mark) g (spanOf view x)
-  unfolding piece recordIn spanOf
+  pub piece-shown : (view : View) → LastLine (x .mark) j (x .mid) (x .end) → piece view g (recordIn j x) ≡ shownAs j view (x .mark) g (viewSpan view x)
+  unfolding piece recordIn viewSpan
   piece-shown OldSide l = sym (shown-old j (x .mark) g (oldSpan (x .mark) x) ∙ old-bytes j x f (x .mark))
   piece-shown NewSide l = sym (shown-new j (x .mark) g (newSpan (x .mark) x) ∙ new-bytes j x f (x .mark) l)
   piece-shown Listing l = shown-listing (x .mark) l

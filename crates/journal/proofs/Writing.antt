@@ -8,7 +8,7 @@ use lib.ListN.{length, length-append}
 use Rattle.text.specs.Lines.{part}
 use Rattle.text.specs.Buffer.{laid}
 use Rattle.text.proofs.Buffer.{laid-none, laid-length, laid-laid}
-use Rattle.journal.specs.Records.{recordIn, oldSpan, newSpan, spanOf}
+use Rattle.journal.specs.Records.{recordIn, oldSpan, newSpan, viewSpan}
 use Rattle.journal.specs.Views.{headOf, headBy, piece}
 use Rattle.journal.specs.declared.records.Mark.{Mark}
 use Rattle.journal.specs.declared.records.Mark.the-variants.{Kept, Changed, Deleted, Inserted}
@@ -18,7 +18,7 @@ use Rattle.journal.specs.declared.records.View.the-variants.{OldSide, Ne
 use Rattle.journal.specs.declared.records.Span.the-variants.{Bytes, Nothing}
 use Rattle.journal.specs.declared.write.Gone.{Gone}
 use Rattle.journal.proofs.Here.{Here}
-use Rattle.journal.proofs.Measures.{part-length}
+use Rattle.text.proofs.Parts.{part-length}
 use Rattle.journal.proofs.Views.{head-length, shownAs, piece-shown}
 
 -- nothing written
@@ -72,21 +72,21 @@ module _ (j : List ℕ) (x : Extent) (w : Here j (x .at) x) where
   new-within Inserted a e k = within _ _ a e (omega (arith, w .first .low, w .order)) (omega (arith, w .inside)) k
 
   -- a span lies within the journal
-  pub span-within : (view : View) (a e : ℕ) → spanOf view x ≡ Bytes a e → (a ≤ e) × (e ≤ length j)
-  unfolding spanOf
+  pub span-within : (view : View) (a e : ℕ) → viewSpan view x ≡ Bytes a e → (a ≤ e) × (e ≤ length j)
+  unfolding viewSpan
   span-within OldSide a e k = old-within (x .mark) a e k
   span-within NewSide a e k = new-within (x .mark) a e k
   span-within Listing a e k = new-within (x .mark) a e k
 
   module _ (g : Gone) (few : g .lines ≤ 65535) (view : View) where
-    shown : piece view g (recordIn j x) ≡ shownAs j view (x .mark) g (spanOf view x)
+    shown : piece view g (recordIn j x) ≡ shownAs j view (x .mark) g (viewSpan view x)
     shown = piece-shown j x (w .first) g few view (w .last)
 
-    pub put-none : (d : List ℕ) (o : ℕ) → spanOf view x ≡ Nothing → (o ≡ o + length (piece view g (recordIn j x))) × (d ≡ laid d o (piece view g (recordIn j x)))
+    pub put-none : (d : List ℕ) (o : ℕ) → viewSpan view x ≡ Nothing → (o ≡ o + length (piece view g (recordIn j x))) × (d ≡ laid d o (piece view g (recordIn j x)))
     unfolding shownAs
     put-none d o e = none-written d (piece view g (recordIn j x)) o (shown ∙ rw e)
 
-    module _ (a e : ℕ) (is : spanOf view x ≡ Bytes a e) where
+    module _ (a e : ℕ) (is : viewSpan view x ≡ Bytes a e) where
       piece-is : piece view g (recordIn j x) ≡ headBy view (x .mark) g ++ part a e j
       unfolding shownAs
       piece-is = shown ∙ rw is

@@ -16,8 +16,8 @@ use Rattle.journal.specs.declared.records.Span.the-variants.{Bytes, Noth
 use Rattle.journal.specs.declared.measure.Measures.{Measures}
 use Rattle.journal.specs.declared.measure.Checked.{Checked}
 use Rattle.journal.specs.declared.measure.Checked.the-variants.{Records, NotRecords}
-use Rattle.journal.specs.declared.measure.Room.{Room}
-use Rattle.journal.specs.declared.measure.Room.the-variants.{Enough, Lacking}
+use Rattle.journal.specs.declared.measure.Fit.{Fit}
+use Rattle.journal.specs.declared.measure.Fit.the-variants.{Enough, Lacking}
 
 unfoldable pub spanLines : Span → ℕ
 spanLines (Bytes a e) = 1
@@ -35,8 +35,8 @@ pub record AtMost (m : Measures) (n : ℕ) : Type 0 where
   pub new : m .new ≤ n
 
 -- the measures `m` with the record of an extent
-unfoldable pub counted : Measures → Extent → Measures
-counted m x =
+unfoldable pub withRecord : Measures → Extent → Measures
+withRecord m x =
     record {
       lines = m .lines + spanLines (oldSpan (x .mark) x);
       old = m .old + spanLength (oldSpan (x .mark) x);
@@ -64,5 +64,5 @@ lengthBy OldSide m = m .old
 lengthBy NewSide m = m .new
 lengthBy Listing m = 7 * m .shown + m .new
 
-unfoldable pub roomFor : ℕ → ℕ → Room
+unfoldable pub roomFor : ℕ → ℕ → Fit
 roomFor n size = cond (leb n size) (Enough n) Lacking

@@ -3,7 +3,7 @@ use mathlib.Core.List.{List}
 use Prim.Native.Nat.{ℕ}
 use Rattle.definitions.specs.Listing.{Written, written}
 use Rattle.journal.specs.declared.Reading.{Reading}
-use Rattle.journal.specs.declared.Reading.the-variants.{Written as Out, Short, Malformed}
+use Rattle.journal.specs.declared.Reading.the-variants.{Wrote as Out, Short, Malformed}
 
 unfoldable pub readingNumber : Reading → ℕ
 readingNumber (Out n) = 0

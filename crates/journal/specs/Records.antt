@@ -86,22 +86,29 @@ pub record InOrder (x : Extent) : Type 0 where
   pub high : x .mid ≤ x .end
   pub small : x .end < 18446744073709551615
 
--- the line, with its LF, that an extent gives to the old side
+-- an extent's first line, with its LF, and its second one
+abbrev pub firstLine : Extent → Span
+firstLine x = Bytes (x .at + 2) (x .mid + 1)
+
+abbrev pub lastLine : Extent → Span
+lastLine x = Bytes (x .mid + 1) (x .end + 1)
+
+-- the line that an extent gives to the old side
 unfoldable pub oldSpan : Mark → Extent → Span
-oldSpan Kept x = Bytes (x .at + 2) (x .mid + 1)
-oldSpan Changed x = Bytes (x .at + 2) (x .mid + 1)
-oldSpan Deleted x = Bytes (x .at + 2) (x .mid + 1)
+oldSpan Kept x = firstLine x
+oldSpan Changed x = firstLine x
+oldSpan Deleted x = firstLine x
 oldSpan Inserted x = Nothing
 
 -- to the new side
 unfoldable pub newSpan : Mark → Extent → Span
-newSpan Kept x = Bytes (x .at + 2) (x .end + 1)
-newSpan Changed x = Bytes (x .mid + 1) (x .end + 1)
+newSpan Kept x = firstLine x
+newSpan Changed x = lastLine x
 newSpan Deleted x = Nothing
-newSpan Inserted x = Bytes (x .at + 2) (x .end + 1)
+newSpan Inserted x = firstLine x
 
 -- to a view
-unfoldable pub spanOf : View → Extent → Span
-spanOf OldSide x = oldSpan (x .mark) x
-spanOf NewSide x = newSpan (x .mark) x
-spanOf Listing x = newSpan (x .mark) x
+unfoldable pub viewSpan : View → Extent → Span
+viewSpan OldSide x = oldSpan (x .mark) x
+viewSpan NewSide x = newSpan (x .mark) x
+viewSpan Listing x = newSpan (x .mark) x

@@ -4,7 +4,7 @@ mod records;
 mod write;
 
 use measure::Checked;
-use measure::Room;
+use measure::Fit;
 use records::View;
 ghost use mathlib.Core.Path.{_≡_};
 ghost use Rattle.definitions.specs.Journal.{recordsOf};
@@ -15,7 +15,7 @@ ghost use Rattle.journal.specs.Reading.{readingNumber, readingLength, an
 // What a reader of a journal answers.
 pub enum Reading {
     // Number 0, and the written length.
-    Written(usize),
+    Wrote(usize),
     // Number 10: the destination is too short.
     Short,
     // Number 11: the bytes are no journal.
@@ -27,7 +27,7 @@ pub fn number(r: Reading) -> u32
     ensures { λ n. ⌜ n ≡ readingNumber r ⌝ }
 {
     match r {
-        Reading::Written(_) => 0,
+        Reading::Wrote(_) => 0,
         Reading::Short => 10,
         Reading::Malformed => 11,
     }
@@ -38,7 +38,7 @@ pub fn length(r: Reading) -> usize
     ensures { λ n. ⌜ n ≡ readingLength r ⌝ }
 {
     match r {
-        Reading::Written(n) => n,
+        Reading::Wrote(n) => n,
         Reading::Short => 0,
         Reading::Malformed => 0,
     }
@@ -74,9 +74,9 @@ fn read(view: View, j: &[u8], dest: &mut [u8]) -> Reading
         return Reading::Malformed;
     };
     let room = measure::fits(view, m, dest.len());
-    let Room::Enough(n) = room else {
+    let Fit::Enough(n) = room else {
         return Reading::Short;
     };
     write::write(view, j, dest);
-    Reading::Written(n)
+    Reading::Wrote(n)
 }

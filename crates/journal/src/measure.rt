@@ -8,7 +8,7 @@ ghost use mathlib.Core.Path.{_≡_};
 ghost use Prim.Native.Nat.{_+_, _*_};
 ghost use Rattle.definitions.specs.Journal.{recordsOf};
 ghost use Rattle.journal.specs.Records.{InOrder};
-ghost use Rattle.journal.specs.Measuring.{AtMost, spanLines, spanLength, counted, checked, lengthBy, roomFor};
+ghost use Rattle.journal.specs.Measuring.{AtMost, spanLines, spanLength, withRecord, checked, lengthBy, roomFor};
 
 // The old side's lines and bytes, and the new side's.
 pub struct Measures {
@@ -25,7 +25,7 @@ pub enum Checked {
 }
 
 // Whether a destination has room.
-pub enum Room {
+pub enum Fit {
     // Enough, for this many bytes.
     Enough(usize),
     Lacking,
@@ -54,7 +54,7 @@ fn span_length(s: Span) -> usize
 // The measures with one record more.
 fn count(m: Measures, x: Extent) -> Measures
     requires { ⌜ InOrder x × AtMost m (x .at) ⌝ }
-    ensures { λ r. ⌜ r ≡ counted m x ⌝ }
+    ensures { λ r. ⌜ r ≡ withRecord m x ⌝ }
 {
     let old = records::old_span(x);
     let new = records::new_span(x);
@@ -96,7 +96,7 @@ pub fn check(j: &[u8]) -> Checked
 }
 
 // Whether what a view writes fits into `size` bytes. No sum here can pass the largest number.
-pub fn fits(view: View, m: Measures, size: usize) -> Room
+pub fn fits(view: View, m: Measures, size: usize) -> Fit
     ensures { λ r. ⌜ r ≡ roomFor (lengthBy view m) size ⌝ }
 {
     match view {
@@ -106,26 +106,26 @@ pub fn fits(view: View, m: Measures, size: usize) -> Room
     }
 }
 
-fn room_for(n: usize, size: usize) -> Room
+fn room_for(n: usize, size: usize) -> Fit
     ensures { λ r. ⌜ r ≡ roomFor n size ⌝ }
 {
     if n <= size {
-        Room::Enough(n)
+        Fit::Enough(n)
     } else {
-        Room::Lacking
+        Fit::Lacking
     }
 }
 
 // Each of `shown` lines has seven bytes before it.
-fn listing_room(shown: usize, new: usize, size: usize) -> Room
+fn listing_room(shown: usize, new: usize, size: usize) -> Fit
     ensures { λ r. ⌜ r ≡ roomFor (7 * shown + new) size ⌝ }
 {
     if size / 7 < shown {
-        return Room::Lacking;
+        return Fit::Lacking;
     }
     let heads = 7 * shown;
     if size - heads < new {
-        return Room::Lacking;
+        return Fit::Lacking;
     }
-    Room::Enough(heads + new)
+    Fit::Enough(heads + new)
 }

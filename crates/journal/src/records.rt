@@ -1,9 +1,12 @@
 // The grammar of records, and which of a record's lines stands on which side. A new mark is a new row here.
 use text::LineEnd;
 ghost use mathlib.Core.Path.{_≡_};
+ghost use mathlib.Core.Bool.{cond};
 ghost use lib.ListN.{drop};
-ghost use Rattle.journal.specs.Records.{markOf, markIn, recordAt, unchangedIn, InOrder, oldSpan, newSpan, spanOf};
+ghost use lib.Dec.{eqb};
+ghost use Rattle.journal.specs.Records.{markOf, markIn, recordAt, unchangedIn, InOrder, firstLine, lastLine, oldSpan, newSpan, viewSpan};
 ghost use Rattle.journal.specs.declared.records.RecordAt.the-variants.{Found};
+ghost use Rattle.journal.specs.declared.records.MarkAt.the-variants.{Is, NoMark};
 
 // What became of a line.
 pub enum Mark {
@@ -50,31 +53,24 @@ pub enum Span {
 pub fn mark_of(a: u8, b: u8) -> MarkAt
     ensures { λ r. ⌜ r ≡ markOf a b ⌝ }
 {
-    if a == 61 {
-        if b == 61 {
-            return MarkAt::Is(Mark::Kept);
-        }
-        return MarkAt::NoMark;
+    match a {
+        61 => second(b, 61, Mark::Kept),
+        60 => second(b, 62, Mark::Changed),
+        45 => second(b, 45, Mark::Deleted),
+        43 => second(b, 43, Mark::Inserted),
+        _ => MarkAt::NoMark,
     }
-    if a == 60 {
-        if b == 62 {
-            return MarkAt::Is(Mark::Changed);
-        }
-        return MarkAt::NoMark;
+}
+
+// The mark whose second byte is `due`, where that byte is `b`.
+fn second(b: u8, due: u8, mark: Mark) -> MarkAt
+    ensures { λ r. ⌜ r ≡ cond (eqb b due) (Is mark) NoMark ⌝ }
+{
+    if b == due {
+        MarkAt::Is(mark)
+    } else {
+        MarkAt::NoMark
     }
-    if a == 45 {
-        if b == 45 {
-            return MarkAt::Is(Mark::Deleted);
-        }
-        return MarkAt::NoMark;
-    }
-    if a == 43 {
-        if b == 43 {
-            return MarkAt::Is(Mark::Inserted);
-        }
-        return MarkAt::NoMark;
-    }
-    MarkAt::NoMark
 }
 
 // The mark at a place.
@@ -151,6 +147,22 @@ pub fn unchanged(j: &[u8], x: Extent) -> bool
     }
 }
 
+// The line after a record's mark.
+fn first_line(x: Extent) -> Span
+    requires { ⌜ InOrder x ⌝ }
+    ensures { λ r. ⌜ r ≡ firstLine x ⌝ }
+{
+    Span::Bytes(x.at + 2, x.mid + 1)
+}
+
+// The second line of a changed record.
+fn last_line(x: Extent) -> Span
+    requires { ⌜ InOrder x ⌝ }
+    ensures { λ r. ⌜ r ≡ lastLine x ⌝ }
+{
+    Span::Bytes(x.mid + 1, x.end + 1)
+}
+
 // The line that a record gives to the old side.
 pub fn old_span(x: Extent) -> Span
     requires { ⌜ InOrder x ⌝ }
@@ -158,9 +170,9 @@ pub fn old_span(x: Extent) -> Span
 {
     let mark = x.mark;
     match mark {
-        Mark::Kept => Span::Bytes(x.at + 2, x.mid + 1),
-        Mark::Changed => Span::Bytes(x.at + 2, x.mid + 1),
-        Mark::Deleted => Span::Bytes(x.at + 2, x.mid + 1),
+        Mark::Kept => first_line(x),
+        Mark::Changed => first_line(x),
+        Mark::Deleted => first_line(x),
         Mark::Inserted => Span::Nothing,
     }
 }
@@ -172,17 +184,17 @@ pub fn new_span(x: Extent) -> Span
 {
     let mark = x.mark;
     match mark {
-        Mark::Kept => Span::Bytes(x.at + 2, x.end + 1),
-        Mark::Changed => Span::Bytes(x.mid + 1, x.end + 1),
+        Mark::Kept => first_line(x),
+        Mark::Changed => last_line(x),
         Mark::Deleted => Span::Nothing,
-        Mark::Inserted => Span::Bytes(x.at + 2, x.end + 1),
+        Mark::Inserted => first_line(x),
     }
 }
 
 // The line that a record gives to a view.
 pub fn span_of(view: View, x: Extent) -> Span
     requires { ⌜ InOrder x ⌝ }
-    ensures { λ r. ⌜ r ≡ spanOf view x ⌝ }
+    ensures { λ r. ⌜ r ≡ viewSpan view x ⌝ }
 {
     match view {
         View::OldSide => old_span(x),

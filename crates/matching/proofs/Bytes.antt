@@ -1,20 +1,15 @@
 -- Laws of single bytes. Assumes nothing.
-use mathlib.Core.Path.{_≡_, refl}
-use mathlib.Core.Bool.{Bool, true, false, not, _||_}
+use mathlib.Core.Path.{_≡_}
+use mathlib.Core.Bool.{Bool, true, false, not}
 use mathlib.Core.List.{List}
 use Prim.Native.Nat.{ℕ, zero, suc, _-_, _≤_, _<_}
 use native.Mathlib.Nat.{not-suc-le-zero}
 use native.Mathlib.Numerals.{sub-one}
 use native.Mathlib.Omega.{arith}
 use lib.ListN.{getD}
-use lib.Dec.{leb}
 use borrow.Author.Tests.{le-leb, lt-leb}
-use Rattle.definitions.specs.Bytes.{isDigit, isCapital, isSmall, isLetter, upper}
+use Rattle.definitions.specs.Bytes.{isDigit, isCapital, isSmall, isLetter}
 use Rattle.definitions.specs.Matching.{isWordByte, byteBefore, isApart}
-
-or-false : (t : Bool) → (t || false) ≡ t
-or-false true = refl
-or-false false = refl
 
 module _ (b : ℕ) where
   pub word-low : b < 48 → isWordByte b ≡ false
@@ -37,9 +32,13 @@ module _ (b : ℕ) where
   unfolding isWordByte isLetter isCapital isSmall isDigit
   word-after h k = rw (le-leb 65 b (omega arith), lt-leb b 90 h, lt-leb 97 b k, le-leb 48 b (omega arith), lt-leb b 57 (omega arith))
 
-  pub word-last : 97 ≤ b → isWordByte b ≡ leb b 122
+  pub word-small : 97 ≤ b → b ≤ 122 → isWordByte b ≡ true
   unfolding isWordByte isLetter isCapital isSmall isDigit
-  word-last h = rw (le-leb 65 b (omega arith), lt-leb b 90 (omega arith), le-leb 97 b h, le-leb 48 b (omega arith), lt-leb b 57 (omega arith)) (or-false (leb b 122))
+  word-small h k = rw (le-leb 65 b (omega arith), lt-leb b 90 (omega arith), le-leb 97 b h, le-leb b 122 k)
+
+  pub word-high : 122 < b → isWordByte b ≡ false
+  unfolding isWordByte isLetter isCapital isSmall isDigit
+  word-high h = rw (le-leb 65 b (omega arith), lt-leb b 90 (omega arith), le-leb 97 b (omega arith), lt-leb b 122 h, le-leb 48 b (omega arith), lt-leb b 57 (omega arith))
 
 pub before-start : (l : List ℕ) (i : ℕ) → i ≡ 0 → byteBefore l i ≡ 0
 unfolding byteBefore

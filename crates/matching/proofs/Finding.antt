@@ -9,7 +9,7 @@ use native.Mathlib.Omega.{arith}
 use lib.ListN.{length}
 use borrow.Author.Tests.{le-leb, eq-eqb, ne-eqb}
 use Rattle.definitions.specs.Matching.{Anchor, anywhere, atStart, atEnd, precisely, Text, text, window, afterSpaces, standsAt, places, placeFrom, occurrence, located, onlyAt, counted, placeIn, qualified, placeOf, isFound, turned, isNegated, matches}
-use Rattle.matching.specs.Quals.{anchorOf, columnsOf, qualifiersOf, Within, foundOf}
+use Rattle.matching.specs.Quals.{anchorOf, columnsOf, qualifiersOf, TextIn, foundOf}
 use Rattle.matching.specs.declared.Quals.{Quals}
 use Rattle.matching.specs.declared.Span.{Span}
 use Rattle.matching.specs.declared.Found.{Found}
@@ -29,7 +29,7 @@ is-precise (suc zero) a b c = absurd (b refl)
 is-precise (suc (suc zero)) a b c = absurd (c refl)
 is-precise (suc (suc (suc n))) a b c = refl
 
-module _ (q : Quals) (s l : List ℕ) (p : ℕ) (t : Span) (known : Within l t (afterSpaces (q .skip) l (window (columnsOf (q .from) (q .to)) p l))) where
+module _ (q : Quals) (s l : List ℕ) (p : ℕ) (t : Span) (known : TextIn l t (afterSpaces (q .skip) l (window (columnsOf (q .from) (q .to)) p l))) where
   placed : placeOf (qualified (qualifiersOf q) s) p l
       ≡ placeIn (anchorOf (q .anchor)) (standsAt (q .word) (q .fold) s l) (length s) (q .count) (q .last) (text (t .start) (t .end))
   unfolding placeOf qualifiersOf

@@ -1,6 +1,6 @@
 -- Places where the first byte differs may be passed: no occurrence is lost. Assumes nothing.
 use mathlib.Core.Path.{_≡_, refl, sym, ap, _∙_, subst}
-use mathlib.Core.Bool.{Bool, true, false}
+use mathlib.Core.Bool.{Bool, true, false, not}
 use mathlib.Core.List.{List, [], _∷_}
 use Prim.Native.Nat.{ℕ, zero, suc, _+_, _-_, _≤_}
 use native.Mathlib.Nat.{suc-sub-suc, sub-zero, add-zero, add-suc, suc-add}
@@ -9,24 +9,15 @@ use native.Mathlib.Omega.{arith}
 use lib.ListN.{drop}
 use lib.Seq.{drop-drop}
 use lib.Dec.{eqb}
-use borrow.Author.Tests.{eqb-true, eqb-false, ne-eqb}
+use borrow.Author.Tests.{eqb-false, ne-eqb}
 use Rattle.definitions.specs.Matching.{folded, standsFirst, standsAt, occurrence}
-use Rattle.matching.specs.Scan.{otherBytes, otherPlaces}
-use Rattle.matching.proofs.Scans.{other-here, other-later}
+use Rattle.scans.specs.Leading.{leading}
+use Rattle.scans.proofs.Runs.{leading-here, leading-later, leading-most}
+use Rattle.matching.specs.Scan.{isOther, otherPlaces}
 use Rattle.matching.proofs.Counts.{not-here, from}
 
 rest : (x : ℕ) (d l : List ℕ) (i : ℕ) → drop i l ≡ x ∷ d → drop (suc i) l ≡ d
 rest x d l i e = rw (← add-one i) (sym (drop-drop 1 i l) ∙ ap (drop 1) e)
-
-at-most : (u : Bool) (b n : ℕ) (l : List ℕ) → otherBytes u b n l ≤ n
-unfolding otherBytes
-at-most u b zero l = omega arith
-at-most u b (suc n) [] = omega arith
-at-most u b (suc n) (x ∷ l) = by (eqb (folded u x) b) refl (at-most u b n l)
-  where
-    by : (t : Bool) → eqb (folded u x) b ≡ t → otherBytes u b n l ≤ n → otherBytes u b (suc n) (x ∷ l) ≤ suc n
-    by true e h = omega (arith, other-here u b (suc n) x l (eqb-true _ _ e))
-    by false e h = omega (arith, other-later u b n x l (eqb-false _ _ e))
 
 abbrev stand : Bool → Bool → List ℕ → List ℕ → ℕ → ℕ → Bool
 stand w u s l start j = standsAt w u s l (start + j)
@@ -50,22 +41,22 @@ module _ (w u : Bool) (b : ℕ) (s l : List ℕ) (start width k : ℕ) where
   one-passed n j m m' c e h =
       rw (c, suc-sub-suc, add-suc, ← suc-add) (not-here (stand w u (b ∷ s) l start) width k (suc n) j e ∙ h)
 
-  passes : (n j : ℕ) → Passes n j (otherBytes u (folded u b) n (drop (start + j) l))
-  unfolding otherBytes
+  passes : (n j : ℕ) → Passes n j (leading (isOther u b) n (drop (start + j) l))
+  unfolding leading isOther
   passes zero j = none-passed zero j 0 refl
   passes (suc n) j = go (drop (start + j) l) refl (passes n (suc j))
     where
-      go : (d : List ℕ) → drop (start + j) l ≡ d → Passes n (suc j) (otherBytes u (folded u b) n (drop (start + suc j) l)) → Passes (suc n) j (otherBytes u (folded u b) (suc n) d)
+      go : (d : List ℕ) → drop (start + j) l ≡ d → Passes n (suc j) (leading (isOther u b) n (drop (start + suc j) l)) → Passes (suc n) j (leading (isOther u b) (suc n) d)
       go [] e h = none-passed (suc n) j 0 refl
       go (x ∷ d) e h = by (eqb (folded u x) (folded u b)) refl
         where
-          by : (t : Bool) → eqb (folded u x) (folded u b) ≡ t → Passes (suc n) j (otherBytes u (folded u b) (suc n) (x ∷ d))
-          by true y = none-passed (suc n) j _ (other-here u (folded u b) (suc n) x d (eqb-true _ _ y))
+          by : (t : Bool) → eqb (folded u x) (folded u b) ≡ t → Passes (suc n) j (leading (isOther u b) (suc n) (x ∷ d))
+          by true y = none-passed (suc n) j _ (leading-here (isOther u b) (suc n) x d (ap not y))
           by false y =
               let ne = eqb-false _ _ y in
               let same : drop (start + suc j) l ≡ d = ap (λ (i : ℕ). drop i l) (add-suc start j) ∙ rest x d l (start + j) e in
-              one-passed n j (otherBytes u (folded u b) n d) _ (other-later u (folded u b) n x d ne) (differs j x d e ne)
-              (subst (λ (d : List ℕ). Passes n (suc j) (otherBytes u (folded u b) n d)) same h)
+              one-passed n j (leading (isOther u b) n d) _ (leading-later (isOther u b) n x d (ap not y)) (differs j x d e ne)
+              (subst (λ (d : List ℕ). Passes n (suc j) (leading (isOther u b) n d)) same h)
 
 moved : (w u : Bool) (b : ℕ) (s l : List ℕ) (start width k n j m n' j' : ℕ) → Passes w u b s l start width (k - 1) n j m → n - m ≡ n' → j + m ≡ j'
     → from (λ j. start + j) (standsAt w u (b ∷ s) l) width k n j ≡ from (λ j. start + j) (standsAt w u (b ∷ s) l) width k n' j'
@@ -85,8 +76,8 @@ module _ (w u : Bool) (s l : List ℕ) (start top i r width k : ℕ) (lo : start
           rw same
       go (b ∷ s) e =
           let back : start + (i - start) ≡ i = omega arith in
-          moved w u b s l start width k (top - i) (i - start) (otherBytes u (folded u b) (top - i) (drop i l)) (top - r) (r - start)
-          (subst (λ (d : ℕ). Passes w u b s l start width (k - 1) (top - i) (i - start) (otherBytes u (folded u b) (top - i) (drop d l))) back
+          moved w u b s l start width k (top - i) (i - start) (leading (isOther u b) (top - i) (drop i l)) (top - r) (r - start)
+          (subst (λ (d : ℕ). Passes w u b s l start width (k - 1) (top - i) (i - start) (leading (isOther u b) (top - i) (drop d l))) back
           (passes w u b s l start width (k - 1) (top - i) (i - start)))
           (omega (arith, e)) (omega (arith, e))
 
@@ -96,4 +87,4 @@ module _ (w u : Bool) (s l : List ℕ) (start top i r width k : ℕ) (lo : start
     where
       go : (s : List ℕ) → r ≡ i + otherPlaces u s (top - i) (drop i l) → (i ≤ r) × (r ≤ top)
       go [] e = omega (arith, e)
-      go (b ∷ s) e = omega (arith, e, at-most u (folded u b) (top - i) (drop i l))
+      go (b ∷ s) e = omega (arith, e, leading-most (isOther u b) (top - i) (drop i l))

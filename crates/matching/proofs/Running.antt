@@ -5,7 +5,7 @@ use mathlib.Core.List.{List}
 use Prim.Native.Nat.{ℕ, _+_, _*_, _%_, _≤_, _<_}
 use native.Mathlib.Omega.{arith}
 use lib.ListN.{length, getD}
-use Rattle.definitions.specs.Matching.{qualifiers, Qualified, qualified, matches}
+use Rattle.definitions.specs.Matching.{Qualified, matches}
 use Rattle.definitions.specs.Search.{Search, one, both, either, holds}
 use Rattle.matching.specs.Words.{Encodes, stringAt, endAt, onward, Readable}
 use Rattle.matching.proofs.Words.{and-on, and-past, or-past, or-on}

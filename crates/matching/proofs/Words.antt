@@ -7,7 +7,7 @@ use native.Mathlib.Omega.{arith}
 use lib.ListN.{take, drop, getD}
 use lib.Dec.{eqb}
 use borrow.Author.Tests.{lt-ltb, le-ltb, eq-eqb, ne-eqb}
-use Rattle.definitions.specs.Matching.{Anchor, anywhere, atStart, atEnd, precisely, qualified, placeOf, matches}
+use Rattle.definitions.specs.Matching.{Anchor, anywhere, atStart, atEnd, precisely, qualified, matches}
 use Rattle.matching.specs.Quals.{anchorOf, qualifiersOf}
 use Rattle.matching.specs.Words.{anchorNumber, bitOf, flagsAt, startAt, lengthAt, columnsAt, qualsAt, stringAt, endAt, onward}
 use Rattle.matching.specs.declared.Quals.{Quals}
@@ -68,9 +68,6 @@ module _ (words : List ℕ) (k : ℕ) where
     read-string =
         let n : start + len - start ≡ len = omega arith in
         rw (n, is, starts, lengths)
-
-    pub read-found : (l : List ℕ) (p : ℕ) → placeOf (qualified (qualifiersOf q) (take (start + len - start) (drop start script))) p l ≡ placeOf (stringAt script words k) p l
-    read-found l p = rw read-string
 
     pub read-matches : (l : List ℕ) (p : ℕ) → matches (qualified (qualifiersOf q) (take (start + len - start) (drop start script))) p l ≡ matches (stringAt script words k) p l
     read-matches l p = rw read-string

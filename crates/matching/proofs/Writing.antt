@@ -8,7 +8,7 @@ use lib.ListN.{length, set}
 use lib.Seq.{sets}
 use lib.Dec.{ltb}
 use borrow.Author.Tests.{lt-ltb}
-use Rattle.definitions.specs.Matching.{Columns, allColumns, columns}
+use Rattle.definitions.specs.Matching.{columns}
 use Rattle.matching.specs.Quals.{anchorOf, columnsOf, qualifiersOf}
 use Rattle.matching.specs.Words.{anchorNumber, bitOf, areGiven, flagsOf, firstWord, secondWord, columnsIn, columnWords, stringWords}
 use Rattle.matching.specs.declared.Quals.{Quals}
@@ -42,11 +42,6 @@ pub second-written : (q : Quals) (len : ℕ) → len + 256 * q .count ≡ second
 unfolding secondWord qualifiersOf
 second-written q len = refl
 
-one-word : (c : Columns) → length (columnWords c) ≤ 1
-unfolding columnWords
-one-word allColumns = omega arith
-one-word (columns n m) = omega arith
-
 two : (q : Quals) → q .from ≡ 0 → columnWords (columnsIn (qualifiersOf q)) ≡ []
 unfolding columnWords columnsIn qualifiersOf columnsOf
 two q e = rw e
@@ -76,10 +71,6 @@ module _ (q : Quals) (start len : ℕ) where
   pub at-least-two : 2 ≤ length (stringWords (qualifiersOf q) start len)
   unfolding stringWords
   at-least-two = omega arith
-
-  pub at-most-three : length (stringWords (qualifiersOf q) start len) ≤ 3
-  unfolding stringWords
-  at-most-three = omega (arith, one-word (columnsIn (qualifiersOf q)))
 
   pub then-three : (q .from ≡ 0 → ⊥) → length (stringWords (qualifiersOf q) start len) ≡ 3
   unfolding stringWords

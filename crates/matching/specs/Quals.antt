@@ -27,7 +27,7 @@ qualifiersOf q =
     qualifiers (anchorOf (q .anchor)) (q .count) (q .last) (q .negated) (q .word) (q .fold) (q .skip) (columnsOf (q .from) (q .to))
 
 -- the part of the line is the text t, and lies within the line
-pub record Within (l : Line) (r : Span) (t : Text) : Type 0 where
+pub record TextIn (l : Line) (r : Span) (t : Text) : Type 0 where
   pub is : text (r .start) (r .end) ≡ t
   pub ordered : r .start ≤ r .end
   pub inside : r .end ≤ length l

@@ -10,22 +10,10 @@ use text::upper;
 fn is_word(b: u8) -> bool
     ensures { λ r. ⌜ r ≡ isWordByte b ⌝ }
 {
-    if b < 48 {
-        return false;
+    match b {
+        48..=57 | 65..=90 | 97..=122 => true,
+        _ => false,
     }
-    if b <= 57 {
-        return true;
-    }
-    if b < 65 {
-        return false;
-    }
-    if b <= 90 {
-        return true;
-    }
-    if b < 97 {
-        return false;
-    }
-    b <= 122
 }
 
 // The byte before i; 0 at the line's start.

@@ -5,40 +5,12 @@ ghost use Prim.Native.Nat.{_+_, _-_, _≤_, max};
 ghost use lib.ListN.{length, drop};
 ghost use Rattle.definitions.specs.Matching.{text, standsAt, counted};
 ghost use Rattle.matching.specs.Quals.{foundOf};
-ghost use Rattle.matching.specs.Scan.{otherBytes, otherPlaces};
+ghost use Rattle.matching.specs.Scan.{otherPlaces};
 use super::Found;
 use super::place::stands;
+use scans::Kind;
+use scans::past;
 use text::upper;
-
-// The first place before `top` that has the byte b; `top` where none has it.
-fn next_byte(line: &[u8], at: usize, top: usize, b: u8) -> usize
-    requires { ⌜ (at ≤ top) × (top ≤ length (now line)) ⌝ }
-    ensures { λ r. ⌜ r ≡ at + otherBytes false b (top - at) (drop at (now (line .entry))) ⌝ }
-{
-    let mut i = at;
-    while i < top {
-        if line[i] == b {
-            return i;
-        }
-        i += 1;
-    }
-    i
-}
-
-// The same for a byte that is b when it is upper-cased.
-fn next_folded(line: &[u8], at: usize, top: usize, b: u8) -> usize
-    requires { ⌜ (at ≤ top) × (top ≤ length (now line)) ⌝ }
-    ensures { λ r. ⌜ r ≡ at + otherBytes true b (top - at) (drop at (now (line .entry))) ⌝ }
-{
-    let mut i = at;
-    while i < top {
-        if upper(line[i]) == b {
-            return i;
-        }
-        i += 1;
-    }
-    i
-}
 
 // The next place up to `top` where the string's first byte stands; `top` where none is before it.
 fn next_place(line: &[u8], s: &[u8], at: usize, top: usize, fold: bool) -> usize
@@ -49,9 +21,9 @@ fn next_place(line: &[u8], s: &[u8], at: usize, top: usize, fold: bool) -> usize
         return at;
     }
     if fold {
-        return next_folded(line, at, top, upper(s[0]));
+        return past(line, at, top, Kind::NotFolded(upper(s[0])));
     }
-    next_byte(line, at, top, s[0])
+    past(line, at, top, Kind::Not(s[0]))
 }
 
 // How many places an occurrence takes up.

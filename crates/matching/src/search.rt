@@ -3,13 +3,11 @@ ghost use mathlib.Core.Path.{_≡_};
 ghost use Prim.Native.Nat.{_+_, _*_, _≤_, _<_};
 ghost use lib.ListN.{length};
 ghost use lib.Seq.{sets};
-ghost use Rattle.definitions.specs.Matching.{placeOf, matches};
+ghost use Rattle.definitions.specs.Matching.{matches};
 ghost use Rattle.definitions.specs.Search.{Search, holds as «holds-of»};
-ghost use Rattle.matching.specs.Quals.{qualifiersOf, foundOf};
+ghost use Rattle.matching.specs.Quals.{qualifiersOf};
 ghost use Rattle.matching.specs.Words.{bitOf, flagsOf, firstWord, secondWord, stringWords, Writable, Encodes, Readable, flagsAt, startAt, lengthAt, columnsAt, qualsAt, stringAt, endAt, onward};
-use super::Found;
 use super::Quals;
-use super::find;
 use super::matches_line;
 
 // The word of the columns; 0 where none are given.
@@ -68,17 +66,6 @@ pub fn length_at(words: &[u32], k: usize) -> usize
     ensures { λ r. ⌜ r ≡ lengthAt (now (words .entry)) k ⌝ }
 {
     (words[k + 1] % 256) as usize
-}
-
-// Where the string at k occurs in the line, with the window from p.
-pub fn find_string(script: &[u8], words: &[u32], k: usize, line: &[u8], p: usize) -> Found
-    requires { ⌜ Readable (now script) (now words) k × (p ≤ length (now line)) ⌝ }
-    ensures { λ r. ⌜ foundOf r ≡ placeOf (stringAt (now (script .entry)) (now (words .entry)) k) p (now (line .entry)) ⌝ }
-{
-    let q = quals_at(words, k);
-    let start = start_at(words, k);
-    let end = start + length_at(words, k);
-    find(line, p, q, &script[start..end])
 }
 
 // Does the string at k match the line, with the window from p.

@@ -1,26 +1,13 @@
 // The text T of the qualifiers: the part of the line that is searched.
 ghost use mathlib.Core.Path.{_≡_};
-ghost use Prim.Native.Nat.{_+_, _-_, _≤_, min, max};
-ghost use lib.ListN.{length, drop};
-ghost use Rattle.definitions.specs.Matching.{window, leadingSpaces, afterSpaces};
-ghost use Rattle.matching.specs.Quals.{columnsOf, Within};
+ghost use Prim.Native.Nat.{_≤_, min, max};
+ghost use lib.ListN.{length};
+ghost use Rattle.definitions.specs.Matching.{window, afterSpaces};
+ghost use Rattle.matching.specs.Quals.{columnsOf, TextIn};
 use super::Quals;
 use super::Span;
-
-// Past the spaces that stand first in the text.
-fn past_spaces(line: &[u8], start: usize, end: usize) -> usize
-    requires { ⌜ (start ≤ end) × (end ≤ length (now line)) ⌝ }
-    ensures { λ r. ⌜ r ≡ start + min (leadingSpaces (drop start (now (line .entry)))) (end - start) ⌝ }
-{
-    let mut i = start;
-    while i < end {
-        if line[i] != 32 {
-            return i;
-        }
-        i += 1;
-    }
-    i
-}
+use scans::Kind;
+use scans::past;
 
 // The lower of two numbers.
 fn least(a: usize, b: usize) -> usize
@@ -39,7 +26,7 @@ fn greatest(a: usize, b: usize) -> usize
 // The window, cut to the columns where some are given.
 fn window_of(line: &[u8], p: usize, from: usize, to: usize) -> Span
     requires { ⌜ p ≤ length (now line) ⌝ }
-    ensures { λ r. ⌜ Within (now (line .entry)) r (window (columnsOf from to) p (now (line .entry))) ⌝ }
+    ensures { λ r. ⌜ TextIn (now (line .entry)) r (window (columnsOf from to) p (now (line .entry))) ⌝ }
 {
     if from == 0 {
         return Span {
@@ -55,7 +42,7 @@ fn window_of(line: &[u8], p: usize, from: usize, to: usize) -> Span
 // The text T of the qualifiers.
 pub fn text_of(line: &[u8], p: usize, q: Quals) -> Span
     requires { ⌜ p ≤ length (now line) ⌝ }
-    ensures { λ r. ⌜ Within (now (line .entry)) r (afterSpaces (q .skip) (now (line .entry)) (window (columnsOf (q .from) (q .to)) p (now (line .entry)))) ⌝ }
+    ensures { λ r. ⌜ TextIn (now (line .entry)) r (afterSpaces (q .skip) (now (line .entry)) (window (columnsOf (q .from) (q .to)) p (now (line .entry)))) ⌝ }
 {
     let t = window_of(line, p, q.from, q.to);
     if !q.skip {
@@ -63,6 +50,6 @@ pub fn text_of(line: &[u8], p: usize, q: Quals) -> Span
     }
     let start = t.start;
     let end = t.end;
-    let first = past_spaces(line, start, end);
+    let first = past(line, start, end, Kind::Only(32));
     Span { start: first, end }
 }

@@ -6,14 +6,13 @@ use mathlib.Core.List.{List, [], _∷_, _++_, reverseAux, append-assoc}
 use lib.ListN.{length, drop, getD, length-append}
 use Rattle.text.specs.Feeds.{placeOf, lineLength}
 use Rattle.definitions.specs.Journal.{Record, kept, changed, deleted, inserted, erase, recordLength, journalLength}
-use Rattle.definitions.specs.Editor.{land}
 use Rattle.editor.specs.Records.{enc, encAll, zeroPlace}
-use Rattle.editor.specs.Shows.{Holds, beforeOf, afterOf}
+use Rattle.editor.specs.Shows.{Holds, strikeOver}
 use Rattle.editor.specs.declared.State.{State}
 use Rattle.editor.proofs.Records.{line-text, some-bytes, enc-length, all-length}
 use Rattle.editor.proofs.Striking.{zero-of}
 use Rattle.editor.proofs.Inserting.{held-journal, length-reverse}
-use Rattle.spans.specs.Spans.{Stands, struck, strikeOver, Landed}
+use Rattle.spans.specs.Spans.{Stands}
 use Rattle.spans.proofs.Struck.{all-append}
 use Rattle.spans.proofs.Standing.{stands-length, stands-mark, stands-more, stands-record, stands-on}
 use Rattle.replacing.specs.Freed.{freedBy, freed}
@@ -117,41 +116,29 @@ counting-fits {m = m} {d = d} h w = omega (arith, w .sum, freed-most m, all-leng
 
 -- ---- the journal's length
 
-pub struck-length : (m : List Record) → journalLength (struck m) + freed m ≡ journalLength m
-unfolding struck erase freed freedBy journalLength recordLength
-struck-length [] = refl
-struck-length (kept l ∷ m) = omega (arith, struck-length m)
-struck-length (changed o n ∷ m) = omega (arith, struck-length m)
-struck-length (deleted l ∷ m) = omega (arith, struck-length m)
-struck-length (inserted l ∷ m) = omega (arith, struck-length m)
+-- the bytes of one record
+erased-length : (r : Record) (c : List Record) → journalLength (erase r ++ c) + freedBy r ≡ journalLength (r ∷ c)
+unfolding erase freedBy journalLength recordLength
+erased-length (kept l) c = omega arith
+erased-length (changed o n) c = omega arith
+erased-length (deleted l) c = omega arith
+erased-length (inserted l) c = omega arith
 
-length-both : (a b : List Record) → journalLength (a ++ b) ≡ journalLength a + journalLength b
+one-more : (r : Record) (c : List Record) → journalLength (r ∷ c) ≡ recordLength r + journalLength c
+unfolding journalLength
+one-more r c = refl
+
+struck-length : (m c : List Record) → journalLength (strikeOver m c) + freed m ≡ journalLength m + journalLength c
+unfolding strikeOver freed
+struck-length [] c = unfold journalLength in omega arith
+struck-length (r ∷ m) c = omega (arith, struck-length m (erase r ++ c), erased-length r c, one-more r c, one-more r m)
+
+pub length-both : (a b : List Record) → journalLength (a ++ b) ≡ journalLength a + journalLength b
 length-both a b = omega (arith, all-length (a ++ b), all-length a, all-length b, all-append a b)
 
 -- THE LAW OF ROOM: lines that are deleted leave so much less of a journal
 pub strike-length : (m c d : List Record) → journalLength (reverseAux (strikeOver m c) d) + freed m ≡ journalLength (reverseAux c (m ++ d))
-strike-length m c d =
-    omega (arith, length-reverse (strikeOver m c) d, length-reverse (struck m) c, length-reverse c (m ++ d), length-both m d, struck-length m)
-
--- landing leaves the records
-pub land-same : (b a : List Record) → reverseAux (beforeOf (land b a)) (afterOf (land b a)) ≡ reverseAux b a
-unfolding land
-land-same b [] = refl
-land-same b (kept l ∷ a) = refl
-land-same b (changed o n ∷ a) = refl
-land-same b (deleted l ∷ a) = land-same (deleted l ∷ b) a
-land-same b (inserted l ∷ a) = refl
-
--- the gap is wider by what is freed
-struck-gap : {j k : List ℕ} {st s : State} {lines f : ℕ} (c m d : List Record) → Holds j st c (m ++ d) → Landed k s lines f (strikeOver m c) d → length k ≡ length j
-    → s .back - s .front ≡ (st .back - st .front) + freed m
-struck-gap c m d h l size =
-    omega (arith, held-journal h, held-journal (l .holds), ap journalLength (land-same (strikeOver m c) d), strike-length m c d)
-
--- what `put_lines` asks
-pub put-room : {j k : List ℕ} {st s : State} {lines f : ℕ} (c m d : List Record) → Holds j st c (m ++ d) → Landed k s lines f (strikeOver m c) d → length k ≡ length j
-    → (room : ℕ) → room ≤ (st .back - st .front) + freed m → s .front + room ≤ s .back
-put-room c m d h l size room fits = omega (arith, struck-gap c m d h l size, l .holds .order)
+strike-length m c d = omega (arith, length-reverse (strikeOver m c) d, length-reverse c (m ++ d), length-both m d, struck-length m c)
 
 -- the gap and what is freed are within the buffer
 pub gap-fits : {j : List ℕ} {st : State} (c m d : List Record) → Holds j st c (m ++ d) → (st .back - st .front) + freed m ≤ length j

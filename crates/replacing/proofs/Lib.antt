@@ -1,4 +1,4 @@
--- `Freed` has the laws of the bytes that deletion frees, `Full` those of 26, `Codes` those of the numbers that stand for lines in the words of a script.
+-- `Freed` has the laws of the bytes that deletion frees, `Past` those of the line that is read without a move, `Whole` those of R.
 pub mod Freed
-pub mod Full
-pub mod Codes
+pub mod Past
+pub mod Whole

@@ -1,14 +1,13 @@
 // What R needs before it deletes: the bytes that this frees, and the line after those that it takes.
 use editor::State;
 ghost use mathlib.Core.Path.{_≡_};
-ghost use mathlib.Core.List.{List, _∷_, _++_, reverseAux};
+ghost use mathlib.Core.List.{List, _∷_, reverseAux};
 ghost use Prim.Native.Nat.{_+_};
 ghost use lib.ListN.{length};
 ghost use Rattle.definitions.specs.Journal.{Record};
-ghost use Rattle.editor.specs.Records.{enc, encAll};
-ghost use Rattle.editor.specs.Shows.{Holds};
-ghost use Rattle.spans.specs.Spans.{Stands, Landed};
-ghost use Rattle.replacing.specs.Freed.{freedBy, freed};
+ghost use Rattle.editor.specs.Records.{enc};
+ghost use Rattle.spans.specs.Spans.{Spanned, Stands, Until, PassesTo};
+ghost use Rattle.replacing.specs.Freed.{freedBy, Frees, ReadsPast};
 
 // How many bytes fewer the record from `at` up to `next` takes once its line is deleted.
 fn freed_at(j: &[u8], at: usize, next: usize) -> usize
@@ -27,8 +26,8 @@ fn freed_at(j: &[u8], at: usize, next: usize) -> usize
 
 // How many bytes it frees to delete the lines of the records up to the place `end`.
 pub fn freed_to(j: &[u8], st: State, end: usize) -> usize
-    requires { ⌜ ((c : List Record) × (m : List Record) × (d : List Record) × Holds (now j) st c (m ++ d) × (end + length (encAll d) ≡ length (now j))) ⌝ }
-    ensures { λ r. ⌜ ((c : List Record) (m : List Record) (d : List Record) → Holds (now (j .entry)) st c (m ++ d) → end + length (encAll d) ≡ length (now (j .entry)) → r ≡ freed m) ⌝ }
+    requires { ⌜ Until (now j) st end ⌝ }
+    ensures { λ r. ⌜ Frees end (now (j .entry)) st r ⌝ }
 {
     let mut at = st.back;
     let mut n = 0;
@@ -40,15 +39,26 @@ pub fn freed_to(j: &[u8], st: State, end: usize) -> usize
     n
 }
 
-// The records up to the place `end` are passed as they are; the next live line is current and read.
-pub fn pass_span(j: &mut [u8], st: State, end: usize) -> State
-    requires { ⌜ ((c : List Record) × (m : List Record) × (d : List Record) × Holds (now j) st c (m ++ d) × (end + length (encAll d) ≡ length (now j))) ⌝ }
-    ensures { λ r. ⌜ ((c : List Record) (m : List Record) (d : List Record) → Holds (now (j .entry)) st c (m ++ d) → end + length (encAll d) ≡ length (now (j .entry)) → Landed (now (j .exit)) r (st .lines) (st .furthest) (reverseAux m c) d) × (r .lines ≡ st .lines) ⌝ }
+// The records up to the place `end` are passed as they are.
+fn pass_to(j: &mut [u8], st: State, end: usize) -> State
+    requires { ⌜ Until (now j) st end ⌝ }
+    ensures { λ r. ⌜ PassesTo reverseAux end (now (j .entry)) st (now (j .exit)) r ⌝ }
 {
     let mut s = st;
     while s.back < end {
         s = editor::walk::pass_record(j, s);
     }
+    s
+}
+
+// The next live line after the records up to the place `end` is read. The gap goes there, and back to the current line.
+pub fn read_past(j: &mut [u8], st: State, end: usize) -> State
+    requires { ⌜ Spanned (now j) st end ⌝ }
+    ensures { λ r. ⌜ ReadsPast end (now (j .entry)) st (now (j .exit)) r ⌝ }
+{
+    let s = pass_to(j, st, end);
     let l = editor::walk::land_live(j, s);
-    editor::walk::read_current(j, l)
+    let r = editor::walk::read_current(j, l);
+    editor::walk::gap_to(j, r, st);
+    editor::walk::read_to(st, r.furthest)
 }

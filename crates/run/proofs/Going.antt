@@ -7,7 +7,9 @@ use native.Mathlib.Omega.{arith}
 use Rattle.definitions.specs.Table.{isScript}
 use Rattle.definitions.specs.Tape.{Tape}
 use Rattle.definitions.specs.Search.{Search}
+use Rattle.definitions.specs.Given.{Given, Carried}
 use Rattle.definitions.specs.Editor.{Ed}
+use Rattle.definitions.specs.StepProgram.{RunState, state, textOf}
 use Rattle.definitions.specs.Edit.{Op, step}
 use Rattle.definitions.specs.Control.{Seek, Item, Frame, Ctl, running, seeking, Pull, finished, want, lookOp, pull}
 use Rattle.definitions.specs.Run.{End, end, endPlace, spent, stepping, run}
@@ -15,12 +17,11 @@ use Rattle.control.specs.declared.Control.{Control}
 use Rattle.control.specs.declared.Wanted.{Wanted}
 use Rattle.control.specs.declared.Next.{Next}
 use Rattle.control.specs.declared.Next.the-variants.{Finished, Want}
-use Rattle.control.specs.Shown.{Shows as Stands, ShowsWant, ShowsNext}
+use Rattle.control.specs.Shown.{ShowsCtl as Stands, ShowsWant, ShowsNext}
 use Rattle.editor.specs.declared.State.{State}
-use Rattle.editor.proofs.Answers.{shows-leaves}
+use Rattle.editor.specs.Current.{Ready}
 use Rattle.seeks.specs.declared.Looked.the-variants.{Yes, No, Stop}
 use Rattle.seeks.specs.declared.Sought.{Sought}
-use Rattle.commands.specs.Ready.{Ready}
 use Rattle.steps.specs.Steps.{GoodCtl, Wants, GoesOn, Stops, Leads, Comes}
 use Rattle.steps.proofs.Asked.{Searching, wanted-asked}
 use Rattle.steps.proofs.Views.{asks-look, asks-delete}
@@ -28,14 +29,15 @@ use Rattle.run.specs.Items.{Runnable, Ends, EndsAs}
 use Rattle.run.specs.declared.items.Ended.{Ended}
 
 -- after `made` steps the run stands where c shows it, in a state that the buffer shows; from there it comes to x
-pub record Going (s table : List ℕ) (size budget last : ℕ) (w j : List ℕ) (c : Control) (st : State) (made : ℕ) (x : End × Tape) : Type 0 where
+pub record Going (s table : List ℕ) (g : Given) (budget last : ℕ) (w j : List ℕ) (c : Control) (st : State) (made : ℕ) (x : End × Tape) : Type 0 where
   pub from : Ctl
   pub then : Ed
+  pub carries : Carried
   pub rest : Tape
   pub stands : Stands s w last c from
   pub good : GoodCtl from
   pub ready : Ready table j st then rest
-  pub same : run (step size) (budget - made) made from then rest ≡ x
+  pub same : run (step g) (budget - made) made from (state then carries) rest ≡ x
 
 -- the step x is wanted there; no search has passed more than n lines then
 pub record Wanting (s w : List ℕ) (last n : ℕ) (x : Wanted) (from : Ctl) : Type 0 where
@@ -47,27 +49,31 @@ pub record Wanting (s w : List ℕ) (last n : ℕ) (x : Wanted) (from : Ctl) : T
 
 -- ---- the script's end, and the budget
 
-run-out : (size n steps : ℕ) (c : Ctl) (e : Ed) (t : Tape) → pull c ≡ finished → run (step size) n steps c e t ≡ (end 0 steps 0 e, t)
+run-out : (g : Given) (n steps : ℕ) (c : Ctl) (z : RunState) (t : Tape) → pull c ≡ finished → run (step g) n steps c z t ≡ (end 0 steps 0 z, t)
 unfolding run spent stepping
-run-out size zero steps c e t q = rw q
-run-out size (suc n) steps c e t q = rw q
+run-out g zero steps c z t q = rw q
+run-out g (suc n) steps c z t q = rw q
 
-run-late : (size steps : ℕ) (c : Ctl) (place : ℕ) (op : Op) (c₁ c₀ : Ctl) (e : Ed) (t : Tape) → pull c ≡ want place op c₁ c₀ → run (step size) 0 steps c e t ≡ (end 29 steps place e, t)
+run-late : (g : Given) (steps : ℕ) (c : Ctl) (place : ℕ) (op : Op) (c₁ c₀ : Ctl) (z : RunState) (t : Tape) → pull c ≡ want place op c₁ c₀ → run (step g) 0 steps c z t ≡ (end 29 steps place z, t)
 unfolding run spent
-run-late size steps c place op c₁ c₀ e t q = rw q
+run-late g steps c place op c₁ c₀ z t q = rw q
 
 is-finished : (s w : List ℕ) (last n : ℕ) (x : Pull) → ShowsNext s w last n Finished x → x ≡ finished
 unfolding ShowsNext
 is-finished s w last n finished h = refl
 is-finished s w last n (want place op c₁ c₀) h = absurd h
 
-module _ {s table : List ℕ} {size budget last : ℕ} {w j : List ℕ} {c : Control} {st : State} {made : ℕ} {x : End × Tape} (g : Going s table size budget last w j c st made x) where
+module _ {s table : List ℕ} {lends : Given} {budget last : ℕ} {w j : List ℕ} {c : Control} {st : State} {made : ℕ} {x : End × Tape} (g : Going s table lends budget last w j c st made x) where
+  -- the state that it stands in
+  abbrev at-state : RunState
+  at-state = state (g .then) (g .carries)
+
   -- nothing is left to do
   pub going-done : (k : List ℕ) (n : ℕ) (r : Next) → r ≡ Finished → ShowsNext s k last n r (pull (g .from)) → EndsAs j (record { number = 0; steps = made; place = 0; st = st }) x
-  unfolding Ends
+  unfolding Ends textOf
   going-done k n r q h =
-      rw (← g .same, run-out size (budget - made) made (g .from) (g .then) (g .rest) (is-finished s k last n (pull (g .from)) (rw q at h)))
-      (refl, refl, refl, shows-leaves (g .then) (g .rest) (g .ready .shows))
+      rw (← g .same, run-out lends (budget - made) made (g .from) at-state (g .rest) (is-finished s k last n (pull (g .from)) (rw q at h)))
+      (refl, refl, refl, g .ready .shows)
 
   -- a step is wanted
   pub going-wants : isScript s ≡ true → (k : List ℕ) (n : ℕ) (r : Next) (y : Wanted) → r ≡ Want y → ShowsNext s k last n r (pull (g .from)) → Wanting s k last n y (g .from)
@@ -86,23 +92,24 @@ module _ {s table : List ℕ} {size budget last : ℕ} {w j : List ℕ} {c : Con
 
   -- and the budget is spent
   pub going-late : (k : List ℕ) (n : ℕ) (y : Wanted) → Wanting s k last n y (g .from) → budget ≤ made → EndsAs j (record { number = 29; steps = made; place = y .place; st = st }) x
-  unfolding Ends
+  unfolding Ends textOf
   going-late k n y h spent =
       let none : budget - made ≡ 0 = omega arith in
-      rw (← g .same, none, run-late size made (g .from) (y .place) (h .op) (h .c₁) (h .c₀) (g .then) (g .rest) (h .wants .next))
-      (refl, refl, refl, shows-leaves (g .then) (g .rest) (g .ready .shows))
+      rw (← g .same, none, run-late lends made (g .from) (y .place) (h .op) (h .c₁) (h .c₀) at-state (g .rest) (h .wants .next))
+      (refl, refl, refl, g .ready .shows)
 
   -- ---- after a step, or the steps of a search; `left` is what was left of the budget
 
   module _ (left : ℕ) (rest-of : left ≡ budget - made) (k m : List ℕ) (n : ℕ) (y : Wanted) (h : Wanting s k last n y (g .from)) (r : Sought)
-      (comes : Comes size left made (g .from) (g .then) (g .rest) table m (y .place) (h .c₁) (h .c₀) r) where
-    further : (to : Ctl) (d : Control) (u : State) → Stands s k last d to → GoodCtl to → GoesOn size left made (g .from) (g .then) (g .rest) table m (r .made) to u
-        → Going s table size budget last k m d u (made + r .made) x
+      (comes : Comes lends left made (g .from) at-state (g .rest) table m (y .place) (h .c₁) (h .c₀) r) where
+    further : (to : Ctl) (d : Control) (u : State) → Stands s k last d to → GoodCtl to → GoesOn lends left made (g .from) at-state (g .rest) table m (r .made) to u
+        → Going s table lends budget last k m d u (made + r .made) x
     further to d u stands good on =
         let less : budget - (made + r .made) ≡ left - r .made = omega arith in
         record {
           from = to;
           then = on .then;
+          carries = on .carries;
           rest = on .rest;
           stands = stands;
           good = good;
@@ -113,20 +120,20 @@ module _ {s table : List ℕ} {size budget last : ℕ} {w j : List ℕ} {c : Con
     good-both : GoodCtl (h .c₁) × GoodCtl (h .c₀)
     good-both = let z = wanted-asked (g .from) (y .place) (h .op) (h .c₁) (h .c₀) (h .wants .good) (h .wants .next) in (z .1, z .2)
 
-    pub going-yes : (d : Control) → d ≡ cond true (y .yes) (y .no) → (u : State) → r .looked ≡ Yes u → Going s table size budget last k m d u (made + r .made) x
+    pub going-yes : (d : Control) → d ≡ cond true (y .yes) (y .no) → (u : State) → r .looked ≡ Yes u → Going s table lends budget last k m d u (made + r .made) x
     unfolding Leads
     going-yes d is u q = further (h .c₁) d u (rw is (h .shown .yes-shows)) (good-both .0) (rw q at (comes .leads))
 
-    pub going-no : (d : Control) → d ≡ cond false (y .yes) (y .no) → (u : State) → r .looked ≡ No u → Going s table size budget last k m d u (made + r .made) x
+    pub going-no : (d : Control) → d ≡ cond false (y .yes) (y .no) → (u : State) → r .looked ≡ No u → Going s table lends budget last k m d u (made + r .made) x
     unfolding Leads
     going-no d is u q = further (h .c₀) d u (rw is (h .shown .no-shows)) (good-both .1) (rw q at (comes .leads))
 
     pub going-stops : (number : ℕ) (u : State) → r .looked ≡ Stop number u → (z : Ended) → z ≡ record { number = number; steps = made + r .made; place = endPlace number (y .place); st = u } → EndsAs m z x
-    unfolding Leads Ends
+    unfolding Leads Ends textOf
     going-stops number u q z is = by (rw q at (comes .leads))
       where
-        by : Stops size left made (g .from) (g .then) (g .rest) m (r .made) number (y .place) u → EndsAs m z x
-        by w = rw (is, ← g .same, ← rest-of, w .same) (refl, refl, refl, w .leaves)
+        by : Stops lends left made (g .from) at-state (g .rest) m (r .made) number (y .place) u → EndsAs m z x
+        by w = rw (is, ← g .same, ← rest-of, w .same) (refl, refl, refl, w .shows)
 
 -- ---- the lines that a search has passed
 
@@ -157,12 +164,12 @@ module _ (d : Control) (x : Wanted) (n m : ℕ) where
   no-lines q h few = rw q (omega arith)
 
 -- the start
-pub going-start : {s table : List ℕ} {budget last : ℕ} {w j : List ℕ} {st : State} (size : ℕ) (c : Control) (items : List Item) (e : Ed) (t : Tape)
+pub going-start : {s table : List ℕ} {budget last : ℕ} {w j : List ℕ} {st : State} (g : Given) (c : Control) (items : List Item) (e : Ed) (z : Carried) (t : Tape)
     → Stands s w last c (running items []) → Runnable s w last items → Ready table j st e t
-    → Going s table size budget last w j c st 0 (run (step size) budget 0 (running items []) e t)
-going-start {s} {table} {budget} size c items e t h d r =
+    → Going s table g budget last w j c st 0 (run (step g) budget 0 (running items []) (state e z) t)
+going-start {s} {table} {budget} g c items e z t h d r =
     let all : budget - 0 ≡ budget = omega arith in
-    record { from = running items []; then = e; rest = t; stands = h; good = (d .good, tt); ready = r; same = rw all }
+    record { from = running items []; then = e; carries = z; rest = t; stands = h; good = (d .good, tt); ready = r; same = rw all }
 
 -- ---- the place of the end
 

@@ -10,28 +10,28 @@ use borrow.Author.Tests.{le-leb, lt-leb, leb-true}
 use Rattle.definitions.specs.Bytes.{Line, linesOf, lineBytes, linesBytes}
 use Rattle.definitions.specs.Table.{isTable, isScript}
 use Rattle.definitions.specs.Journal.{Record, kept, recordLength, journalLength, journalBytes}
-use Rattle.definitions.specs.Tape.{Tape, unread, bind, Need, readNeed}
-use Rattle.definitions.specs.Editor.{opening, furthest}
+use Rattle.definitions.specs.Tape.{Tape, unread, bind}
+use Rattle.definitions.specs.Given.{Given, carried}
+use Rattle.definitions.specs.Editor.{Ed, ed, beforeOf, afterOf, journal}
+use Rattle.definitions.specs.Reading.{opening}
+use Rattle.definitions.specs.StepProgram.{state, textOf}
 use Rattle.definitions.specs.Edit.{step}
 use Rattle.definitions.specs.Control.{Item, running}
 use Rattle.definitions.specs.Script.{Script, items, refusedAt, readScript}
-use Rattle.definitions.specs.Run.{End, end, run, runItems, Answer, refusal, answerOf, ranItems, openingLength, workLength, ranTable, ranScript, runAnswer}
-use Rattle.definitions.specs.Run.{answerNumber, answerSteps, answerFurthest, answerPlace, answerLength, bufferAfter, outcome, outcomeFrom, outcomeOf}
+use Rattle.definitions.specs.Run.{End, end, run, runItems, Answer, refusal, answerOf, ranItems, openingLength, workLength, ranTable, ranScript, runAnswer, answerNumber, answerSteps, answerFurthest, answerPlace, answerLength, bufferAfter, outcome, outcomeFrom, outcomeOf}
 use Rattle.theorems.specs.GoodScripts.{good-commands}
 use Rattle.theorems.specs.JournalBytes.{lines-back}
-use Rattle.script.specs.Words.{ItemsAt}
-use Rattle.script.specs.Reading.{Reads}
+use Rattle.script.specs.Reading.{ScriptRead}
 use Rattle.script.specs.declared.Decoded.{Decoded}
 use Rattle.script.specs.declared.Decoded.the-variants.{Items, Refused as Refused-at}
-use Rattle.script.specs.Depth.{deepest}
-use Rattle.control.proofs.Scripts.{items-proper}
+use Rattle.script.proofs.WholeScript.{read-items as items-read, read-refused as refusal-read}
+use Rattle.control.proofs.Scripts.{startable}
 use Rattle.editor.specs.declared.State.{State}
-use Rattle.editor.specs.Shows.{Holds, Opens}
-use Rattle.editor.specs.Current.{PointIn}
+use Rattle.editor.specs.Shows.{Holds, Shows, Opens, ClosesJournal, lent, restOf}
+use Rattle.editor.proofs.Reading.{journal-is}
+use Rattle.editor.specs.Current.{PointIn, Ready}
 use Rattle.editor.proofs.Opening.{table-last}
 use Rattle.editor.proofs.Tables.{opens-table}
-use Rattle.changes.proofs.Points.{start-in}
-use Rattle.commands.specs.Ready.{Ready}
 use Rattle.run.specs.Answers.{numberOf, stepsOf, furthestOf, lengthOf, placeOf, outcomeWith, caseOf, Gives, Ran}
 use Rattle.run.specs.declared.Answer.{Answer as Answer-of}
 use Rattle.run.specs.Items.{Runnable, Ends, EndsAs}
@@ -62,8 +62,9 @@ module _ (bytes lines room : ℕ) where
   room-enough h enough = sym (le-leb (bytes + 2 * lines) room (omega arith))
 
 opening-point : (ls : List Line) → PointIn ((opening (unread ls)) .0)
-unfolding opening bind
-opening-point ls = start-in [] (map kept ((readNeed (Need.next 1) (unread ls)) .0))
+unfolding opening
+opening-point [] = tt
+opening-point (l ∷ ls) = omega arith
 
 -- the run begins in a state that the buffer shows
 pub opened-ready : {j : List ℕ} {st : State} (table : List ℕ) → isTable table ≡ true → Opens j st (opening (unread (linesOf table)))
@@ -72,41 +73,48 @@ opened-ready table good h = record { shows = h; point = opening-point (linesOf t
 
 -- ---- the end
 
--- the buffer has a journal
+-- the buffer holds its records
 pub ends-holds : (j : List ℕ) (r : Ended) (x : End) (t : Tape) → Ends j r x t → (b : List Record) × (a : List Record) × Holds j (r .st) b a
 unfolding Ends
-ends-holds j r (end number steps place e) t (a, b, c, w) = (w .before, w .rest, w .holds)
+ends-holds j r (end number steps place s) t (a, b, c, w) = (beforeOf (textOf s), restOf (textOf s) t, w .holds)
 
-module _ (buffer j k : List ℕ) (r : Ended) (n : ℕ) (long : length j ≡ length buffer)
-    (closes : (b : List Record) (a : List Record) → Holds j (r .st) b a
-    → (n ≡ journalLength (reverseAux b a)) × (k ≡ journalBytes (reverseAux b a) ++ replicate (length j - journalLength (reverseAux b a)) 0)) where
+-- they are the journal
+shown-journal : (e : Ed) (t : Tape) → reverseAux (beforeOf e) (restOf e t) ≡ journal e t
+unfolding beforeOf afterOf
+shown-journal (ed b a p) t = journal-is b a p t
+
+module _ (buffer j k : List ℕ) (r : Ended) (n : ℕ) (long : length j ≡ length buffer) (closes : ClosesJournal j (r .st) k n) where
+  -- the journal's length, and the buffer's bytes
+  closed : (e : Ed) (t : Tape) → Shows j (r .st) e t → (n ≡ journalLength (journal e t)) × (k ≡ journalBytes (journal e t) ++ replicate (length buffer - journalLength (journal e t)) 0)
+  closed e t w = rw (shown-journal e t, long) at (closes (beforeOf e) (restOf e t) (w .holds))
+
   -- the values that the answer has, and the buffer's bytes
   ended-outcome : (x : End) (t : Tape) → Ends j r x t → outcome (r .number) (r .steps) (r .st .furthest) n (r .place) k ≡ outcomeFrom buffer (answerOf x t)
   unfolding Ends answerOf outcomeFrom answerNumber answerSteps answerFurthest answerPlace answerLength bufferAfter
-  ended-outcome (end number steps place e) t (a, b, c, w) =
-      let z = closes (w .before) (w .rest) (w .holds) in
-      rw (a, b, c, w .furthest, z .0, z .1, w .same, long)
+  ended-outcome (end number steps place s) t (a, b, c, w) =
+      let z = closed (textOf s) t w in
+      rw (a, b, c, w .furthest, z .0, z .1)
 
   ended-done : (x : End) (t : Tape) → Ends j r x t → r .number ≡ 0 → Done (r .steps) (r .st .furthest) n ≡ caseOf (answerOf x t)
   unfolding Ends answerOf caseOf
-  ended-done (end number steps place e) t (a, b, c, w) none =
-      let z = closes (w .before) (w .rest) (w .holds) in
-      rw (sym a ∙ none, b, w .furthest, z .0, w .same)
+  ended-done (end number steps place s) t (a, b, c, w) none =
+      let z = closed (textOf s) t w in
+      rw (sym a ∙ none, b, w .furthest, z .0)
 
   ended-stopped : (x : End) (t : Tape) → Ends j r x t → (r .number ≡ 0 → ⊥) → Stopped (r .number) (r .steps) (r .st .furthest) n (r .place) ≡ caseOf (answerOf x t)
   unfolding Ends answerOf caseOf
-  ended-stopped (end zero steps place e) t (a, b, c, w) some = absurd (some a)
-  ended-stopped (end (suc number) steps place e) t (a, b, c, w) some =
-      let z = closes (w .before) (w .rest) (w .holds) in
-      rw (a, b, c, w .furthest, z .0, w .same)
+  ended-stopped (end zero steps place s) t (a, b, c, w) some = absurd (some a)
+  ended-stopped (end (suc number) steps place s) t (a, b, c, w) some =
+      let z = closed (textOf s) t w in
+      rw (a, b, c, w .furthest, z .0)
 
-  module _ (table : List ℕ) (budget size : ℕ) (same : size ≡ length buffer) (is : List Item)
-      (ends : EndsAs j r (run (step size) budget 0 (running is []) ((opening (unread (linesOf table))) .0) ((opening (unread (linesOf table))) .1))) where
-    pub gives-done : r .number ≡ 0 → (r .number ≡ 0 → r .place ≡ 0) → Gives buffer (ranItems (step (length buffer)) budget is (linesOf table)) (Done (r .steps) (r .st .furthest) n) k
+  module _ (table : List ℕ) (budget : ℕ) (g : Given) (same : g ≡ lent buffer) (is : List Item)
+      (ends : EndsAs j r (run (step g) budget 0 (running is []) (state ((opening (unread (linesOf table))) .0) carried) ((opening (unread (linesOf table))) .1))) where
+    pub gives-done : r .number ≡ 0 → (r .number ≡ 0 → r .place ≡ 0) → Gives buffer (ranItems (step (lent buffer)) budget is (linesOf table)) (Done (r .steps) (r .st .furthest) n) k
     unfolding ranItems runItems bind outcomeWith numberOf stepsOf furthestOf lengthOf placeOf
     gives-done none at = record { values = rw (none, at none) at (ended-outcome _ _ (rw same at ends)); case = ended-done _ _ (rw same at ends) none }
 
-    pub gives-stopped : (r .number ≡ 0 → ⊥) → Gives buffer (ranItems (step (length buffer)) budget is (linesOf table)) (Stopped (r .number) (r .steps) (r .st .furthest) n (r .place)) k
+    pub gives-stopped : (r .number ≡ 0 → ⊥) → Gives buffer (ranItems (step (lent buffer)) budget is (linesOf table)) (Stopped (r .number) (r .steps) (r .st .furthest) n (r .place)) k
     unfolding ranItems runItems bind outcomeWith numberOf stepsOf furthestOf lengthOf placeOf
     gives-stopped some = record { values = ended-outcome _ _ (rw same at ends); case = ended-stopped _ _ (rw same at ends) some }
 
@@ -129,8 +137,8 @@ module _ (buffer table : List ℕ) (good : isTable table ≡ true) (n : ℕ) (li
     unfolding ranScript ranTable
     no-room q = refused buffer 9 0 _ (rw (good, room-as, q))
 
-    pub gives-script : v ≡ true → (r : Answer-of) (k : List ℕ) → Gives buffer (ranItems (step (length buffer)) budget is (linesOf table)) r k → Gives buffer (ranScript table budget (length buffer) (items is)) r k
-    unfolding ranScript ranTable
+    pub gives-script : v ≡ true → (r : Answer-of) (k : List ℕ) → Gives buffer (ranItems (step (lent buffer)) budget is (linesOf table)) r k → Gives buffer (ranScript table budget (length buffer) (items is)) r k
+    unfolding ranScript ranTable lent
     gives-script q r k g = rw (good, room-as, q) g
 
 pub not-table : (buffer table : List ℕ) (budget : ℕ) (is : List Item) → isTable table ≡ false → Gives buffer (ranScript table budget (length buffer) (items is)) (Refused 7 0) buffer
@@ -173,14 +181,10 @@ not-false true h = refl
 not-false false h = sym h
 
 -- the script's items are as the run asks
-pub runnable : (s w : List ℕ) (n : ℕ) (d : Decoded) → isScript s ≡ true → Reads s w (readScript s) d → d ≡ Items n → (is : List Item) × (readScript s ≡ items is) × Runnable s w n is
-unfolding Reads
-runnable s w n d form h q = by (rw q at h)
-  where
-    by : (is : List Item) × (readScript s ≡ items is) × ItemsAt s w 0 n is × (n + deepest 0 is ≤ length w) × (n ≤ 65536) → (is : List Item) × (readScript s ≡ items is) × Runnable s w n is
-    by (is, e, lie, room, short) =
-        (is, e, record { form = form; lie = lie; proper = items-proper s is form e; short = short; room = room; good = good-commands s form is e })
+pub runnable : (s w : List ℕ) (n : ℕ) (d : Decoded) → isScript s ≡ true → ScriptRead s w (readScript s) d → d ≡ Items n → (is : List Item) × (readScript s ≡ items is) × Runnable s w n is
+runnable s w n d form h q =
+    let r = items-read s w (readScript s) d h n q in
+    (r .0, r .1, record { form = form; start = startable s w n (r .0) form (r .1) (r .2); good = good-commands s form (r .0) (r .1) })
 
-pub unreadable : (s w : List ℕ) (n at : ℕ) (d : Decoded) → Reads s w (readScript s) d → d ≡ Refused-at n at → readScript s ≡ refusedAt n at
-unfolding Reads
-unreadable s w n at d h q = rw q at h
+pub unreadable : (s w : List ℕ) (n at : ℕ) (d : Decoded) → ScriptRead s w (readScript s) d → d ≡ Refused-at n at → readScript s ≡ refusedAt n at
+unreadable s w n at d h q = refusal-read s w (readScript s) d h n at q

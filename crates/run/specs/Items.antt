@@ -1,34 +1,47 @@
 -- The decoded items of a script, and how their run ends. Assumes nothing.
 use mathlib.Core.Path.{_≡_}
 use mathlib.Core.Bool.{true}
-use mathlib.Core.List.{List}
-use Prim.Native.Nat.{ℕ, _+_, _≤_}
-use lib.ListN.{length}
+use mathlib.Core.List.{List, []}
+use Prim.Native.Nat.{ℕ}
 use Rattle.definitions.specs.Table.{isScript}
 use Rattle.definitions.specs.Tape.{Tape}
-use Rattle.definitions.specs.Control.{Item}
-use Rattle.definitions.specs.Run.{End, end}
+use Rattle.definitions.specs.Given.{Carried}
+use Rattle.definitions.specs.Editor.{Ed}
+use Rattle.definitions.specs.StepProgram.{state, textOf}
+use Rattle.definitions.specs.Edit.{step}
+use Rattle.definitions.specs.Control.{Item, running}
+use Rattle.definitions.specs.Run.{End, end, run, Answer as Answered}
 use Rattle.theorems.specs.GoodItems.{goodOp}
 use Rattle.theorems.specs.Runs.{ItemsOf}
-use Rattle.script.specs.Words.{ItemsAt}
-use Rattle.script.specs.Depth.{deepest}
-use Rattle.control.specs.Items.{Proper}
-use Rattle.editor.specs.Shows.{Leaves}
+use Rattle.control.specs.Items.{Startable}
+use Rattle.editor.specs.Shows.{Shows, lent}
+use Rattle.editor.specs.Current.{Ready}
+use Rattle.editor.specs.declared.State.{State}
 use Rattle.run.specs.declared.items.Ended.{Ended}
+use Rattle.run.specs.declared.Answer.{Answer}
+use Rattle.run.specs.Answers.{Gives}
 
--- the script's items lie in the words below `end`, and the work area has room to run them
+-- the script's items lie in the words below `end`, ready to run
 pub record Runnable (s w : List ℕ) (end : ℕ) (items : List Item) : Type 0 where
   pub form : isScript s ≡ true
-  pub lie : ItemsAt s w 0 end items
-  pub proper : Proper items
-  pub short : end ≤ 65536
-  pub room : end + deepest 0 items ≤ length w
+  pub start : Startable s w end items
   pub good : ItemsOf (λ op. goodOp op ≡ true) items
 
--- the answer r, and what the run comes to: number, steps, place, and a state whose journal the buffer has
+-- the answer r, and what the run comes to: number, steps, place, and a state that the buffer shows
 unfoldable pub Ends : List ℕ → Ended → End → Tape → Type 0
-Ends j r (end number steps place e) t = (r .number ≡ number) × (r .steps ≡ steps) × (r .place ≡ place) × Leaves j (r .st) e t
+Ends j r (end number steps place s) t = (r .number ≡ number) × (r .steps ≡ steps) × (r .place ≡ place) × Shows j (r .st) (textOf s) t
 
 -- the same of an end together with what is then unread
 abbrev pub EndsAs : List ℕ → Ended → End × Tape → Type 0
 EndsAs j r x = Ends j r (x .0) (x .1)
+
+-- what a function answers that ran the items below `last`, at most `budget` steps, the buffer being k then; being done has place 0
+abbrev pub RunsItems : List ℕ → List ℕ → ℕ → ℕ → List ℕ → List ℕ → State → List ℕ → Ended → Type 0
+RunsItems script w last budget table j st k r =
+    ((items : List Item) (e : Ed) (c : Carried) (t : Tape) → Runnable script w last items → Ready table j st e t
+    → EndsAs k r (run (step (lent j)) budget 0 (running items []) (state e c) t))
+    × (r .number ≡ 0 → r .place ≡ 0)
+
+-- what a function answers that ran the items below `last`, and the bytes of the journal buffer afterwards; `answers` says what a run of items comes to
+abbrev pub GivesItems : List ℕ → List ℕ → ℕ → List ℕ → (List Item → Answered) → Answer → List ℕ → Type 0
+GivesItems script w last buffer answers r bytes = (is : List Item) → Runnable script w last is → Gives buffer (answers is) r bytes

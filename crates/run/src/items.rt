@@ -1,15 +1,13 @@
 // The items of a script, step by step.
 ghost use mathlib.Core.Path.{_≡_};
-ghost use mathlib.Core.List.{List, []};
+ghost use mathlib.Core.List.{List};
 ghost use Prim.Native.Nat.{_≤_};
-ghost use lib.ListN.{length};
 ghost use Rattle.definitions.specs.Tape.{Tape};
 ghost use Rattle.definitions.specs.Editor.{Ed};
-ghost use Rattle.definitions.specs.Edit.{step};
-ghost use Rattle.definitions.specs.Control.{Item, running};
-ghost use Rattle.definitions.specs.Run.{run, endPlace};
-ghost use Rattle.commands.specs.Ready.{Ready};
-ghost use Rattle.run.specs.Items.{Runnable, EndsAs};
+ghost use Rattle.definitions.specs.Control.{Item};
+ghost use Rattle.definitions.specs.Run.{endPlace};
+ghost use Rattle.editor.specs.Current.{Ready};
+ghost use Rattle.run.specs.Items.{Runnable, RunsItems};
 use control::Next;
 use editor::State;
 use seeks::Looked;
@@ -54,7 +52,7 @@ pub fn run_items(
     st: State,
 ) -> Ended
     requires { ⌜ ((items : List Item) × Runnable (now script) (now w) end items) × ((e : Ed) × (t : Tape) × Ready (now table) (now j) st e t) × (budget ≤ 4294967295) ⌝ }
-    ensures { λ r. ⌜ ((items : List Item) (e : Ed) (t : Tape) → Runnable (now (script .entry)) (now (w .entry)) end items → Ready (now (table .entry)) (now (j .entry)) st e t → EndsAs (now (j .exit)) r (run (step (length (now (j .entry)))) budget 0 (running items []) e t)) × (r .number ≡ 0 → r .place ≡ 0) ⌝ }
+    ensures { λ r. ⌜ RunsItems (now (script .entry)) (now (w .entry)) end budget (now (table .entry)) (now (j .entry)) st (now (j .exit)) r ⌝ }
 {
     let mut c = control::start();
     let mut s = st;

@@ -14,8 +14,9 @@ ghost use Rattle.definitions.specs.Edit.{step};
 ghost use Rattle.definitions.specs.Control.{Item};
 ghost use Rattle.definitions.specs.Script.{items as «items-of»};
 ghost use Rattle.definitions.specs.Run.{openingLength, ranItems, ranScript};
-ghost use Rattle.run.specs.Answers.{Gives, Ran};
-ghost use Rattle.run.specs.Items.{Runnable};
+ghost use Rattle.editor.specs.Shows.{lent};
+ghost use Rattle.run.specs.Answers.{Ran};
+ghost use Rattle.run.specs.Items.{Runnable, GivesItems};
 use items::run_items;
 use script::Decoded;
 use text::Form;
@@ -64,7 +65,7 @@ fn run_table(
     journal: &mut [u8],
 ) -> Answer
     requires { ⌜ (isTable (now table) ≡ true) × (openingLength (linesOf (now table)) ≤ length (now journal)) × ((is : List Item) × Runnable (now script) (now work) end is) × (budget ≤ 4294967295) ⌝ }
-    ensures { λ r. ⌜ ((is : List Item) → Runnable (now (script .entry)) (now (work .entry)) end is → Gives (now (journal .entry)) (ranItems (step (length (now (journal .entry)))) budget is (linesOf (now (table .entry)))) r (now (journal .exit))) ⌝ }
+    ensures { λ r. ⌜ GivesItems (now (script .entry)) (now (work .entry)) end (now (journal .entry)) (λ is. ranItems (step (lent (now (journal .entry)))) budget is (linesOf (now (table .entry)))) r (now (journal .exit)) ⌝ }
 {
     let st = editor::ends::open_journal(table, journal);
     let ended = run_items(script, table, work, end, budget, journal, st);
@@ -99,7 +100,7 @@ fn run_decoded(
     journal: &mut [u8],
 ) -> Answer
     requires { ⌜ ((is : List Item) × Runnable (now script) (now work) end is) × (budget ≤ 4294967295) ⌝ }
-    ensures { λ r. ⌜ ((is : List Item) → Runnable (now (script .entry)) (now (work .entry)) end is → Gives (now (journal .entry)) (ranScript (now (table .entry)) budget (length (now (journal .entry))) («items-of» is)) r (now (journal .exit))) ⌝ }
+    ensures { λ r. ⌜ GivesItems (now (script .entry)) (now (work .entry)) end (now (journal .entry)) (λ is. ranScript (now (table .entry)) budget (length (now (journal .entry))) («items-of» is)) r (now (journal .exit)) ⌝ }
 {
     let form = text::table_form(table);
     let Form::Lines(lines) = form else {

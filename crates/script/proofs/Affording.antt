@@ -6,11 +6,13 @@ use mathlib.Core.List.{List, [], _∷_, reverseAux, reverse}
 use Prim.Native.Nat.{ℕ, zero, suc, _+_, _-_, _*_, _≤_, _<_, max}
 use native.Mathlib.Nat.{eq-or-lt-of-le, eq-zero-or-pos}
 use native.Mathlib.Omega.{arith}
-use lib.ListN.{length, getD}
+use lib.ListN.{getD}
 use Rattle.definitions.specs.Bytes.{isDigit}
 use Rattle.definitions.specs.Control.{Item, opens, bare, bracket, close, otherwise, lineEnd}
 use Rattle.definitions.specs.Script.{closes}
-use Rattle.script.specs.Depth.{openAfter, deepest, openIn, mostIn}
+use Rattle.items.specs.Depth.{openAfter, deepest}
+use Rattle.items.proofs.Deepest.{deepest-low}
+use Rattle.script.specs.Gathered.{openIn, mostIn}
 use Rattle.script.specs.Reading.{Affords, Apart}
 
 -- ---- items last first
@@ -28,11 +30,6 @@ closed-in zero acc = (omega arith, refl)
 closed-in (suc n) acc =
     let rest = closed-in n (close ∷ acc) in
     (omega (arith, rest .0), omega (arith, rest .1, open-low acc))
-
-pub deepest-low : (d : ℕ) (items : List Item) → d ≤ deepest d items
-unfolding deepest
-deepest-low d [] = omega arith
-deepest-low d (i ∷ items) = omega arith
 
 -- in reading order
 turned : (acc rest : List Item) → deepest 0 (reverseAux acc rest) ≤ max (mostIn acc) (deepest (openIn acc) rest)

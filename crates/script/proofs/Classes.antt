@@ -1,21 +1,20 @@
 -- What stands where a command may begin, by its first byte. Assumes nothing.
-use mathlib.Core.Path.{_≡_, refl, sym, ap, _∙_, subst}
-use mathlib.Core.Bool.{Bool, true, false, cond, _&&_, _||_}
-use mathlib.Core.List.{List, [], _∷_}
-use Prim.Native.Nat.{ℕ, zero, suc, _+_, _-_, _*_, _≤_, _<_}
+use mathlib.Core.Path.{_≡_, _∙_}
+use mathlib.Core.Bool.{true, false}
+use mathlib.Core.List.{List}
+use Prim.Native.Nat.{ℕ, _+_, _-_, _≤_, _<_}
 use native.Mathlib.Omega.{arith}
-use lib.ListN.{length, drop, getD, drop-of-length-le}
+use lib.ListN.{length, getD, drop-of-length-le}
 use lib.Seq.{drop-cons}
-use lib.Dec.{eqb, leb}
 use borrow.Author.Tests.{eq-eqb, ne-eqb}
-use Rattle.definitions.specs.Bytes.{isDigit, isLetter, isCapital, isSmall}
+use Rattle.definitions.specs.Bytes.{isDigit, isLetter}
 use Rattle.definitions.specs.Control.{Item}
-use Rattle.definitions.specs.Reader.{Cursor, cursor, placeAt, nextByte, afterByte, skipSpaces, skipComment, Word, word, digits, name}
-use Rattle.definitions.specs.Script.{Due, Group, Reading, reading, Next, more, done, openGroup, closeGroup, separator, lineItems, scriptEnd, countRead, named, classOf, byClass, readAt, readOne}
-use Rattle.reader.specs.Places.{cursorAt}
-use Rattle.reader.proofs.AtPlace.{next-in, after-in}
-use Rattle.reader.proofs.Blanks.{comment-more}
-use Rattle.script.specs.Reading.{dueOf, groupsIn, readingOf, Stands, Comes}
+use Rattle.definitions.specs.Reader.{placeAt, skipSpaces, skipComment, word, digits, name}
+use Rattle.definitions.specs.Script.{Due, Group, Next, done, openGroup, closeGroup, separator, lineItems, scriptEnd, countRead, named, classOf, byClass, readAt, readOne}
+use Rattle.lexer.specs.Places.{cursorAt}
+use Rattle.lexer.proofs.AtPlace.{next-in, after-in}
+use Rattle.lexer.proofs.Blanks.{comment-more}
+use Rattle.script.specs.Reading.{dueOf, groupsIn, readingOf, ReadSoFar, RoundRead}
 use Rattle.script.specs.declared.State.{State}
 use Rattle.script.specs.declared.Step.{Step}
 use Rattle.script.proofs.Affording.{affords-on}
@@ -77,11 +76,11 @@ module _ (s w : List ℕ) (st : State) (acc : List Item) (i : ℕ) where
   unfolding readOne readingOf
   past-spaces e = rw e
 
-  pub stands-on : Stands s w st acc → st .at ≤ i → i ≤ length s → Stands s w (record { at = i; k = st .k; due = st .due; elses = st .elses; depth = st .depth }) acc
+  pub stands-on : ReadSoFar s w st acc → st .at ≤ i → i ≤ length s → ReadSoFar s w (record { at = i; k = st .k; due = st .due; elses = st .elses; depth = st .depth }) acc
   stands-on h from to = record { inside = to; deep = h .deep; gathered = h .gathered; affords = affords-on (h .affords) i from; fits = h .fits }
 
-pub comes-from : (s w : List ℕ) (at i : ℕ) (x : Next) (r : Step) → at ≤ i → Comes s w i x r → Comes s w at x r
-unfolding Comes
+pub comes-from : (s w : List ℕ) (at i : ℕ) (x : Next) (r : Step) → at ≤ i → RoundRead s w i x r → RoundRead s w at x r
+unfolding RoundRead
 comes-from s w at i x (Step.More st) le (acc, e, h, far) = (acc, e, h, omega arith)
 comes-from s w at i x (Step.Done n) le h = h
 comes-from s w at i x (Step.Refused n p) le h = h

@@ -1,19 +1,19 @@
 -- How far digits and letters reach. Assumes nothing.
-use mathlib.Core.Path.{_≡_, refl, sym, ap, _∙_, subst}
-use mathlib.Core.Bool.{Bool, true, false, cond, _&&_, false≢true}
+use mathlib.Core.Path.{_≡_, refl, sym, ap, _∙_}
+use mathlib.Core.Bool.{Bool, true, false, _&&_, false≢true}
 use mathlib.Core.List.{List, [], _∷_}
 use Prim.Native.Nat.{ℕ, zero, suc, _+_, _-_, _*_, _≤_, _<_, min}
 use native.Mathlib.Omega.{arith}
 use lib.ListN.{length, drop, getD}
 use lib.Seq.{drop-cons}
-use lib.Dec.{eqb, leb}
-use borrow.Author.Tests.{leb-true, lt-leb}
+use lib.Dec.{leb}
+use borrow.Author.Tests.{leb-true}
 use Rattle.definitions.specs.Bytes.{isDigit, isLetter, upper}
-use Rattle.definitions.specs.Reader.{Cursor, cursor, placeAt, nextByte, Word, word, afterWord, digitsAt, digits, lettersAt, name}
-use Rattle.reader.specs.Places.{cursorAt}
-use Rattle.reader.specs.Answers.{capped}
-use Rattle.reader.proofs.OneByte.{upper-below}
-use Rattle.reader.proofs.AtPlace.{next-at}
+use Rattle.definitions.specs.Reader.{cursor, placeAt, nextByte, Word, word, afterWord, digitsAt, digits, lettersAt, name}
+use Rattle.lexer.specs.Places.{cursorAt}
+use Rattle.lexer.specs.Answers.{capped}
+use Rattle.lexer.proofs.OneByte.{upper-below}
+use Rattle.lexer.proofs.AtPlace.{next-at}
 
 unfoldable valueOf : Word → ℕ
 valueOf (word n c) = n

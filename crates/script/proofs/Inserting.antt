@@ -1,34 +1,34 @@
 -- IS, I and R in words: strings and lines as parts of the script. Assumes nothing.
-use mathlib.Core.Path.{_≡_, refl, sym, ap, _∙_, subst}
-use mathlib.Core.Logic.{_⊎_, inl, inr}
+use mathlib.Core.Path.{_≡_, refl, sym, ap, _∙_}
+use mathlib.Core.Logic.{inl, inr}
 use mathlib.Core.Bool.{Bool, true, false, cond}
 use mathlib.Core.Option.{Option, none, some}
 use mathlib.Core.List.{List, [], _∷_}
-use Prim.Native.Nat.{ℕ, zero, suc, _+_, _-_, _*_, _≤_, _<_}
+use Prim.Native.Nat.{ℕ, suc, _+_, _-_, _≤_, _<_}
 use native.Mathlib.Omega.{arith}
-use native.Mathlib.Numerals.{add-one}
 use lib.ListN.{length, take, drop, getD, set, length-set, length-drop}
-use lib.Seq.{slice, getD-set-same, getD-set-other, length-take-le}
+use lib.Seq.{getD-set-same, getD-set-other, length-take-le}
 use lib.Dec.{eqb}
-use borrow.Author.Tests.{eq-eqb, ne-eqb, eqb-true, eqb-false}
+use borrow.Author.Tests.{eqb-false}
 use Rattle.definitions.specs.Bytes.{Line, linesOf}
-use Rattle.definitions.specs.Editor.{Target, Through}
+use Rattle.definitions.specs.Editor.{Target}
 use Rattle.definitions.specs.Edit.{insert, replace}
 use Rattle.definitions.specs.Control.{Item, simple}
-use Rattle.definitions.specs.Reader.{Cursor, Got, got, refused, andThen, skipSpaces, quoted}
-use Rattle.definitions.specs.Commands.{Decoded, whole, insertsString, insertsLines, replaces, Span, span, lineSpan, optionalTarget, scriptLines, replaceOp, decode}
-use Rattle.reader.specs.Places.{cursorAt}
-use Rattle.reader.specs.Answers.{answers, answersTwo, partOf as slicePart}
-use Rattle.reader.specs.Targets.{targetOf, throughOf, spanOf, optionOf}
-use Rattle.reader.specs.Inserted.{linesTo}
-use Rattle.reader.proofs.Given.{given-is, given-are}
-use Rattle.reader.specs.declared.Answer.{Answer}
-use Rattle.reader.specs.declared.Two.{Two}
-use Rattle.strings.proofs.Callers.{part-is}
-use Rattle.script.specs.Words.{head, spotCode, targetCode, partOf, StringIn, LinesIn, OpAt, ItemAt}
-use Rattle.script.specs.Depth.{openAfter}
-use Rattle.script.specs.Reading.{Room, Laid, Kept, KeptBy, CommandIs, Written}
-use Rattle.script.specs.Commands.{refusedBy, refusedByTwo, spanHead, spanWord, spotWord}
+use Rattle.definitions.specs.Reader.{Got, got, andThen, skipSpaces, quoted}
+use Rattle.definitions.specs.Commands.{Decoded, whole, insertsString, insertsLines, replaces, Span, lineSpan, optionalTarget, scriptLines, replaceOp, decode}
+use Rattle.lexer.specs.Places.{cursorAt}
+use Rattle.lexer.specs.Answers.{answers, answersTwo}
+use Rattle.lexer.specs.Targets.{targetOf, throughOf, spanOf, optionOf}
+use Rattle.lexer.specs.Inserted.{linesTo}
+use Rattle.lexer.proofs.Given.{given-is, given-are}
+use Rattle.lexer.specs.declared.Answer.{Answer}
+use Rattle.lexer.specs.declared.Two.{Two}
+use Rattle.items.specs.Kinds.{insertStringKind, insertLinesKind, replaceKind}
+use Rattle.items.specs.Words.{head, spotCode, partOf, StringIn, LinesIn, OpAt, ItemAt, headWith, stringWord}
+use Rattle.items.specs.Depth.{openAfter}
+use Rattle.script.specs.Reading.{CommandRoom, Unwritten, UnwrittenBy, CommandIs, CommandRead}
+use Rattle.script.specs.Commands.{refusedBy, refusedByTwo}
+use Rattle.items.specs.Arguments.{spanNumber, spanWord, spotWord}
 use Rattle.script.specs.declared.Command.{Command}
 use Rattle.script.proofs.Keeping.{kept-set}
 use Rattle.script.proofs.Items.{two-stay, first-is, second-is, upward, upward-two, whole-two, target-code}
@@ -36,7 +36,7 @@ use Rattle.script.proofs.LineSpans.{span-item}
 
 -- ---- parts of the script
 
-pub string-in : (s : List ℕ) (word start end : ℕ) → start ≤ end → end ≤ length s → word ≡ start + 32768 * (end - start)
+pub string-in : (s : List ℕ) (word start end : ℕ) → start ≤ end → end ≤ length s → word ≡ stringWord start (end - start)
     → StringIn s word (take (end - start) (drop start s))
 unfolding partOf
 string-in s word start end le to e =
@@ -44,27 +44,19 @@ string-in s word start end le to e =
     let n : start + length (take (end - start) (drop start s)) - start ≡ end - start = omega (arith, len) in
     record {
       start = start;
-      word-is = e ∙ ap (λ (x : ℕ). start + 32768 * x) (sym len);
+      word-is = e ∙ ap (stringWord start) (sym len);
       inside = omega (arith, len);
       is = ap (λ (x : ℕ). take x (drop start s)) (sym n);
     }
 
 pub lines-in : (s : List ℕ) (a b start end : ℕ) → a ≡ start → b ≡ end → start ≤ end → end ≤ length s → LinesIn s a b (linesTo s start end)
 unfolding partOf linesTo
-lines-in s a b start end p q le to = rw (p, q) (record { ordered = le; inside = to; is = ap linesOf (part-is start end s le) })
-
-pub spot-none : (a : ℕ) → a ≡ 65537 → 0 ≡ spotWord a
-unfolding spotWord
-spot-none a e = rw (eq-eqb a 65537 e)
-
-pub spot-some : (a : ℕ) → (a ≡ 65537 → ⊥) → a + 1 ≡ spotWord a
-unfolding spotWord
-spot-some a e = rw (ne-eqb a 65537 e, add-one a)
+lines-in s a b start end p q le to = rw (p, q) (record { ordered = le; inside = to; is = refl })
 
 -- ---- four words
 
 module _ (w : List ℕ) (k a b c d : ℕ) (room : k + 19 < length w) where
-  pub four-stay : Kept k 16 w (set (set (set (set w k a) (k + 1) b) (k + 2) c) (k + 3) d)
+  pub four-stay : Unwritten k 16 w (set (set (set (set w k a) (k + 1) b) (k + 2) c) (k + 3) d)
   four-stay = kept-set k 16 (k + 3) d w (set (set (set w k a) (k + 1) b) (k + 2) c) (omega arith) (omega arith)
       (kept-set k 16 (k + 2) c w (set (set w k a) (k + 1) b) (omega arith) (omega arith) (two-stay w k a b (omega arith)))
 
@@ -83,14 +75,14 @@ module _ (w : List ℕ) (k a b c d : ℕ) (room : k + 19 < length w) where
   pub four-3 : getD (set (set (set (set w k a) (k + 1) b) (k + 2) c) (k + 3) d) (k + 3) 0 ≡ d
   four-3 = getD-set-same (set (set (set w k a) (k + 1) b) (k + 2) c) (k + 3) d 0 (simp length-set (omega arith))
 
-module _ (s w : List ℕ) (place at k : ℕ) (r : Room s w place at k) where
+module _ (s w : List ℕ) (place at k : ℕ) (r : CommandRoom s w place at k) where
   far : k + 31 < length w
   far = omega (arith, r .room, r .fits .work)
 
   pub whole-four : (x : Got Decoded) (i : Item) (next : ℕ) → ((n : ℕ) → openAfter n i ≡ n + 0) → place + 2 ≤ next → next ≤ length s → (a b c d : ℕ) → x ≡ got (whole i) (cursorAt s next)
       → ItemAt s (set (set (set (set w k a) (k + 1) b) (k + 2) c) (k + 3) d) k (k + 4) i
-      → Written s w (set (set (set (set w k a) (k + 1) b) (k + 2) c) (k + 3) d) place k x (Command.Whole next (k + 4))
-  unfolding CommandIs KeptBy
+      → CommandRead s w (set (set (set (set w k a) (k + 1) b) (k + 2) c) (k + 3) d) place k x (Command.Whole next (k + 4))
+  unfolding CommandIs UnwrittenBy
   whole-four x i next quiet from to a b c d e it = record {
     kept = four-stay w k a b c d (omega (arith, far));
     is = (i, e, record { passed = omega arith; inside = to; forth = omega arith; two = omega arith; opening = quiet; item = it });
@@ -98,27 +90,27 @@ module _ (s w : List ℕ) (place at k : ℕ) (r : Room s w place at k) where
 
   -- ---- IS
 
-  module _ (i : ℕ) (spaces : skipSpaces (cursorAt s at) ≡ cursorAt s i) (after : at ≤ i) (x : Two) (read : quoted (cursorAt s i) ≡ answersTwo (slicePart s) s x) where
-    pub string-refused : (n p : ℕ) (c : Command) → x ≡ Two.Refused n p → c ≡ refusedByTwo x → Written s w w place k (decode false place insertsString (cursorAt s at)) c
+  module _ (i : ℕ) (spaces : skipSpaces (cursorAt s at) ≡ cursorAt s i) (after : at ≤ i) (x : Two) (read : quoted (cursorAt s i) ≡ answersTwo (λ a e. take (e - a) (drop a s)) s x) where
+    pub string-refused : (n p : ℕ) (c : Command) → x ≡ Two.Refused n p → c ≡ refusedByTwo x → CommandRead s w w place k (decode false place insertsString (cursorAt s at)) c
     unfolding decode
     string-refused n p c is by =
-        upward-two s w place k n p (slicePart s) (quoted (skipSpaces (cursorAt s at))) (λ l c₁. got (whole (simple place (insert none (l ∷ [])))) c₁) x c (ap quoted spaces ∙ read) is by
+        upward-two s w place k n p (λ a e. take (e - a) (drop a s)) (quoted (skipSpaces (cursorAt s at))) (λ l c₁. got (whole (simple place (insert none (l ∷ [])))) c₁) x c (ap quoted spaces ∙ read) is by
 
-    pub string-written : (start end next v u : ℕ) → v ≡ head 21 place → u ≡ start + 32768 * (end - start) → x ≡ Two.Are start end next
+    pub string-written : (start end next v u : ℕ) → v ≡ head insertStringKind place → u ≡ stringWord start (end - start) → x ≡ Two.Are start end next
         → (start ≡ suc i) × (start ≤ end) × (end ≤ next) × (next ≤ length s)
-        → Written s w (set (set w k v) (k + 1) u) place k (decode false place insertsString (cursorAt s at)) (Command.Whole next (k + 2))
+        → CommandRead s w (set (set w k v) (k + 1) u) place k (decode false place insertsString (cursorAt s at)) (Command.Whole next (k + 2))
     unfolding decode andThen ItemAt OpAt openAfter
     string-written start end next v u hd wd is (one, le, from, to) =
-        whole-two s w place at k r (decode false place insertsString (cursorAt s at)) (simple place (insert none (slice start end s ∷ []))) next (omega arith) to (λ n. omega arith) v u
+        whole-two s w place at k r (decode false place insertsString (cursorAt s at)) (simple place (insert none ((take (end - start) (drop start s)) ∷ []))) next (omega arith) to (λ n. omega arith) v u
         (ap (λ (y : Got Line). andThen y (λ l c₁. got (whole (simple place (insert none (l ∷ [])))) c₁))
-        (ap quoted spaces ∙ given-are (slicePart s) s x (quoted (cursorAt s i)) read start end next is))
+        (ap quoted spaces ∙ given-are (λ a e. take (e - a) (drop a s)) s x (quoted (cursorAt s i)) read start end next is))
         (inl (
           refl,
           first-is w k v u (omega (arith, far)) ∙ hd,
           refl,
           (
-            slice start end s,
-            rw (second-is w k v u (omega (arith, far)), part-is start end s le) (string-in s u start end le (omega arith) wd),
+            take (end - start) (drop start s),
+            rw (second-is w k v u (omega (arith, far))) (string-in s u start end le (omega arith) wd),
             refl,
           ),
         ))
@@ -127,7 +119,7 @@ module _ (s w : List ℕ) (place at k : ℕ) (r : Room s w place at k) where
 
   module _ (grouped : Bool) (from : ℕ) (y : Two) (lines : scriptLines grouped (cursorAt s from) ≡ answersTwo (linesTo s) s y) (f : List Line → Item) (x : Got Decoded)
       (is : x ≡ andThen (scriptLines grouped (cursorAt s from)) (λ ls c₂. got (whole (f ls)) c₂)) where
-    pub lines-refused : (n p : ℕ) (c : Command) → y ≡ Two.Refused n p → c ≡ refusedByTwo y → Written s w w place k x c
+    pub lines-refused : (n p : ℕ) (c : Command) → y ≡ Two.Refused n p → c ≡ refusedByTwo y → CommandRead s w w place k x c
     lines-refused n p c e by = rw is (upward-two s w place k n p (linesTo s) (scriptLines grouped (cursorAt s from)) (λ ls c₂. got (whole (f ls)) c₂) y c lines e by)
 
     pub lines-read : (start end next : ℕ) → y ≡ Two.Are start end next → x ≡ got (whole (f (linesTo s start end))) (cursorAt s next)
@@ -137,7 +129,7 @@ module _ (s w : List ℕ) (place at k : ℕ) (r : Room s w place at k) where
 
   -- I
   module _ (grouped : Bool) (x : Answer) (read : optionalTarget (cursorAt s at) ≡ answers optionOf s x) where
-    pub spot-refused : (n p : ℕ) (c : Command) → x ≡ Answer.Refused n p → c ≡ refusedBy x → Written s w w place k (decode grouped place insertsLines (cursorAt s at)) c
+    pub spot-refused : (n p : ℕ) (c : Command) → x ≡ Answer.Refused n p → c ≡ refusedBy x → CommandRead s w w place k (decode grouped place insertsLines (cursorAt s at)) c
     unfolding decode
     spot-refused n p c is by =
         upward s w place k n p optionOf (optionalTarget (cursorAt s at)) (λ a c₁. andThen (scriptLines grouped c₁) (λ ls c₂. got (whole (simple place (insert a ls))) c₂)) x c read is by
@@ -157,9 +149,9 @@ module _ (s w : List ℕ) (place at k : ℕ) (r : Room s w place at k) where
       go true e = refl
       go false e = ap suc (target-code a (omega (arith, eqb-false a 65537 e)))
 
-  pub inserts-written : (x : Got Decoded) (a start end next v u : ℕ) → a ≤ 65537 → v ≡ head 22 place → u ≡ spotWord a
+  pub inserts-written : (x : Got Decoded) (a start end next v u : ℕ) → a ≤ 65537 → v ≡ head insertLinesKind place → u ≡ spotWord a
       → x ≡ got (whole (simple place (insert (optionOf a) (linesTo s start end)))) (cursorAt s next) → at ≤ start → start ≤ end → next ≡ suc end → next ≤ length s
-      → Written s w (set (set (set (set w k v) (k + 1) u) (k + 2) start) (k + 3) end) place k x (Command.Whole next (k + 4))
+      → CommandRead s w (set (set (set (set w k v) (k + 1) u) (k + 2) start) (k + 3) end) place k x (Command.Whole next (k + 4))
   unfolding ItemAt OpAt openAfter
   inserts-written x a start end next v u small hd wd e from le nx to =
       whole-four x (simple place (insert (optionOf a) (linesTo s start end))) next (λ n. omega arith) (omega (arith, r .named)) to v u start end e
@@ -176,7 +168,7 @@ module _ (s w : List ℕ) (place at k : ℕ) (r : Room s w place at k) where
 
   -- R
   module _ (grouped : Bool) (x : Two) (read : lineSpan (cursorAt s at) ≡ answersTwo spanOf s x) where
-    pub span-refused : (n p : ℕ) (c : Command) → x ≡ Two.Refused n p → c ≡ refusedByTwo x → Written s w w place k (decode grouped place replaces (cursorAt s at)) c
+    pub span-refused : (n p : ℕ) (c : Command) → x ≡ Two.Refused n p → c ≡ refusedByTwo x → CommandRead s w w place k (decode grouped place replaces (cursorAt s at)) c
     unfolding decode
     span-refused n p c is by =
         upward-two s w place k n p spanOf (lineSpan (cursorAt s at)) (λ a c₁. andThen (scriptLines grouped c₁) (λ ls c₂. got (whole (simple place (replaceOp a ls))) c₂)) x c read is by
@@ -188,14 +180,14 @@ module _ (s w : List ℕ) (place at k : ℕ) (r : Room s w place at k) where
         ap (λ (y : Got Span). andThen y (λ t c₁. andThen (scriptLines grouped c₁) (λ ls c₂. got (whole (simple place (replaceOp t ls))) c₂)))
         (given-are spanOf s x (lineSpan (cursorAt s at)) read a b from is)
 
-  pub replaces-written : (x : Got Decoded) (a b start end next v u : ℕ) → a < 65536 → v ≡ spanHead 19 place b → u ≡ spanWord a b
+  pub replaces-written : (x : Got Decoded) (a b start end next v u : ℕ) → a < 65536 → v ≡ headWith replaceKind place (spanNumber b) → u ≡ spanWord a b
       → x ≡ got (whole (simple place (replace (targetOf a) (throughOf b) (linesTo s start end)))) (cursorAt s next) → at ≤ start → start ≤ end → next ≡ suc end → next ≤ length s
-      → Written s w (set (set (set (set w k v) (k + 1) u) (k + 2) start) (k + 3) end) place k x (Command.Whole next (k + 4))
+      → CommandRead s w (set (set (set (set w k v) (k + 1) u) (k + 2) start) (k + 3) end) place k x (Command.Whole next (k + 4))
   unfolding ItemAt OpAt openAfter
   replaces-written x a b start end next v u small hd wd e from le nx to =
       whole-four x (simple place (replace (targetOf a) (throughOf b) (linesTo s start end))) next (λ n. omega arith) (omega (arith, r .named)) to v u start end e (
         refl,
-        span-item s (set (set (set (set w k v) (k + 1) u) (k + 2) start) (k + 3) end) k 19 place a b (four-0 w k v u start end room ∙ hd) (four-1 w k v u start end room ∙ wd) small,
+        span-item s (set (set (set (set w k v) (k + 1) u) (k + 2) start) (k + 3) end) k replaceKind place a b (four-0 w k v u start end room ∙ hd) (four-1 w k v u start end room ∙ wd) small (omega (arith, r .named, r .inside, r .fits .small)),
         lines-in s (getD (set (set (set (set w k v) (k + 1) u) (k + 2) start) (k + 3) end) (k + 2) 0) (getD (set (set (set (set w k v) (k + 1) u) (k + 2) start) (k + 3) end) (k + 3) 0) start end
             (four-2 w k v u start end room) (four-3 w k v u start end room) le (omega arith),
       )

@@ -1,47 +1,48 @@
 -- Items as they are written: counts, commands of one or two words, line numbers. Assumes nothing.
-use mathlib.Core.Path.{_≡_, refl, sym, ap, _∙_, subst}
-use mathlib.Core.Logic.{_⊎_, inl, inr}
-use mathlib.Core.Bool.{Bool, true, false, cond, _&&_, _||_, false≢true}
-use mathlib.Core.List.{List, [], _∷_}
-use Prim.Native.Nat.{ℕ, zero, suc, _+_, _-_, _*_, _/_, _%_, _≤_, _<_}
+use mathlib.Core.Path.{_≡_, refl, sym, ap, _∙_}
+use mathlib.Core.Logic.{inl, inr}
+use mathlib.Core.Bool.{Bool, true, false, cond, false≢true}
+use mathlib.Core.List.{List}
+use Prim.Native.Nat.{ℕ, suc, _+_, _-_, _*_, _≤_, _<_}
 use native.Mathlib.Omega.{arith}
 use lib.ListN.{length, getD, set, length-set}
 use lib.Seq.{getD-set-same, getD-set-other}
-use lib.Dec.{eqb, leb}
-use borrow.Author.Tests.{eq-eqb, ne-eqb, le-leb, lt-leb, eqb-true, eqb-false}
+use lib.Dec.{eqb}
+use borrow.Author.Tests.{le-leb, lt-leb, eqb-true}
 use Rattle.definitions.specs.Bytes.{isDigit}
 use Rattle.definitions.specs.Editor.{Target, here, line, eof}
-use Rattle.definitions.specs.Edit.{Op, move}
-use Rattle.definitions.specs.Control.{times, forever, branch, Item, simple, opens, leave}
-use Rattle.definitions.specs.Reader.{Cursor, cursor, Got, got, refused, andThen, placeAt, skipSpaces, Word, word, digits}
-use Rattle.definitions.specs.Commands.{Decoded, whole, prefix, Shape, moves, target, decode}
-use Rattle.reader.specs.Places.{cursorAt}
-use Rattle.reader.specs.Answers.{answers, answersTwo, capped, Within}
-use Rattle.reader.specs.Targets.{targetOf, throughOf, spanOf, SpanRead}
-use Rattle.reader.specs.Shapes.{plainOf}
-use Rattle.reader.proofs.Digits.{capped-small, capped-large}
-use Rattle.reader.specs.declared.Answer.{Answer}
-use Rattle.reader.specs.declared.Two.{Two}
-use Rattle.reader.specs.declared.shapes.Plain.{Plain}
-use Rattle.reader.specs.declared.shapes.Plain.the-variants.{Next, Previous, Copy, PointStart, Right, Left, CutByte, Lower, Upper, Quit}
-use Rattle.script.specs.Words.{head, targetCode, caseKind, Words1, SpanAt, OpAt, TimesAt, OpenerAt, ItemAt}
-use Rattle.script.specs.Depth.{openAfter}
-use Rattle.script.specs.Reading.{Fits, Room, Laid, Apart, Kept, KeptBy, CommandIs, Written, counted}
-use Rattle.script.specs.Commands.{refusedBy, refusedByTwo, plainKind, spanHead, spanWord}
+use Rattle.definitions.specs.Edit.{move}
+use Rattle.definitions.specs.Control.{times, Item, simple, opens}
+use Rattle.definitions.specs.Reader.{Cursor, Got, got, refused, andThen, skipSpaces, word, digits}
+use Rattle.definitions.specs.Commands.{Decoded, whole, prefix, moves, target, decode}
+use Rattle.lexer.specs.Places.{cursorAt}
+use Rattle.lexer.specs.Answers.{answers, answersTwo, capped}
+use Rattle.lexer.specs.Targets.{targetOf}
+use Rattle.lexer.specs.Shapes.{plainOf}
+use Rattle.lexer.proofs.Digits.{capped-small, capped-large}
+use Rattle.lexer.specs.declared.Answer.{Answer}
+use Rattle.lexer.specs.declared.Two.{Two}
+use Rattle.lexer.specs.declared.shapes.Plain.{Plain}
+use Rattle.lexer.specs.declared.shapes.Plain.the-variants.{Next, Previous, Copy, PointStart, Right, Left, CutByte, Lower, Upper, Quit}
+use Rattle.items.specs.Words.{head, targetCode, OpAt, TimesAt, OpenerAt, ItemAt, headWith}
+use Rattle.items.specs.Kinds.{caseKind, moveKind, countKind, longCountKind}
+use Rattle.items.specs.Depth.{openAfter}
+use Rattle.script.specs.Reading.{CommandRoom, Apart, Unwritten, UnwrittenBy, CommandIs, CommandRead, counted}
+use Rattle.script.specs.Commands.{refusedBy, refusedByTwo, plainKind}
 use Rattle.script.specs.declared.Command.{Command}
 use Rattle.script.proofs.Keeping.{kept-all, kept-set}
 
 -- ---- words one by one
 
 module _ (w : List ℕ) (k a : ℕ) (room : k + 16 < length w) where
-  pub one-stays : Kept k 16 w (set w k a)
+  pub one-stays : Unwritten k 16 w (set w k a)
   one-stays = kept-set k 16 k a w w (omega arith) room (kept-all k 16 w)
 
   pub one-is : getD (set w k a) k 0 ≡ a
   one-is = getD-set-same w k a 0 (omega arith)
 
 module _ (w : List ℕ) (k a b : ℕ) (room : k + 17 < length w) where
-  pub two-stay : Kept k 16 w (set (set w k a) (k + 1) b)
+  pub two-stay : Unwritten k 16 w (set (set w k a) (k + 1) b)
   two-stay = kept-set k 16 (k + 1) b w (set w k a) (omega arith) (omega arith) (one-stays w k a (omega arith))
 
   pub first-is : getD (set (set w k a) (k + 1) b) k 0 ≡ a
@@ -52,18 +53,18 @@ module _ (w : List ℕ) (k a b : ℕ) (room : k + 17 < length w) where
 
 -- ---- refusals
 
-pub refused-written : (s w w' : List ℕ) (place k : ℕ) (x : Got Decoded) (n p : ℕ) → x ≡ refused n p → Written s w w' place k x (Command.Refused n p)
-unfolding CommandIs KeptBy
+pub refused-written : (s w w' : List ℕ) (place k : ℕ) (x : Got Decoded) (n p : ℕ) → x ≡ refused n p → CommandRead s w w' place k x (Command.Refused n p)
+unfolding CommandIs UnwrittenBy
 refused-written s w w' place k x n p e = record { kept = tt; is = e }
 
 -- an argument was refused
 module _ {A : Type 0} (s w : List ℕ) (place k n p : ℕ) (f : ℕ → A) (x : Got A) (on : A → Cursor → Got Decoded) where
-  pub upward : (a : Answer) (r : Command) → x ≡ answers f s a → a ≡ Answer.Refused n p → r ≡ refusedBy a → Written s w w place k (andThen x on) r
+  pub upward : (a : Answer) (r : Command) → x ≡ answers f s a → a ≡ Answer.Refused n p → r ≡ refusedBy a → CommandRead s w w place k (andThen x on) r
   unfolding answers andThen refusedBy
   upward a r e is by = rw (by, is) (refused-written s w w place k (andThen x on) n p (ap (λ (y : Got A). andThen y on) (e ∙ ap (answers f s) is)))
 
 module _ {A : Type 0} (s w : List ℕ) (place k n p : ℕ) (f : ℕ → ℕ → A) (x : Got A) (on : A → Cursor → Got Decoded) where
-  pub upward-two : (a : Two) (r : Command) → x ≡ answersTwo f s a → a ≡ Two.Refused n p → r ≡ refusedByTwo a → Written s w w place k (andThen x on) r
+  pub upward-two : (a : Two) (r : Command) → x ≡ answersTwo f s a → a ≡ Two.Refused n p → r ≡ refusedByTwo a → CommandRead s w w place k (andThen x on) r
   unfolding answersTwo andThen refusedByTwo
   upward-two a r e is by = rw (by, is) (refused-written s w w place k (andThen x on) n p (ap (λ (y : Got A). andThen y on) (e ∙ ap (answersTwo f s) is)))
 
@@ -77,27 +78,27 @@ named-apart s place k next m few = record { named = λ no-digit. omega arith; fo
 pub count-apart : (s : List ℕ) (place k next m : ℕ) → isDigit (getD s place 0) ≡ true → isDigit (getD s next 0) ≡ false → Apart s place k next m
 count-apart s place k next m first behind = record { named = λ no-digit. absurd (false≢true (sym no-digit ∙ first)); followed = λ digit. absurd (false≢true (sym behind ∙ digit)) }
 
-module _ (s w : List ℕ) (place at k : ℕ) (r : Room s w place at k) (x : Got Decoded) (i : Item) (next : ℕ) (from : at ≤ next) (to : next ≤ length s) where
+module _ (s w : List ℕ) (place at k : ℕ) (r : CommandRoom s w place at k) (x : Got Decoded) (i : Item) (next : ℕ) (from : at ≤ next) (to : next ≤ length s) where
   pub room-two : k + 34 ≤ length w
   room-two = omega (arith, r .room, r .named, r .inside, r .fits .work)
 
-  pub whole-one : ((n : ℕ) → openAfter n i ≡ n + 0) → (a : ℕ) → x ≡ got (whole i) (cursorAt s next) → ItemAt s (set w k a) k (k + 1) i → Written s w (set w k a) place k x (Command.Whole next (k + 1))
-  unfolding CommandIs KeptBy
+  pub whole-one : ((n : ℕ) → openAfter n i ≡ n + 0) → (a : ℕ) → x ≡ got (whole i) (cursorAt s next) → ItemAt s (set w k a) k (k + 1) i → CommandRead s w (set w k a) place k x (Command.Whole next (k + 1))
+  unfolding CommandIs UnwrittenBy
   whole-one quiet a e it = record {
     kept = one-stays w k a (omega (arith, room-two));
     is = (i, e, record { passed = omega (arith, r .named); inside = to; forth = omega arith; two = omega (arith, r .named); opening = quiet; item = it });
   }
 
-  pub prefix-one : ((n : ℕ) → openAfter n i ≡ n + 1) → Apart s place k next (k + 1) → (a : ℕ) (b : Bool) → x ≡ got (prefix b i) (cursorAt s next) → ItemAt s (set w k a) k (k + 1) i → Written s w (set w k a) place k x (Command.Prefix b next (k + 1))
-  unfolding CommandIs KeptBy
+  pub prefix-one : ((n : ℕ) → openAfter n i ≡ n + 1) → Apart s place k next (k + 1) → (a : ℕ) (b : Bool) → x ≡ got (prefix b i) (cursorAt s next) → ItemAt s (set w k a) k (k + 1) i → CommandRead s w (set w k a) place k x (Command.Prefix b next (k + 1))
+  unfolding CommandIs UnwrittenBy
   prefix-one one-more apart a b e it = record {
     kept = one-stays w k a (omega (arith, room-two));
     is = (i, e, record { passed = omega (arith, r .named); inside = to; forth = omega arith; two = omega (arith, r .named); opening = one-more; item = it }, apart);
   }
 
   pub whole-two : ((n : ℕ) → openAfter n i ≡ n + 0) → (a b : ℕ) → x ≡ got (whole i) (cursorAt s next) → ItemAt s (set (set w k a) (k + 1) b) k (k + 2) i
-      → Written s w (set (set w k a) (k + 1) b) place k x (Command.Whole next (k + 2))
-  unfolding CommandIs KeptBy
+      → CommandRead s w (set (set w k a) (k + 1) b) place k x (Command.Whole next (k + 2))
+  unfolding CommandIs UnwrittenBy
   whole-two quiet a b e it = record {
     kept = two-stay w k a b (omega (arith, room-two));
     is = (i, e, record { passed = omega (arith, r .named); inside = to; forth = omega arith; two = omega (arith, r .named); opening = quiet; item = it });
@@ -105,7 +106,7 @@ module _ (s w : List ℕ) (place at k : ℕ) (r : Room s w place at k) (x : Got 
 
 -- ---- counts
 
-module _ (s w : List ℕ) (place k v next : ℕ) (r : Room s w place (place + 1) k) (read : capped (digits (cursorAt s place)) ≡ word v (cursorAt s next)) where
+module _ (s w : List ℕ) (place k v next : ℕ) (r : CommandRoom s w place (place + 1) k) (read : capped (digits (cursorAt s place)) ≡ word v (cursorAt s next)) where
   is-counted : v ≤ 65535 → counted place (digits (cursorAt s place)) ≡ got (prefix false (opens place (times v))) (cursorAt s next)
   unfolding counted
   is-counted h = rw (capped-small (digits (cursorAt s place)) v (cursorAt s next) read h, counted, le-leb v 65535 h)
@@ -119,17 +120,17 @@ module _ (s w : List ℕ) (place k v next : ℕ) (r : Room s w place (place + 1)
       over : (n : ℕ) → digits (cursorAt s place) ≡ word n (cursorAt s next) → 65535 < n → counted place (digits (cursorAt s place)) ≡ refused 3 place
       over n e m = rw (e, counted, lt-leb n 65535 m)
 
-  pub small-count : Apart s place k next (k + 1) → (a : ℕ) → a ≡ head 40 place → v < 2048 → place < next → next ≤ length s
-      → Written s w (set w k (a + 2097152 * v)) place k (counted place (digits (cursorAt s place))) (Command.Prefix false next (k + 1))
+  pub small-count : Apart s place k next (k + 1) → (a : ℕ) → a ≡ headWith countKind place v → v < 512 → place < next → next ≤ length s
+      → CommandRead s w (set w k a) place k (counted place (digits (cursorAt s place))) (Command.Prefix false next (k + 1))
   unfolding ItemAt OpenerAt TimesAt openAfter
   small-count apart a is h far to =
-      prefix-one s w place (place + 1) k r (counted place (digits (cursorAt s place))) (opens place (times v)) next (omega arith) to (λ n. refl) apart (a + 2097152 * v) false
+      prefix-one s w place (place + 1) k r (counted place (digits (cursorAt s place))) (opens place (times v)) next (omega arith) to (λ n. refl) apart a false
       (is-counted (omega arith))
-      (inl (h, (refl, one-is w k (a + 2097152 * v) (omega (arith, r .room, r .named, r .inside, r .fits .work)) ∙ ap (λ (n : ℕ). n + 2097152 * v) is)))
+      (inl (h, (refl, one-is w k a (omega (arith, r .room, r .named, r .inside, r .fits .work)) ∙ is)))
 
-  pub large-count : Apart s place k next (k + 2) → (a : ℕ) → a ≡ head 41 place → v ≤ 65535 → suc place < next → next ≤ length s
-      → Written s w (set (set w k a) (k + 1) v) place k (counted place (digits (cursorAt s place))) (Command.Prefix false next (k + 2))
-  unfolding ItemAt OpenerAt TimesAt CommandIs KeptBy openAfter
+  pub large-count : Apart s place k next (k + 2) → (a : ℕ) → a ≡ head longCountKind place → v ≤ 65535 → suc place < next → next ≤ length s
+      → CommandRead s w (set (set w k a) (k + 1) v) place k (counted place (digits (cursorAt s place))) (Command.Prefix false next (k + 2))
+  unfolding ItemAt OpenerAt TimesAt CommandIs UnwrittenBy openAfter
   large-count apart a is h far to =
       let room : k + 17 < length w = omega (arith, r .room, r .named, r .inside, r .fits .work) in
       record {
@@ -175,18 +176,14 @@ target-code n h = go (eqb n 0) (eqb n 65536) refl refl
     go false true e f = sym (eqb-true n 65536 f)
     go false false e f = refl
 
-module _ (s w : List ℕ) (place at k : ℕ) (r : Room s w place at k) (i : ℕ) (spaces : skipSpaces (cursorAt s at) ≡ cursorAt s i) (after : at ≤ i) (x : Answer)
+module _ (s w : List ℕ) (place at k : ℕ) (r : CommandRoom s w place at k) (i : ℕ) (spaces : skipSpaces (cursorAt s at) ≡ cursorAt s i) (after : at ≤ i) (x : Answer)
     (read : target (cursorAt s i) ≡ answers targetOf s x) where
-  pub moves-refused : (n p : ℕ) (c : Command) → x ≡ Answer.Refused n p → c ≡ refusedBy x → Written s w w place k (decode false place moves (cursorAt s at)) c
+  pub moves-refused : (n p : ℕ) (c : Command) → x ≡ Answer.Refused n p → c ≡ refusedBy x → CommandRead s w w place k (decode false place moves (cursorAt s at)) c
   unfolding decode
   moves-refused n p c is by = upward s w place k n p targetOf (target (skipSpaces (cursorAt s at))) (λ a c₁. got (whole (simple place (move a))) c₁) x c (ap target spaces ∙ read) is by
 
-  pub move-within : (a next : ℕ) → x ≡ Answer.Is a next → Within 65536 (suc i) (length s) x → (a ≤ 65536) × (suc i ≤ next) × (next ≤ length s)
-  unfolding Within
-  move-within a next is h = rw is at h
-
-  pub moves-written : (a next v : ℕ) → v ≡ head 16 place → x ≡ Answer.Is a next → (a ≤ 65536) × (suc i ≤ next) × (next ≤ length s)
-      → Written s w (set (set w k v) (k + 1) a) place k (decode false place moves (cursorAt s at)) (Command.Whole next (k + 2))
+  pub moves-written : (a next v : ℕ) → v ≡ head moveKind place → x ≡ Answer.Is a next → (a ≤ 65536) × (suc i ≤ next) × (next ≤ length s)
+      → CommandRead s w (set (set w k v) (k + 1) a) place k (decode false place moves (cursorAt s at)) (Command.Whole next (k + 2))
   unfolding decode andThen answers ItemAt OpAt openAfter
   moves-written a next v hd is (small, from, to) =
       whole-two s w place at k r (decode false place moves (cursorAt s at)) (simple place (move (targetOf a))) next (omega arith) to (λ n. omega arith) v a

@@ -1,16 +1,17 @@
 -- The names of prefixes have two letters at least. Assumes nothing.
-use mathlib.Core.Path.{_≡_, refl, sym, ap, _∙_, subst}
+use mathlib.Core.Path.{_≡_, refl, sym, ap, _∙_}
 use mathlib.Core.Bool.{Bool, true, false, _&&_, false≢true}
 use mathlib.Core.List.{List, [], _∷_}
-use Prim.Native.Nat.{ℕ, zero, suc, _+_, _≤_, _<_}
+use Prim.Native.Nat.{ℕ, _+_, _≤_}
 use native.Mathlib.Omega.{arith}
 use lib.Dec.{eqb, leb}
 use borrow.Author.Tests.{eqb-true, leb-true}
 use Rattle.definitions.specs.Reader.{packed, packedFrom}
 use Rattle.definitions.specs.Commands.{Shape, plain, leaves, seeks, moves, deletes, insertsString, insertsLines, replaces, alters, points, repeats, branches, branchesEof, loops, unknown, Row, row, commandTable, lookUp, shapeOf}
-use Rattle.reader.specs.Shapes.{shapeIn}
-use Rattle.reader.specs.declared.shapes.Shape.{Shape as ShapeHere}
-use Rattle.reader.specs.declared.shapes.Shape.the-variants.{Plain, Leaves, Seeks, Moves, Deletes, InsertsString, InsertsLines, Replaces, Alters, Points, Repeats, Branches, BranchesEof, Loops, Unknown}
+use Rattle.theorems.specs.Lines.{and-left, and-right}
+use Rattle.lexer.specs.Shapes.{shapeIn}
+use Rattle.lexer.specs.declared.shapes.Shape.{Shape as ShapeHere}
+use Rattle.lexer.specs.declared.shapes.Shape.the-variants.{Plain, Leaves, Seeks, Moves, Deletes, InsertsString, InsertsLines, Replaces, Alters, Points, Repeats, Branches, BranchesEof, Loops, Unknown}
 use Rattle.script.specs.Searches.{NameOf}
 
 -- what opens a body
@@ -39,14 +40,6 @@ long false n = true
 unfoldable allLong : List Row → Bool
 allLong [] = true
 allLong (row s shape ∷ rows) = long (isPrefix shape) (packed s) && allLong rows
-
-and-left : (a b : Bool) → (a && b) ≡ true → a ≡ true
-and-left true b e = refl
-and-left false b e = e
-
-and-right : (a b : Bool) → (a && b) ≡ true → b ≡ true
-and-right true b e = e
-and-right false b e = absurd (false≢true e)
 
 looked : (rows : List Row) (w : ℕ) → allLong rows ≡ true → isPrefix (lookUp rows w) ≡ true → 256 ≤ w
 unfolding allLong lookUp isPrefix long

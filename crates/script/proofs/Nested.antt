@@ -1,22 +1,24 @@
 -- Groups: what `(`, `)` and ELSE come to. Assumes nothing.
-use mathlib.Core.Path.{_≡_, refl, sym, ap, _∙_, subst}
-use mathlib.Core.Bool.{Bool, true, false, cond, _&&_}
-use mathlib.Core.List.{List, [], _∷_}
-use Prim.Native.Nat.{ℕ, zero, suc, _+_, _-_, _*_, _/_, _%_, _≤_, _<_}
-use native.Mathlib.Numerals.{add-one, sub-one}
+use mathlib.Core.Path.{_≡_, refl, sym, ap, _∙_}
+use mathlib.Core.Bool.{Bool, true, false}
+use mathlib.Core.List.{List, _∷_}
+use Prim.Native.Nat.{ℕ, suc, _+_, _-_, _*_, _/_, _%_, _≤_, _<_}
+use native.Mathlib.Numerals.{add-one}
 use native.Mathlib.Omega.{arith}
 use lib.ListN.{length, getD, set, length-set}
 use lib.Seq.{getD-set-same, getD-set-other}
-use lib.Dec.{eqb, ltb}
+use lib.Dec.{ltb}
 use borrow.Author.Tests.{lt-ltb, le-ltb, eq-eqb, ne-eqb}
-use Rattle.definitions.specs.Control.{Item, opens, bare, bracket, otherwise, close}
-use Rattle.definitions.specs.Reader.{Cursor, cursor, nextByte, isNext, afterByte, placeAt}
-use Rattle.definitions.specs.Script.{Due, nothing, body, Group, group, Reading, reading, refusedAt, Next, more, done, closes, openGroup, groupItems, groupOf, elseGroup, isElse, afterElse, groupEnd, closeGroup}
+use Rattle.definitions.specs.Control.{Item, opens, bare, bracket, otherwise}
+use Rattle.definitions.specs.Reader.{nextByte, placeAt}
+use Rattle.definitions.specs.Script.{nothing, Group, group, reading, refusedAt, more, done, closes, openGroup, groupItems, groupOf, elseGroup, isElse, afterElse, groupEnd, closeGroup}
 use Rattle.matching.specs.Words.{bitOf}
-use Rattle.reader.specs.Places.{cursorAt}
-use Rattle.reader.proofs.AtPlace.{is-next, not-next, after-in, after-next, next-inside}
-use Rattle.script.specs.Words.{head, ItemAt, OpenerAt, Gathered}
-use Rattle.script.specs.Reading.{dueOf, groupIn, groupsIn, bodiesIn, readingOf, Fits, Affords, Stands, Kept, Closed, Comes}
+use Rattle.lexer.specs.Places.{cursorAt}
+use Rattle.lexer.proofs.AtPlace.{is-next, not-next, after-in, after-next, next-inside}
+use Rattle.items.specs.Kinds.{bracketKind, elseKind, bareKind}
+use Rattle.items.specs.Words.{head, ItemAt, OpenerAt, Closed}
+use Rattle.script.specs.Gathered.{Gathered}
+use Rattle.script.specs.Reading.{dueOf, groupIn, groupsIn, bodiesIn, readingOf, Fits, Affords, ReadSoFar, Unwritten, RoundRead}
 use Rattle.script.specs.declared.State.{State}
 use Rattle.script.specs.declared.Step.{Step}
 use Rattle.script.proofs.Keeping.{gather, acc-kept, groups-kept, bodies-kept, fits-kept, free, kept-all, kept-set}
@@ -53,7 +55,7 @@ flag-off e is = rw is
 -- one word is written at k, or two, then the word of a group
 module _ (w : List ℕ) (k top d : ℕ) (far : top + d < length w) where
   module _ (a x : ℕ) (near : k < top) where
-    pub one-stays : Kept k d w (set (set w k a) top x)
+    pub one-stays : Unwritten k d w (set (set w k a) top x)
     one-stays =
         kept-set k d top x w (set w k a) (omega arith) far (kept-set k d k a w w (omega arith) (omega arith) (kept-all k d w))
 
@@ -64,7 +66,7 @@ module _ (w : List ℕ) (k top d : ℕ) (far : top + d < length w) where
     one-top = getD-set-same (set w k a) top x 0 (rw (length-set w k a) (omega arith))
 
   module _ (a b x : ℕ) (near : k + 1 < top) where
-    pub two-stay : Kept k d w (set (set (set w k a) (k + 1) b) top x)
+    pub two-stay : Unwritten k d w (set (set (set w k a) (k + 1) b) top x)
     two-stay =
         kept-set k d top x w (set (set w k a) (k + 1) b) (omega arith) far
         (kept-set k d (k + 1) b w (set w k a) (omega arith) (omega arith) (kept-set k d k a w w (omega arith) (omega arith) (kept-all k d w)))
@@ -82,7 +84,7 @@ module _ (w : List ℕ) (k top d : ℕ) (far : top + d < length w) where
 
 -- ---- a group opens: x is its word, d groups are open around it
 
-module _ (s w w' : List ℕ) (k d d' x : ℕ) (one-more : d' ≡ d + 1) (kept : Kept k d w w') (word : getD w' (length w - d') 0 ≡ x) where
+module _ (s w w' : List ℕ) (k d d' x : ℕ) (one-more : d' ≡ d + 1) (kept : Unwritten k d w w') (word : getD w' (length w - d') 0 ≡ x) where
   word-there : getD w' (length w' - suc d) 0 ≡ x
   word-there = rw (kept .same-length, ← add-one d, ← one-more) word
 
@@ -96,8 +98,8 @@ module _ (s w w' : List ℕ) (k d d' x : ℕ) (one-more : d' ≡ d + 1) (kept : 
 
   pub opened : (from next k' : ℕ) (acc : List Item) (g : Group) → groupIn x ≡ g → Gathered s w' k' acc → from < next → next ≤ length s → d < 16 → Fits s w
       → Affords s next k' 0 (x / 2 + bodiesIn w d) d' acc
-      → Comes s w' from (more (reading (cursorAt s next) nothing (g ∷ groupsIn w d) acc)) (Step.More (record { at = next; k = k'; due = 0; elses = false; depth = d' }))
-  unfolding Comes readingOf dueOf
+      → RoundRead s w' from (more (reading (cursorAt s next) nothing (g ∷ groupsIn w d) acc)) (Step.More (record { at = next; k = k'; due = 0; elses = false; depth = d' }))
+  unfolding RoundRead readingOf dueOf
   opened from next k' acc g is gathered far within deep fits affords = (
     acc,
     rw (groups-more, is),
@@ -111,7 +113,7 @@ module _ (s w w' : List ℕ) (k d d' x : ℕ) (one-more : d' ≡ d + 1) (kept : 
     far,
   )
 
-module _ (s w : List ℕ) (st : State) (acc : List Item) (h : Stands s w st acc) where
+module _ (s w : List ℕ) (st : State) (acc : List Item) (h : ReadSoFar s w st acc) where
   pub ending-room : 0 < st .depth → (n : ℕ) → n ≡ getD w (length w - st .depth) 0 / 2 → (st .k + n + 16 ≤ length w) × (n ≤ 32800)
   ending-room pos n is =
       let half = some-bodies w (st .depth) (λ z. omega (arith, z)) in
@@ -119,8 +121,8 @@ module _ (s w : List ℕ) (st : State) (acc : List Item) (h : Stands s w st acc)
 
   module _ (less : st .at < length s) where
     module _ (deep : st .depth < 16) where
-      pub opens-bare : st .due ≡ 0 → (a : ℕ) → a ≡ head 43 (st .at) →
-          Comes s (set (set (set w (st .k) a) (st .k + 1) 1) (length w - (st .depth + 1)) 2) (st .at)
+      pub opens-bare : st .due ≡ 0 → (a : ℕ) → a ≡ head bareKind (st .at) →
+          RoundRead s (set (set (set w (st .k) a) (st .k + 1) bracketKind) (length w - (st .depth + 1)) 2) (st .at)
           (more (reading (cursorAt s (st .at + 1)) nothing (group 1 false ∷ groupsIn w (st .depth)) (bracket ∷ opens (st .at) bare ∷ acc)))
           (Step.More (record { at = st .at + 1; k = st .k + 2; due = 0; elses = false; depth = st .depth + 1 }))
       unfolding ItemAt OpenerAt groupIn
@@ -129,18 +131,18 @@ module _ (s w : List ℕ) (st : State) (acc : List Item) (h : Stands s w st acc)
           let top : ℕ = length w - (st .depth + 1) in
           let far : top + st .depth < length w = omega (arith, room) in
           let near : st .k + 1 < top = omega (arith, room) in
-          let w' : List ℕ = set (set (set w (st .k) a) (st .k + 1) 1) top 2 in
-          let kept : Kept (st .k) (st .depth) w w' = two-stay w (st .k) top (st .depth) far a 1 2 near in
+          let w' : List ℕ = set (set (set w (st .k) a) (st .k + 1) bracketKind) top 2 in
+          let kept : Unwritten (st .k) (st .depth) w w' = two-stay w (st .k) top (st .depth) far a bracketKind 2 near in
           let e : st .k + 2 ≡ st .k + 1 + 1 = omega arith in
-          opened s w w' (st .k) (st .depth) (st .depth + 1) 2 refl kept (two-top w (st .k) top (st .depth) far a 1 2 near)
+          opened s w w' (st .k) (st .depth) (st .depth + 1) 2 refl kept (two-top w (st .k) top (st .depth) far a bracketKind 2 near)
           (st .at) (st .at + 1) (st .k + 2) (bracket ∷ opens (st .at) bare ∷ acc) (group 1 false) refl
-          (gather s w' (st .k + 1) (st .k + 2) bracket (opens (st .at) bare ∷ acc) (omega arith) (e, two-second w (st .k) top (st .depth) far a 1 2 near)
-          (gather s w' (st .k) (st .k + 1) (opens (st .at) bare) acc (omega arith) (refl, two-first w (st .k) top (st .depth) far a 1 2 near ∙ is)
+          (gather s w' (st .k + 1) (st .k + 2) bracket (opens (st .at) bare ∷ acc) (omega arith) (e, two-second w (st .k) top (st .depth) far a bracketKind 2 near)
+          (gather s w' (st .k) (st .k + 1) (opens (st .at) bare) acc (omega arith) (refl, two-first w (st .k) top (st .depth) far a bracketKind 2 near ∙ is)
           (acc-kept (st .k) (st .depth) w w' kept s acc (omega (arith, room)) (h .gathered))))
           (omega arith) (omega arith) deep (h .fits) (affords-bare (h .affords) z (st .at))
 
       pub opens-body : (x : ℕ) → x ≡ 2 * st .due + bitOf (st .elses) →
-          Comes s (set (set w (st .k) 1) (length w - (st .depth + 1)) x) (st .at)
+          RoundRead s (set (set w (st .k) bracketKind) (length w - (st .depth + 1)) x) (st .at)
           (more (reading (cursorAt s (st .at + 1)) nothing (group (st .due) (st .elses) ∷ groupsIn w (st .depth)) (bracket ∷ acc)))
           (Step.More (record { at = st .at + 1; k = st .k + 1; due = 0; elses = false; depth = st .depth + 1 }))
       unfolding ItemAt
@@ -149,12 +151,12 @@ module _ (s w : List ℕ) (st : State) (acc : List Item) (h : Stands s w st acc)
           let top : ℕ = length w - (st .depth + 1) in
           let far : top + st .depth < length w = omega (arith, room) in
           let near : st .k < top = omega (arith, room) in
-          let w' : List ℕ = set (set w (st .k) 1) top x in
-          let kept : Kept (st .k) (st .depth) w w' = one-stays w (st .k) top (st .depth) far 1 x near in
+          let w' : List ℕ = set (set w (st .k) bracketKind) top x in
+          let kept : Unwritten (st .k) (st .depth) w w' = one-stays w (st .k) top (st .depth) far bracketKind x near in
           let half : x / 2 ≡ st .due = ap (λ (n : ℕ). n / 2) is ∙ flag-half (st .due) (st .elses) in
-          opened s w w' (st .k) (st .depth) (st .depth + 1) x refl kept (one-top w (st .k) top (st .depth) far 1 x near)
+          opened s w w' (st .k) (st .depth) (st .depth + 1) x refl kept (one-top w (st .k) top (st .depth) far bracketKind x near)
           (st .at) (st .at + 1) (st .k + 1) (bracket ∷ acc) (group (st .due) (st .elses)) (ap groupIn is ∙ group-back (st .due) (st .elses))
-          (gather s w' (st .k) (st .k + 1) bracket acc (omega arith) (refl, one-first w (st .k) top (st .depth) far 1 x near)
+          (gather s w' (st .k) (st .k + 1) bracket acc (omega arith) (refl, one-first w (st .k) top (st .depth) far bracketKind x near)
           (acc-kept (st .k) (st .depth) w w' kept s acc (omega (arith, room)) (h .gathered)))
           (omega arith) (omega arith) deep (h .fits) (rw half (affords-body (h .affords)))
 
@@ -178,13 +180,13 @@ module _ (s w : List ℕ) (st : State) (acc : List Item) (h : Stands s w st acc)
     -- ---- a group ends
 
     pub ends : 0 < st .depth → st .due ≡ 0 → (n : ℕ) → n ≡ getD w (length w - st .depth) 0 / 2 → (w' : List ℕ) → Closed (st .k) n w w'
-        → Comes s w' (st .at) (more (reading (cursorAt s (st .at + 1)) nothing (groupsIn w (st .depth - 1)) (closes n acc)))
+        → RoundRead s w' (st .at) (more (reading (cursorAt s (st .at + 1)) nothing (groupsIn w (st .depth - 1)) (closes n acc)))
         (Step.More (record { at = st .at + 1; k = st .k + n; due = 0; elses = false; depth = st .depth - 1 }))
-    unfolding Comes readingOf dueOf
+    unfolding RoundRead readingOf dueOf
     ends pos z n is w' c =
         let half : bodiesIn w (st .depth) ≡ n + bodiesIn w (st .depth - 1) = some-bodies w (st .depth) (λ z. omega (arith, z)) ∙ ap (λ (m : ℕ). m + bodiesIn w (st .depth - 1)) (sym is) in
         let far : st .k + n + 16 ≤ length w = omega (arith, h .affords .room, h .deep, h .fits .work, h .inside, half) in
-        let kept : Kept (st .k) 16 w w' = closed-kept (st .k) 16 (st .k) n w w' (omega arith) far c in (
+        let kept : Unwritten (st .k) 16 w w' = closed-kept (st .k) 16 (st .k) n w w' (omega arith) far c in (
           closes n acc,
           rw (groups-kept (st .k) 16 w w' kept (st .depth - 1) (omega (arith, h .deep))),
           record {
@@ -240,7 +242,7 @@ module _ (s w : List ℕ) (st : State) (acc : List Item) (h : Stands s w st acc)
     else-there e = rw (is-next 40 (cursorAt s p) e, after-next s p (rw e (omega arith)))
 
     pub else-opens : 0 < st .depth → st .due ≡ 0 → st .at < p → n ≡ getD w (length w - st .depth) 0 / 2 → nextByte (cursorAt s p) ≡ 40
-        → Comes s (set (set (set w (st .k) 3) (st .k + 1) 1) (length w - st .depth) (2 * n)) (st .at) (elseGroup n (groupsIn w (st .depth - 1)) acc (cursorAt s p))
+        → RoundRead s (set (set (set w (st .k) elseKind) (st .k + 1) bracketKind) (length w - st .depth) (2 * n)) (st .at) (elseGroup n (groupsIn w (st .depth - 1)) acc (cursorAt s p))
         (Step.More (record { at = p + 1; k = st .k + 2; due = 0; elses = false; depth = st .depth }))
     unfolding ItemAt bitOf
     else-opens pos z after is e =
@@ -250,15 +252,15 @@ module _ (s w : List ℕ) (st : State) (acc : List Item) (h : Stands s w st acc)
         let top : ℕ = length w - st .depth in
         let far : top + (st .depth - 1) < length w = omega (arith, room, h .deep) in
         let near : st .k + 1 < top = omega (arith, room, h .deep) in
-        let w' : List ℕ = set (set (set w (st .k) 3) (st .k + 1) 1) top (2 * n) in
-        let kept : Kept (st .k) (st .depth - 1) w w' = two-stay w (st .k) top (st .depth - 1) far 3 1 (2 * n) near in
+        let w' : List ℕ = set (set (set w (st .k) elseKind) (st .k + 1) bracketKind) top (2 * n) in
+        let kept : Unwritten (st .k) (st .depth - 1) w w' = two-stay w (st .k) top (st .depth - 1) far elseKind bracketKind (2 * n) near in
         let e2 : st .k + 2 ≡ st .k + 1 + 1 = omega arith in
         let zero-flag : 2 * n ≡ 2 * n + bitOf false = omega arith in
         let twice : 2 * n / 2 ≡ n = omega arith in
         rw (else-there e)
-        (opened s w w' (st .k) (st .depth - 1) (st .depth) (2 * n) (omega arith) kept (two-top w (st .k) top (st .depth - 1) far 3 1 (2 * n) near)
+        (opened s w w' (st .k) (st .depth - 1) (st .depth) (2 * n) (omega arith) kept (two-top w (st .k) top (st .depth - 1) far elseKind bracketKind (2 * n) near)
         (st .at) (p + 1) (st .k + 2) (bracket ∷ otherwise ∷ acc) (group n false) (ap groupIn zero-flag ∙ group-back n false)
-        (gather s w' (st .k + 1) (st .k + 2) bracket (otherwise ∷ acc) (omega arith) (e2, two-second w (st .k) top (st .depth - 1) far 3 1 (2 * n) near)
-        (gather s w' (st .k) (st .k + 1) otherwise acc (omega arith) (refl, two-first w (st .k) top (st .depth - 1) far 3 1 (2 * n) near)
+        (gather s w' (st .k + 1) (st .k + 2) bracket (otherwise ∷ acc) (omega arith) (e2, two-second w (st .k) top (st .depth - 1) far elseKind bracketKind (2 * n) near)
+        (gather s w' (st .k) (st .k + 1) otherwise acc (omega arith) (refl, two-first w (st .k) top (st .depth - 1) far elseKind bracketKind (2 * n) near)
         (acc-kept (st .k) (st .depth - 1) w w' kept s acc (omega (arith, room)) (h .gathered))))
         (omega arith) (omega arith) (omega (arith, h .deep)) (h .fits) (rw (twice, ← half) (affords-else (h .affords) z p after)))

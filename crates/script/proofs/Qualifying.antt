@@ -1,30 +1,31 @@
 -- Commands with qualified strings in words. Assumes nothing.
-use mathlib.Core.Path.{_≡_, refl, sym, ap, _∙_, subst}
-use mathlib.Core.Bool.{Bool, true, false}
+use mathlib.Core.Path.{_≡_, refl, ap, _∙_}
+use mathlib.Core.Bool.{Bool, false}
 use mathlib.Core.List.{List, [], _∷_}
-use Prim.Native.Nat.{ℕ, zero, suc, _+_, _-_, _*_, _≤_, _<_}
+use Prim.Native.Nat.{ℕ, suc, _+_, _-_, _≤_, _<_}
 use native.Mathlib.Omega.{arith}
 use lib.ListN.{length, take, drop, getD, set, length-set}
 use lib.Seq.{sets, length-sets, getD-set-same, getD-set-other}
 use Rattle.definitions.specs.Matching.{Qualified, qualified}
-use Rattle.definitions.specs.Search.{Search, one}
+use Rattle.definitions.specs.Search.{one}
 use Rattle.definitions.specs.Edit.{Change, alter, point}
-use Rattle.definitions.specs.Control.{Item, simple}
-use Rattle.definitions.specs.Reader.{Cursor, Got, got, refused, andThen}
-use Rattle.definitions.specs.Strings.{Pair, pair, qualifiedString, twoStrings}
-use Rattle.definitions.specs.Commands.{Decoded, whole, alters, points, alterOp, decode}
+use Rattle.definitions.specs.Control.{simple}
+use Rattle.definitions.specs.Reader.{Got, got, andThen}
+use Rattle.definitions.specs.Strings.{Pair, qualifiedString, twoStrings}
+use Rattle.definitions.specs.Commands.{whole, alters, points, alterOp, decode}
 use Rattle.matching.specs.Quals.{qualifiersOf}
 use Rattle.matching.specs.Words.{stringWords, Encodes, Writable}
 use Rattle.matching.specs.declared.Quals.{Quals}
 use Rattle.matching.proofs.Keeping.{string-encodes, kept-behind}
-use Rattle.reader.specs.Places.{cursorAt}
-use Rattle.strings.specs.Answers.{StringAt, Quoted, PairAt, Paired}
+use Rattle.lexer.specs.Places.{cursorAt}
+use Rattle.strings.specs.Answers.{StringAt, Quoted, Paired}
 use Rattle.strings.specs.declared.OneString.{OneString}
 use Rattle.strings.specs.declared.TwoStrings.{TwoStrings}
 use Rattle.strings.proofs.Callers.{string-not, string-at, string-is, pair-not, pair-at, pair-is, string-few, string-writable}
-use Rattle.script.specs.Words.{head, changeKind, pointKind, OpAt, ItemAt}
-use Rattle.script.specs.Depth.{openAfter}
-use Rattle.script.specs.Reading.{Room, Laid, Kept, KeptBy, CommandIs, Written}
+use Rattle.items.specs.Words.{head, OpAt, ItemAt, stringWord}
+use Rattle.items.specs.Kinds.{changeKind, pointKind}
+use Rattle.items.specs.Depth.{openAfter}
+use Rattle.script.specs.Reading.{CommandRoom, Unwritten, UnwrittenBy, CommandIs, CommandRead}
 use Rattle.script.specs.Commands.{refusedByString, refusedByPair}
 use Rattle.script.specs.declared.Command.{Command}
 use Rattle.script.proofs.Keeping.{kept-set}
@@ -47,11 +48,11 @@ sets-below : (vs l : List ℕ) (i j : ℕ) → j < i → getD (sets l i vs) j 0 
 sets-below [] l i j h = refl
 sets-below (a ∷ vs) l i j h = sets-below vs (set l i a) (suc i) j (omega arith) ∙ getD-set-other l i j a 0 (λ e. omega (arith, e))
 
-kept-sets : (vs : List ℕ) (k d i : ℕ) (w w' : List ℕ) → k ≤ i → i + length vs + d ≤ length w → Kept k d w w' → Kept k d w (sets w' i vs)
+kept-sets : (vs : List ℕ) (k d i : ℕ) (w w' : List ℕ) → k ≤ i → i + length vs + d ≤ length w → Unwritten k d w w' → Unwritten k d w (sets w' i vs)
 kept-sets [] k d i w w' le room h = h
 kept-sets (a ∷ vs) k d i w w' le room h = kept-sets vs k d (suc i) w (set w' i a) (omega arith) (omega arith) (kept-set k d i a w w' le (omega arith) h)
 
-module _ (s w : List ℕ) (place at k : ℕ) (r : Room s w place at k) where
+module _ (s w : List ℕ) (place at k : ℕ) (r : CommandRoom s w place at k) where
   -- ---- one string, from the second word on
 
   module _ (q : Quals) (start end next : ℕ) (stands : StringAt s at q start end next) where
@@ -73,7 +74,7 @@ module _ (s w : List ℕ) (place at k : ℕ) (r : Room s w place at k) where
       abbrev after : List ℕ
       after = sets (set w k v) (k + 1) written
 
-      pub string-stays : Kept k 16 w (sets (set w k v) (k + 1) (stringWords (qualifiersOf q) start (end - start)))
+      pub string-stays : Unwritten k 16 w (sets (set w k v) (k + 1) (stringWords (qualifiersOf q) start (end - start)))
       string-stays = kept-sets written k 16 (k + 1) w (set w k v) (omega arith) (omega (arith, string-room)) (one-stays w k v (omega (arith, string-room)))
 
       pub string-head : getD (sets (set w k v) (k + 1) (stringWords (qualifiersOf q) start (end - start))) k 0 ≡ v
@@ -88,7 +89,7 @@ module _ (s w : List ℕ) (place at k : ℕ) (r : Room s w place at k) where
   -- ---- PA and PB
 
   module _ (after : Bool) (x : OneString) (read : Quoted s at (qualifiedString false (cursorAt s at)) x) where
-    pub points-refused : (n p : ℕ) → x ≡ OneString.Refused n p → Written s w w place k (decode false place (points after) (cursorAt s at)) (Command.Refused n p)
+    pub points-refused : (n p : ℕ) → x ≡ OneString.Refused n p → CommandRead s w w place k (decode false place (points after) (cursorAt s at)) (Command.Refused n p)
     unfolding decode andThen
     points-refused n p is =
         refused-written s w w place k (decode false place (points after) (cursorAt s at)) n p
@@ -96,8 +97,8 @@ module _ (s w : List ℕ) (place at k : ℕ) (r : Room s w place at k) where
 
     pub points-written : (q : Quals) (start end next : ℕ) → x ≡ OneString.Next q start end next → (v m : ℕ) (w' : List ℕ) → v ≡ head (pointKind after) place
         → w' ≡ sets (set w k v) (k + 1) (stringWords (qualifiersOf q) start (end - start)) → m ≡ k + 1 + length (stringWords (qualifiersOf q) start (end - start))
-        → Written s w w' place k (decode false place (points after) (cursorAt s at)) (Command.Whole next m)
-    unfolding decode andThen ItemAt OpAt CommandIs KeptBy openAfter
+        → CommandRead s w w' place k (decode false place (points after) (cursorAt s at)) (Command.Whole next m)
+    unfolding decode andThen ItemAt OpAt CommandIs UnwrittenBy openAfter
     points-written q start end next is v m w' hd we me =
         let stands = string-at s at (qualifiedString false (cursorAt s at)) x read q start end next is in
         let few = string-few s at q start end next stands in
@@ -121,7 +122,7 @@ module _ (s w : List ℕ) (place at k : ℕ) (r : Room s w place at k) where
   -- ---- A, B, E, AP, BP, EP
 
   module _ (change : Change) (pointing : Bool) (x : TwoStrings) (read : Paired s at (twoStrings (cursorAt s at)) x) where
-    pub alters-refused : (n p : ℕ) → x ≡ TwoStrings.Refused n p → Written s w w place k (decode false place (alters change pointing) (cursorAt s at)) (Command.Refused n p)
+    pub alters-refused : (n p : ℕ) → x ≡ TwoStrings.Refused n p → CommandRead s w w place k (decode false place (alters change pointing) (cursorAt s at)) (Command.Refused n p)
     unfolding decode andThen
     alters-refused n p is =
         refused-written s w w place k (decode false place (alters change pointing) (cursorAt s at)) n p
@@ -130,9 +131,9 @@ module _ (s w : List ℕ) (place at k : ℕ) (r : Room s w place at k) where
     pub alters-written : (q : Quals) (start end second second-end next : ℕ) → x ≡ TwoStrings.Next q start end second second-end next → (v m u : ℕ) (w' : List ℕ)
         → v ≡ head (changeKind change pointing) place
         → w' ≡ sets (set w k v) (k + 1) (stringWords (qualifiersOf q) start (end - start)) → m ≡ k + 1 + length (stringWords (qualifiersOf q) start (end - start))
-        → u ≡ second + 32768 * (second-end - second)
-        → Written s w (set w' m u) place k (decode false place (alters change pointing) (cursorAt s at)) (Command.Whole next (m + 1))
-    unfolding decode andThen ItemAt OpAt CommandIs alterOp KeptBy openAfter
+        → u ≡ stringWord second (second-end - second)
+        → CommandRead s w (set w' m u) place k (decode false place (alters change pointing) (cursorAt s at)) (Command.Whole next (m + 1))
+    unfolding decode andThen ItemAt OpAt CommandIs alterOp UnwrittenBy openAfter
     alters-written q start end second second-end next is v m u w' hd we me wd =
         let stands = pair-at s at (twoStrings (cursorAt s at)) x read q start end second second-end next is in
         let few = string-few s at q start end second (stands .first) in

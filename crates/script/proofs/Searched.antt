@@ -2,35 +2,34 @@
 use mathlib.Core.Path.{_≡_, refl, sym, ap, _∙_, subst}
 use mathlib.Core.Logic.{_⊎_, inl, inr}
 use mathlib.Core.Bool.{Bool, true, false}
-use mathlib.Core.List.{List, [], _∷_, _++_}
-use Prim.Native.Nat.{ℕ, zero, suc, _+_, _-_, _*_, _≤_, _<_}
+use mathlib.Core.List.{List, _++_}
+use Prim.Native.Nat.{ℕ, _+_, _-_, _*_, _≤_, _<_}
 use native.Mathlib.Nat.{eq-or-lt-of-le}
 use native.Mathlib.Omega.{arith}
-use lib.ListN.{length, take, drop, getD, set, length-set, length-append, length-drop, List·getD-append}
+use lib.ListN.{length, take, drop, getD, set, length-append, length-drop, List·getD-append}
 use lib.Seq.{length-take-le, getD-take, getD-drop, getD-append-add}
 use Rattle.definitions.specs.Bytes.{isDigit}
 use Rattle.definitions.specs.Search.{Search}
-use Rattle.definitions.specs.Edit.{Test, is, isNot}
+use Rattle.definitions.specs.Edit.{is}
 use Rattle.definitions.specs.Control.{Seek, Item, seek, opens, branch, loop}
-use Rattle.definitions.specs.Reader.{Cursor, Got, got, refused, andThen}
+use Rattle.definitions.specs.Reader.{Got, got, refused, andThen}
 use Rattle.definitions.specs.Strings.{searchExpression}
-use Rattle.definitions.specs.Commands.{Decoded, whole, prefix, seeks, branches, loops, skipThen, testOf, decode}
-use Rattle.matching.specs.Words.{Encodes}
+use Rattle.definitions.specs.Commands.{whole, prefix, seeks, branches, loops, skipThen, testOf, decode}
 use Rattle.matching.proofs.Running.{forward}
 use Rattle.matching.proofs.Keeping.{kept-append, kept-ahead}
-use Rattle.reader.specs.Places.{cursorAt}
-use Rattle.reader.specs.Shapes.{seekOf}
-use Rattle.searches.specs.Parsing.{Room as SearchRoom, Written as SearchWritten, Parsed}
+use Rattle.lexer.specs.Places.{cursorAt}
+use Rattle.searches.specs.Parsing.{SearchRoom, SearchWritten}
 use Rattle.searches.specs.declared.Parse.{Parse}
-use Rattle.script.specs.Words.{head, seekKind, SearchAt, OpenerAt, ItemAt}
-use Rattle.script.specs.Depth.{openAfter}
-use Rattle.script.specs.Reading.{Room, Laid, Apart, Kept, KeptBy, CommandIs, Written}
-use Rattle.script.specs.Searches.{refusedSearch, branchKind, loopKind, Found, Searched}
+use Rattle.items.specs.Words.{head, SearchAt, OpenerAt, ItemAt}
+use Rattle.items.specs.Kinds.{seekKind, branchKind, loopKind, ifKind, unlessKind, whileKind, untilKind}
+use Rattle.items.specs.Depth.{openAfter}
+use Rattle.script.specs.Reading.{CommandRoom, Laid, Apart, Unwritten, UnwrittenBy, CommandIs, CommandRead}
+use Rattle.script.specs.Searches.{refusedSearch, Found, Searched}
 use Rattle.script.specs.declared.Command.{Command}
 use Rattle.script.proofs.Keeping.{kept-set}
 use Rattle.script.proofs.Items.{first-is, second-is, refused-written}
 
-module _ (s w : List ℕ) (place at k : ℕ) (r : Room s w place at k) where
+module _ (s w : List ℕ) (place at k : ℕ) (r : CommandRoom s w place at k) where
   pub search-room : SearchRoom s (take (length w - 16) w) at (k + 2)
   search-room =
       let len : length (take (length w - 16) w) ≡ length w - 16 = length-take-le (length w - 16) w (omega arith) in
@@ -65,7 +64,7 @@ module _ (s w : List ℕ) (place at k : ℕ) (r : Room s w place at k) where
           List·getD-append ys (drop (length w - 16) w) 0 j (omega (arith, count, near)) ∙ sym (getD-take (k + 2) ys j 0 less)
           ∙ ap (λ (l : List ℕ). getD l j 0) kept ∙ getD-take (k + 2) (take (length w - 16) w) j 0 less ∙ getD-take (length w - 16) w j 0 (omega (arith, near))
 
-      stays : Kept k 16 w (ys ++ drop (length w - 16) w)
+      stays : Unwritten k 16 w (ys ++ drop (length w - 16) w)
       stays = record { same-length = whole-length; below = λ j less. low j (omega arith); top = high }
 
       pub search-found : (next m v first : ℕ) (x : ℕ → Got Search) → v ≡ first → SearchWritten s (take (length w - 16) w) ys at (k + 2) 0 x next m
@@ -120,7 +119,7 @@ searched-refused s w w' at k first x a n p e h = rw e h
 
 -- ---- F, BF, DF; IF, UL; WH, UT
 
-module _ (s w w' : List ℕ) (place at k : ℕ) (r : Room s w place at k) (first : ℕ) (a : Parse)
+module _ (s w w' : List ℕ) (place at k : ℕ) (r : CommandRoom s w place at k) (first : ℕ) (a : Parse)
     (h : Searched s w w' at k first (searchExpression (cursorAt s at)) a) where
   module _ (next m : ℕ) (e : a ≡ Parse.Next next m) where
     pub found : Found s w w' at k first next m (searchExpression (cursorAt s at))
@@ -152,8 +151,8 @@ module _ (s w w' : List ℕ) (place at k : ℕ) (r : Room s w place at k) (first
     lies-at : (f : ℕ) → first ≡ f → SearchAt s w' k m f (found .search)
     lies-at f hd = subst (λ (y : ℕ). SearchAt s w' k m y (found .search)) hd (found .lies)
 
-    pub seeks-written : (f : Seek) → first ≡ head (seekKind f) place → Written s w w' place k (decode false place (seeks f) (cursorAt s at)) (Command.Whole next m)
-    unfolding decode andThen CommandIs KeptBy ItemAt openAfter
+    pub seeks-written : (f : Seek) → first ≡ head (seekKind f) place → CommandRead s w w' place k (decode false place (seeks f) (cursorAt s at)) (Command.Whole next m)
+    unfolding decode andThen CommandIs UnwrittenBy ItemAt openAfter
     seeks-written f hd = record {
       kept = found .kept;
       is = (
@@ -165,17 +164,17 @@ module _ (s w w' : List ℕ) (place at k : ℕ) (r : Room s w place at k) (first
 
     branch-item : (b : Bool) → first ≡ head (branchKind b) place → ItemAt s w' k m (opens place (branch (testOf b (found .search))))
     unfolding ItemAt OpenerAt branchKind testOf
-    branch-item true hd = lies-at (head 44 place) hd
-    branch-item false hd = lies-at (head 45 place) hd
+    branch-item true hd = lies-at (head ifKind place) hd
+    branch-item false hd = lies-at (head unlessKind place) hd
 
     loop-item : (b : Bool) → first ≡ head (loopKind b) place → ItemAt s w' k m (opens place (loop (testOf b (found .search))))
     unfolding ItemAt OpenerAt loopKind testOf
-    loop-item true hd = lies-at (head 47 place) hd
-    loop-item false hd = lies-at (head 48 place) hd
+    loop-item true hd = lies-at (head whileKind place) hd
+    loop-item false hd = lies-at (head untilKind place) hd
 
     pub branches-written : (b : Bool) (after : ℕ) → place + 2 ≤ at → first ≡ head (branchKind b) place → skipThen (cursorAt s next) ≡ cursorAt s after → next ≤ after → after ≤ length s
-        → Written s w w' place k (decode false place (branches b) (cursorAt s at)) (Command.Prefix true after m)
-    unfolding decode andThen CommandIs KeptBy openAfter
+        → CommandRead s w w' place k (decode false place (branches b) (cursorAt s at)) (Command.Prefix true after m)
+    unfolding decode andThen CommandIs UnwrittenBy openAfter
     branches-written b after long hd then from to = record {
       kept = found .kept;
       is = (
@@ -188,8 +187,8 @@ module _ (s w w' : List ℕ) (place at k : ℕ) (r : Room s w place at k) (first
     }
 
     pub loops-written : (b : Bool) → place + 2 ≤ at → first ≡ head (loopKind b) place
-        → Written s w w' place k (decode false place (loops b) (cursorAt s at)) (Command.Prefix false next m)
-    unfolding decode andThen CommandIs KeptBy openAfter
+        → CommandRead s w w' place k (decode false place (loops b) (cursorAt s at)) (Command.Prefix false next m)
+    unfolding decode andThen CommandIs UnwrittenBy openAfter
     loops-written b long hd = record {
       kept = found .kept;
       is = (
@@ -204,17 +203,17 @@ module _ (s w w' : List ℕ) (place at k : ℕ) (r : Room s w place at k) (first
     not-found : searchExpression (cursorAt s at) ≡ refused n p
     not-found = found-refused s w w' at k first (searchExpression (cursorAt s at)) a h n p e
 
-    pub seeks-refused : (f : Seek) → Written s w w' place k (decode false place (seeks f) (cursorAt s at)) (Command.Refused n p)
+    pub seeks-refused : (f : Seek) → CommandRead s w w' place k (decode false place (seeks f) (cursorAt s at)) (Command.Refused n p)
     unfolding decode andThen
     seeks-refused f = refused-written s w w' place k (decode false place (seeks f) (cursorAt s at)) n p
         (ap (λ (y : Got Search). andThen y (λ se c₁. got (whole (seek place f se)) c₁)) not-found)
 
-    pub branches-refused : (b : Bool) → Written s w w' place k (decode false place (branches b) (cursorAt s at)) (Command.Refused n p)
+    pub branches-refused : (b : Bool) → CommandRead s w w' place k (decode false place (branches b) (cursorAt s at)) (Command.Refused n p)
     unfolding decode andThen
     branches-refused b = refused-written s w w' place k (decode false place (branches b) (cursorAt s at)) n p
         (ap (λ (y : Got Search). andThen y (λ se c₁. got (prefix true (opens place (branch (testOf b se)))) (skipThen c₁))) not-found)
 
-    pub loops-refused : (b : Bool) → Written s w w' place k (decode false place (loops b) (cursorAt s at)) (Command.Refused n p)
+    pub loops-refused : (b : Bool) → CommandRead s w w' place k (decode false place (loops b) (cursorAt s at)) (Command.Refused n p)
     unfolding decode andThen
     loops-refused b = refused-written s w w' place k (decode false place (loops b) (cursorAt s at)) n p
         (ap (λ (y : Got Search). andThen y (λ se c₁. got (prefix false (opens place (loop (testOf b se)))) c₁)) not-found)

@@ -1,7 +1,7 @@
 -- Round after round: the reader of whole scripts. Assumes nothing.
-use mathlib.Core.Path.{_≡_, refl, sym, ap, _∙_, subst}
-use mathlib.Core.Bool.{Bool, true, false}
-use mathlib.Core.List.{List, [], _∷_}
+use mathlib.Core.Path.{_≡_, refl, sym, _∙_, subst}
+use mathlib.Core.Bool.{true, false}
+use mathlib.Core.List.{List, []}
 use Prim.Native.Nat.{ℕ, zero, suc, _+_, _-_, _*_, _≤_, _<_}
 use native.Mathlib.Nat.{not-suc-le-zero}
 use native.Mathlib.Numerals.{sub-one}
@@ -9,10 +9,11 @@ use native.Mathlib.Omega.{arith}
 use lib.ListN.{length}
 use Rattle.definitions.specs.Table.{isScript}
 use Rattle.definitions.specs.Control.{Item}
-use Rattle.definitions.specs.Script.{Reading, Script, items, refusedAt, Next, more, done, readOne, readAll, readScript}
+use Rattle.definitions.specs.Script.{Reading, Script, items, refusedAt, more, done, readOne, readAll, readScript}
 use Rattle.strings.proofs.Lines.{script-short}
-use Rattle.script.specs.Words.{ItemsAt, Gathered}
-use Rattle.script.specs.Reading.{dueOf, groupsIn, bodiesIn, readingOf, Fits, Stands, Comes, Reads}
+use Rattle.items.specs.Reserve.{ItemsReady}
+use Rattle.script.specs.Gathered.{Gathered}
+use Rattle.script.specs.Reading.{dueOf, groupsIn, bodiesIn, readingOf, ReadSoFar, RoundRead, ScriptRead}
 use Rattle.script.specs.declared.State.{State}
 use Rattle.script.specs.declared.Step.{Step}
 use Rattle.script.specs.declared.Decoded.{Decoded}
@@ -22,7 +23,7 @@ use Rattle.script.proofs.Affording.{affords-first}
 pub record Going (s w : List ℕ) (st : State) (x : Script) : Type 0 where
   pub rounds : ℕ
   pub acc : List Item
-  pub stands : Stands s w st acc
+  pub stands : ReadSoFar s w st acc
   pub enough : length s - st .at < rounds
   pub comes-to : readAll rounds (readingOf s w st acc) ≡ x
 
@@ -50,15 +51,15 @@ after-done zero r x pos e = absurd (not-suc-le-zero pos)
 after-done (suc n) r x pos e = rw (e, readAll)
 
 module _ (s w w' : List ℕ) (st : State) (x : Script) (g : Going s w st x) (r : Step)
-    (comes : (acc : List Item) → Stands s w st acc → Comes s w' (st .at) (readOne (readingOf s w st acc)) r) where
-  now-comes : {q : Step} → r ≡ q → Comes s w' (st .at) (readOne (readingOf s w st (g .acc))) q
-  now-comes e = subst (λ (q : Step). Comes s w' (st .at) (readOne (readingOf s w st (g .acc))) q) e (comes (g .acc) (g .stands))
+    (comes : (acc : List Item) → ReadSoFar s w st acc → RoundRead s w' (st .at) (readOne (readingOf s w st acc)) r) where
+  now-comes : {q : Step} → r ≡ q → RoundRead s w' (st .at) (readOne (readingOf s w st (g .acc))) q
+  now-comes e = subst (λ (q : Step). RoundRead s w' (st .at) (readOne (readingOf s w st (g .acc))) q) e (comes (g .acc) (g .stands))
 
   pub goes-on : (st' : State) → r ≡ Step.More st' → Going s w' st' x × (st .at < st' .at) × (st' .at ≤ length s)
-  unfolding Comes
+  unfolding RoundRead
   goes-on st' e = on (now-comes e)
     where
-      on : Comes s w' (st .at) (readOne (readingOf s w st (g .acc))) (Step.More st') → Going s w' st' x × (st .at < st' .at) × (st' .at ≤ length s)
+      on : RoundRead s w' (st .at) (readOne (readingOf s w st (g .acc))) (Step.More st') → Going s w' st' x × (st .at < st' .at) × (st' .at ≤ length s)
       on (acc', is, h, far) = (
         record {
           rounds = g .rounds - 1;
@@ -71,13 +72,23 @@ module _ (s w w' : List ℕ) (st : State) (x : Script) (g : Going s w st x) (r :
         h .inside,
       )
 
-  pub ends-done : (n : ℕ) → r ≡ Step.Done n → Reads s w' x (Decoded.Items n)
-  unfolding Comes Reads
+  pub ends-done : (n : ℕ) → r ≡ Step.Done n → ScriptRead s w' x (Decoded.Items n)
+  unfolding RoundRead ScriptRead
   ends-done n e = on (now-comes e)
     where
-      on : Comes s w' (st .at) (readOne (readingOf s w st (g .acc))) (Step.Done n) → Reads s w' x (Decoded.Items n)
-      on (is, e', lie, room, le) = (is, sym (g .comes-to) ∙ after-done (g .rounds) (readingOf s w st (g .acc)) (items is) (omega (arith, g .enough)) e', lie, room, le)
+      on : RoundRead s w' (st .at) (readOne (readingOf s w st (g .acc))) (Step.Done n) → ScriptRead s w' x (Decoded.Items n)
+      on (is, e', ready) = (is, sym (g .comes-to) ∙ after-done (g .rounds) (readingOf s w st (g .acc)) (items is) (omega (arith, g .enough)) e', ready)
 
-  pub ends-refused : (n p : ℕ) → r ≡ Step.Refused n p → Reads s w' x (Decoded.Refused n p)
-  unfolding Comes Reads
+  pub ends-refused : (n p : ℕ) → r ≡ Step.Refused n p → ScriptRead s w' x (Decoded.Refused n p)
+  unfolding RoundRead ScriptRead
   ends-refused n p e = sym (g .comes-to) ∙ after-done (g .rounds) (readingOf s w st (g .acc)) (refusedAt n p) (omega (arith, g .enough)) (now-comes e)
+
+-- what an answer says
+module _ (s w : List ℕ) (x : Script) (d : Decoded) (h : ScriptRead s w x d) where
+  pub read-items : (n : ℕ) → d ≡ Decoded.Items n → (is : List Item) × (x ≡ items is) × ItemsReady s w n is
+  unfolding ScriptRead
+  read-items n e = rw e at h
+
+  pub read-refused : (n p : ℕ) → d ≡ Decoded.Refused n p → x ≡ refusedAt n p
+  unfolding ScriptRead
+  read-refused n p e = rw e at h

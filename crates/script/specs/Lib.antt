@@ -1,5 +1,4 @@
-pub mod Words
-pub mod Depth
+pub mod Gathered
 pub mod Reading
 pub mod Placed
 pub mod Commands

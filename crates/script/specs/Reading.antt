@@ -1,6 +1,5 @@
 -- The reader's state: numbers, and the last words of the work area, which hold the open groups.
 use mathlib.Core.Path.{_≡_}
-use mathlib.Core.Logic.{_⊎_}
 use mathlib.Core.Bool.{Bool, true, false, cond}
 use mathlib.Core.List.{List, [], _∷_}
 use Prim.Native.Nat.{ℕ, zero, suc, _+_, _-_, _*_, _/_, _%_, _≤_, _<_}
@@ -9,12 +8,14 @@ use lib.Dec.{eqb, leb}
 use Rattle.definitions.specs.Bytes.{isDigit}
 use Rattle.definitions.specs.Control.{times, Item, opens}
 use Rattle.definitions.specs.Table.{isScript}
-use Rattle.definitions.specs.Reader.{Cursor, Got, got, refused, Word, word}
+use Rattle.definitions.specs.Reader.{Got, got, refused, Word, word}
 use Rattle.definitions.specs.Commands.{Decoded as Command-read, whole, prefix}
-use Rattle.definitions.specs.Script.{Due, nothing, body, Group, group, Reading, reading, Script, items, refusedAt, Next, more, done}
-use Rattle.reader.specs.Places.{cursorAt}
-use Rattle.script.specs.Words.{ItemAt, ItemsAt, Gathered}
-use Rattle.script.specs.Depth.{openAfter, deepest, openIn, mostIn}
+use Rattle.definitions.specs.Script.{Due, nothing, body, Group, group, Reading, reading, Script, items, refusedAt, Next, more, done, decoded}
+use Rattle.lexer.specs.Places.{cursorAt}
+use Rattle.items.specs.Words.{ItemAt}
+use Rattle.items.specs.Reserve.{ItemsReady}
+use Rattle.script.specs.Gathered.{Gathered, openIn, mostIn}
+use Rattle.items.specs.Depth.{openAfter}
 use Rattle.script.specs.declared.State.{State}
 use Rattle.script.specs.declared.Step.{Step}
 use Rattle.script.specs.declared.Command.{Command}
@@ -65,7 +66,7 @@ pub record Affords (s : List ℕ) (at k due others depth : ℕ) (acc : List Item
   pub spare : 0 < due → isDigit (getD s at 0) ≡ true → suc (k + due + others + most) ≤ 2 * at + 2 * depth
 
 -- the state stands for the reading with the items `acc`
-pub record Stands (s w : List ℕ) (st : State) (acc : List Item) : Type 0 where
+pub record ReadSoFar (s w : List ℕ) (st : State) (acc : List Item) : Type 0 where
   pub inside : st .at ≤ length s
   pub deep : st .depth ≤ 16
   pub gathered : Gathered s w (st .k) acc
@@ -73,21 +74,15 @@ pub record Stands (s w : List ℕ) (st : State) (acc : List Item) : Type 0 where
   pub fits : Fits s w
 
 -- the words below k and the last d stay
-pub record Kept (k d : ℕ) (w w' : List ℕ) : Type 0 where
+pub record Unwritten (k d : ℕ) (w w' : List ℕ) : Type 0 where
   pub same-length : length w' ≡ length w
   pub below : (j : ℕ) → j < k → getD w' j 0 ≡ getD w j 0
   pub top : (j : ℕ) → length w ≤ j + d → getD w' j 0 ≡ getD w j 0
 
--- n closes stand from k on, all else stays
-pub record Closed (k n : ℕ) (w w' : List ℕ) : Type 0 where
-  pub same-length : length w' ≡ length w
-  pub inside : (j : ℕ) → k ≤ j → j < k + n → getD w' j 0 ≡ 2
-  pub outside : (j : ℕ) → (j < k) ⊎ (k + n ≤ j) → getD w' j 0 ≡ getD w j 0
-
 -- ---- one command
 
 -- a command whose name stands at `place`, the next byte at `at`: its words go to k and on
-pub record Room (s w : List ℕ) (place at k : ℕ) : Type 0 where
+pub record CommandRoom (s w : List ℕ) (place at k : ℕ) : Type 0 where
   pub named : place < at
   pub inside : at ≤ length s
   pub room : k + 2 * (length s - place) ≤ 2 * length s + 32
@@ -113,14 +108,14 @@ CommandIs s w place k x (Command.Prefix e next m) = (i : Item) × (x ≡ got (pr
 CommandIs s w place k x (Command.Refused n p) = x ≡ refused n p
 
 -- a command that was read leaves the words before it, and those of the groups
-unfoldable pub KeptBy : Command → ℕ → List ℕ → List ℕ → Type 0
-KeptBy (Command.Whole next m) k w w' = Kept k 16 w w'
-KeptBy (Command.Prefix e next m) k w w' = Kept k 16 w w'
-KeptBy (Command.Refused n p) k w w' = Unit {0}
+unfoldable pub UnwrittenBy : Command → ℕ → List ℕ → List ℕ → Type 0
+UnwrittenBy (Command.Whole next m) k w w' = Unwritten k 16 w w'
+UnwrittenBy (Command.Prefix e next m) k w w' = Unwritten k 16 w w'
+UnwrittenBy (Command.Refused n p) k w w' = Unit {0}
 
 -- the answer r of the reader of a command, with the words before and after
-pub record Written (s w w' : List ℕ) (place k : ℕ) (x : Got Command-read) (r : Command) : Type 0 where
-  pub kept : KeptBy r k w w'
+pub record CommandRead (s w w' : List ℕ) (place k : ℕ) (x : Got Command-read) (r : Command) : Type 0 where
+  pub kept : UnwrittenBy r k w w'
   pub is : CommandIs s w' place k x r
 
 -- a repeat count at `place`
@@ -130,14 +125,49 @@ counted place (word n c) = cond (leb n 65535) (got (prefix false (opens place (t
 -- ---- one round
 
 -- the answer r of a round that began at place `at`, with the words after it
-unfoldable pub Comes : List ℕ → List ℕ → ℕ → Next → Step → Type 0
-Comes s w at x (Step.More st) = (acc : List Item) × (x ≡ more (readingOf s w st acc)) × Stands s w st acc × (at < st .at)
-Comes s w at x (Step.Done n) = (is : List Item) × (x ≡ done (items is)) × ItemsAt s w 0 n is × (n + deepest 0 is ≤ length w) × (n ≤ 65536)
-Comes s w at x (Step.Refused n p) = x ≡ done (refusedAt n p)
+unfoldable pub RoundRead : List ℕ → List ℕ → ℕ → Next → Step → Type 0
+RoundRead s w at x (Step.More st) = (acc : List Item) × (x ≡ more (readingOf s w st acc)) × ReadSoFar s w st acc × (at < st .at)
+RoundRead s w at x (Step.Done n) = (is : List Item) × (x ≡ done (items is)) × ItemsReady s w n is
+RoundRead s w at x (Step.Refused n p) = x ≡ done (refusedAt n p)
 
 -- ---- the whole script
 
--- the answer r of the reader, with the words after it: the items lie in the words from 0 on, and leave one word for each body open at once
-unfoldable pub Reads : List ℕ → List ℕ → Script → Decoded → Type 0
-Reads s w x (Decoded.Items n) = (is : List Item) × (x ≡ items is) × ItemsAt s w 0 n is × (n + deepest 0 is ≤ length w) × (n ≤ 65536)
-Reads s w x (Decoded.Refused n p) = x ≡ refusedAt n p
+-- the answer r of the reader, with the words after it: the items lie in the words from 0 on, and leave one word for each body open at once, and the reserve
+unfoldable pub ScriptRead : List ℕ → List ℕ → Script → Decoded → Type 0
+ScriptRead s w x (Decoded.Items n) = (is : List Item) × (x ≡ items is) × ItemsReady s w n is
+ScriptRead s w x (Decoded.Refused n p) = x ≡ refusedAt n p
+
+-- ---- what the functions of a round are handed, and what they answer
+
+-- the state stands for a reading of the script; of some script, before its end
+abbrev pub Halfway : List ℕ → List ℕ → State → Type 0
+Halfway s w st = (acc : List Item) × ReadSoFar s w st acc
+
+abbrev pub HalfwayIn : List ℕ → State → Type 0
+HalfwayIn w st = (s : List ℕ) × (acc : List Item) × ReadSoFar s w st acc × (st .at < length s)
+
+-- a round from the state st on, in which the words w become w′, answers `next` of what is due, of the open groups and of the items: of one script, or of any
+abbrev pub RoundOf : List ℕ → List ℕ → List ℕ → State → (Due → List Group → List Item → Next) → Step → Type 0
+RoundOf s w w′ st next r = (acc : List Item) → ReadSoFar s w st acc → RoundRead s w′ (st .at) (next (dueOf (st .due) (st .elses)) (groupsIn w (st .depth)) acc) r
+
+abbrev pub RoundIn : List ℕ → List ℕ → State → (List ℕ → Due → List Group → List Item → Next) → Step → Type 0
+RoundIn w w′ st next r =
+    (s : List ℕ) (acc : List Item) → ReadSoFar s w st acc → st .at < length s → RoundRead s w′ (st .at) (next s (dueOf (st .due) (st .elses)) (groupsIn w (st .depth)) acc) r
+
+-- reading goes on at a place, nothing due
+abbrev pub goesOn : List ℕ → ℕ → List Group → List Item → Next
+goesOn s at groups acc = more (reading (cursorAt s at) nothing groups acc)
+
+-- the groups around the innermost one
+abbrev pub outerGroups : List ℕ → State → List Group
+outerGroups w st = groupsIn w (st .depth - 1)
+
+-- the bodies of the innermost of d open groups
+abbrev pub bodiesAt : List ℕ → ℕ → ℕ
+bodiesAt w d = getD w (length w - d) 0 / 2
+
+-- the command that was read leads on from the state st
+abbrev pub Finishes : List ℕ → List ℕ → State → Command → Step → Type 0
+Finishes w w′ st c r =
+    (s before : List ℕ) (acc : List Item) (x : Got Command-read) → ReadSoFar s before st acc → CommandRead s before w (st .at) (st .k) x c
+    → RoundRead s w′ (st .at) (decoded (dueOf (st .due) (st .elses)) (groupsIn before (st .depth)) acc x) r

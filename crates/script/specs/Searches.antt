@@ -1,33 +1,24 @@
 -- A search expression in a command.
 use mathlib.Core.Path.{_≡_}
-use mathlib.Core.Bool.{Bool, true, false}
+use mathlib.Core.Bool.{true}
 use mathlib.Core.List.{List}
 use Prim.Native.Nat.{ℕ, suc, _+_, _-_, _*_, _≤_, _<_}
 use lib.ListN.{length, getD}
 use Rattle.definitions.specs.Bytes.{isDigit}
 use Rattle.definitions.specs.Reader.{Got, got, refused}
 use Rattle.definitions.specs.Search.{Search}
-use Rattle.reader.specs.Places.{cursorAt}
-use Rattle.reader.specs.declared.shapes.Shape.{Shape}
-use Rattle.reader.specs.declared.shapes.Shape.the-variants.{Plain, Leaves, Seeks, Moves, Deletes, InsertsString, InsertsLines, Replaces, Alters, Points, Repeats, Branches, BranchesEof, Loops, Unknown}
+use Rattle.lexer.specs.Places.{cursorAt}
+use Rattle.lexer.specs.declared.shapes.Shape.{Shape}
+use Rattle.lexer.specs.declared.shapes.Shape.the-variants.{Plain, Leaves, Seeks, Moves, Deletes, InsertsString, InsertsLines, Replaces, Alters, Points, Repeats, Branches, BranchesEof, Loops, Unknown}
 use Rattle.searches.specs.declared.Parse.{Parse}
-use Rattle.script.specs.Words.{SearchAt}
-use Rattle.script.specs.Reading.{Kept}
+use Rattle.items.specs.Words.{SearchAt}
+use Rattle.script.specs.Reading.{Unwritten}
 use Rattle.script.specs.declared.Command.{Command}
 
 -- a refusal of the search refuses the command; 0 is no number of a refusal
 unfoldable pub refusedSearch : Parse → Command
 refusedSearch (Parse.Next next m) = Command.Refused 0 next
 refusedSearch (Parse.Refused n p) = Command.Refused n p
-
--- IF and WH (true), UL and UT
-unfoldable pub branchKind : Bool → ℕ
-branchKind true = 44
-branchKind false = 45
-
-unfoldable pub loopKind : Bool → ℕ
-loopKind true = 47
-loopKind false = 48
 
 -- the names of prefixes have two letters at least
 unfoldable pub NameOf : Shape → ℕ → ℕ → Type 0
@@ -52,7 +43,7 @@ pub record Found (s w w' : List ℕ) (at k first next m : ℕ) (x : Got Search) 
   pub search : Search
   pub is : x ≡ got search (cursorAt s next)
   pub lies : SearchAt s w' k m first search
-  pub kept : Kept k 16 w w'
+  pub kept : Unwritten k 16 w w'
   pub forth : k + 2 ≤ m
   pub passed : at < next
   pub inside : next ≤ length s

@@ -7,29 +7,26 @@ pub mod qualified; // qualified.rt: commands with qualified strings
 pub mod reading; // reading.rt: the reader that carries its place
 pub mod rounds; // rounds.rt: separators, the end, and what a command comes to
 pub mod searching; // searching.rt: commands with a search expression
-pub mod words; // words.rt: first words, words and closes
 
 ghost use mathlib.Core.Path.{_≡_};
 ghost use mathlib.Core.Bool.{true};
-ghost use mathlib.Core.List.{List};
 ghost use Prim.Native.Nat.{_+_, _*_, _≤_, _<_};
 ghost use lib.ListN.{length, getD};
 ghost use Rattle.definitions.specs.Bytes.{isDigit};
 ghost use Rattle.definitions.specs.Table.{isScript};
 ghost use Rattle.definitions.specs.Reader.{digits};
-ghost use Rattle.definitions.specs.Control.{Item};
 ghost use Rattle.definitions.specs.Script.{countRead, readAt, readOne, readScript};
-ghost use Rattle.reader.specs.Places.{cursorAt};
-ghost use Rattle.script.specs.Reading.{dueOf, groupsIn, readingOf, Stands, Comes, Reads};
+ghost use Rattle.lexer.specs.Places.{cursorAt};
+ghost use Rattle.script.specs.Reading.{readingOf, Halfway, RoundOf, ScriptRead};
 use commands::count;
 use groups::close_group;
 use groups::open_group;
+use lexer::bytes::is_digit;
+use lexer::bytes::is_letter;
+use lexer::names::name;
+use lexer::spaces::skip_comment;
+use lexer::spaces::skip_spaces;
 use named::named;
-use reader::bytes::is_digit;
-use reader::bytes::is_letter;
-use reader::names::name;
-use reader::spaces::skip_comment;
-use reader::spaces::skip_spaces;
 use reading::round;
 use rounds::finish;
 use rounds::line_end;
@@ -73,8 +70,8 @@ pub enum Decoded {
 
 // A repeat count.
 fn counted(s: &[u8], w: &mut [u32], st: State) -> Step
-    requires { ⌜ ((acc : List Item) × Stands (now s) (now w) st acc) × (st .at < length (now s)) × (isDigit (getD (now s) (st .at) 0) ≡ true) ⌝ }
-    ensures { λ r. ⌜ ((acc : List Item) → Stands (now (s .entry)) (now (w .entry)) st acc → Comes (now (s .entry)) (now (w .exit)) (st .at) (countRead (dueOf (st .due) (st .elses)) (groupsIn (now (w .entry)) (st .depth)) acc (st .at) (digits (cursorAt (now (s .entry)) (st .at)))) r) ⌝ }
+    requires { ⌜ Halfway (now s) (now w) st × (st .at < length (now s)) × (isDigit (getD (now s) (st .at) 0) ≡ true) ⌝ }
+    ensures { λ r. ⌜ RoundOf (now (s .entry)) (now (w .entry)) (now (w .exit)) st (λ due groups acc. countRead due groups acc (st .at) (digits (cursorAt (now (s .entry)) (st .at)))) r ⌝ }
 {
     let c = count(s, w, st.k, st.at);
     finish(w, st, c)
@@ -82,8 +79,8 @@ fn counted(s: &[u8], w: &mut [u32], st: State) -> Step
 
 // Where a command may begin: the byte there says what it is.
 fn read_at(s: &[u8], w: &mut [u32], st: State) -> Step
-    requires { ⌜ ((acc : List Item) × Stands (now s) (now w) st acc) × (st .at < length (now s)) ⌝ }
-    ensures { λ r. ⌜ ((acc : List Item) → Stands (now (s .entry)) (now (w .entry)) st acc → Comes (now (s .entry)) (now (w .exit)) (st .at) (readAt (dueOf (st .due) (st .elses)) (groupsIn (now (w .entry)) (st .depth)) acc (cursorAt (now (s .entry)) (st .at))) r) ⌝ }
+    requires { ⌜ Halfway (now s) (now w) st × (st .at < length (now s)) ⌝ }
+    ensures { λ r. ⌜ RoundOf (now (s .entry)) (now (w .entry)) (now (w .exit)) st (λ due groups acc. readAt due groups acc (cursorAt (now (s .entry)) (st .at))) r ⌝ }
 {
     let at = st.at;
     let b = s[at];
@@ -114,8 +111,8 @@ fn read_at(s: &[u8], w: &mut [u32], st: State) -> Step
 
 // One round: a command, a prefix, a bracket or a separator; or the script's end.
 fn read_one(s: &[u8], w: &mut [u32], st: State) -> Step
-    requires { ⌜ ((acc : List Item) × Stands (now s) (now w) st acc) ⌝ }
-    ensures { λ r. ⌜ ((acc : List Item) → Stands (now (s .entry)) (now (w .entry)) st acc → Comes (now (s .entry)) (now (w .exit)) (st .at) (readOne (readingOf (now (s .entry)) (now (w .entry)) st acc)) r) ⌝ }
+    requires { ⌜ Halfway (now s) (now w) st ⌝ }
+    ensures { λ r. ⌜ RoundOf (now (s .entry)) (now (w .entry)) (now (w .exit)) st (λ due groups acc. readOne (readingOf (now (s .entry)) (now (w .entry)) st acc)) r ⌝ }
 {
     let at = skip_spaces(s, st.at);
     let mut here = st;
@@ -129,7 +126,7 @@ fn read_one(s: &[u8], w: &mut [u32], st: State) -> Step
 // Reads a script: its items go to the work area, from the first word on.
 pub fn read_script(s: &[u8], w: &mut [u32]) -> Decoded
     requires { ⌜ (isScript (now s) ≡ true) × (2 * length (now s) + 64 ≤ length (now w)) ⌝ }
-    ensures { λ r. ⌜ Reads (now (s .entry)) (now (w .exit)) (readScript (now (s .entry))) r ⌝ }
+    ensures { λ r. ⌜ ScriptRead (now (s .entry)) (now (w .exit)) (readScript (now (s .entry))) r ⌝ }
 {
     let mut st = State {
         at: 0,

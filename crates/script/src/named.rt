@@ -1,14 +1,12 @@
 // The command that a name selects: its arguments are read by its shape.
-ghost use mathlib.Core.List.{List};
 ghost use Prim.Native.Nat.{_+_, _≤_, _<_};
 ghost use lib.ListN.{length};
-ghost use Rattle.definitions.specs.Control.{Item};
 ghost use Rattle.definitions.specs.Reader.{word};
 ghost use Rattle.definitions.specs.Commands.{decode as «decode-of»};
 ghost use Rattle.definitions.specs.Script.{named as «named-of»};
-ghost use Rattle.reader.specs.Places.{cursorAt};
-ghost use Rattle.reader.specs.Shapes.{shapeIn};
-ghost use Rattle.script.specs.Reading.{dueOf, groupsIn, Stands, Room, Written, Comes};
+ghost use Rattle.lexer.specs.Places.{cursorAt};
+ghost use Rattle.lexer.specs.Shapes.{shapeIn};
+ghost use Rattle.script.specs.Reading.{CommandRoom, CommandRead, Halfway, RoundOf};
 ghost use Rattle.script.specs.Searches.{NameOf};
 use crate::Command;
 use crate::State;
@@ -27,9 +25,12 @@ use crate::rounds::finish;
 use crate::searching::branches;
 use crate::searching::loops;
 use crate::searching::seeks;
-use reader::shapes::Shape;
-use reader::shapes::command;
-use reader::words::skip_then;
+use items::kinds::AGP;
+use items::kinds::IF_EOF;
+use items::kinds::REPEAT;
+use lexer::shapes::Shape;
+use lexer::shapes::command;
+use lexer::words::skip_then;
 
 // The command whose name stands at `place`; its arguments begin at `at`.
 fn decode(
@@ -41,12 +42,12 @@ fn decode(
     shape: Shape,
     grouped: bool,
 ) -> Command
-    requires { ⌜ Room (now s) (now w) place at k × NameOf shape place at ⌝ }
-    ensures { λ r. ⌜ Written (now (s .entry)) (now (w .entry)) (now (w .exit)) place k («decode-of» grouped place (shapeIn shape) (cursorAt (now (s .entry)) at)) r ⌝ }
+    requires { ⌜ CommandRoom (now s) (now w) place at k × NameOf shape place at ⌝ }
+    ensures { λ r. ⌜ CommandRead (now (s .entry)) (now (w .entry)) (now (w .exit)) place k («decode-of» grouped place (shapeIn shape) (cursorAt (now (s .entry)) at)) r ⌝ }
 {
     match shape {
         Shape::Plain(p) => whole_word(w, k, plain_kind(p), place, at),
-        Shape::Leaves => whole_word(w, k, 4, place, at),
+        Shape::Leaves => whole_word(w, k, AGP, place, at),
         Shape::Seeks(f) => seeks(s, w, k, place, at, f),
         Shape::Moves => moves(s, w, k, place, at),
         Shape::Deletes => deletes(s, w, k, place, at),
@@ -55,9 +56,9 @@ fn decode(
         Shape::Replaces => replaces(s, w, k, place, at, grouped),
         Shape::Alters(change, pointing) => alters(s, w, k, place, at, change, pointing),
         Shape::Points(after) => points(s, w, k, place, at, after),
-        Shape::Repeats => prefix_word(w, k, 42, place, at, false),
+        Shape::Repeats => prefix_word(w, k, REPEAT, place, at, false),
         Shape::Branches(holds) => branches(s, w, k, place, at, holds),
-        Shape::BranchesEof => prefix_word(w, k, 46, place, skip_then(s, at), true),
+        Shape::BranchesEof => prefix_word(w, k, IF_EOF, place, skip_then(s, at), true),
         Shape::Loops(holds) => loops(s, w, k, place, at, holds),
         Shape::Unknown => Command::Refused(2, place),
     }
@@ -65,8 +66,8 @@ fn decode(
 
 // A command with this name, which stands at the state's place and ends at `next`.
 pub fn named(s: &[u8], w: &mut [u32], st: State, letters: u32, next: usize) -> Step
-    requires { ⌜ ((acc : List Item) × Stands (now s) (now w) st acc) × (st .at < next) × (next ≤ length (now s)) × (256 ≤ letters → st .at + 2 ≤ next) ⌝ }
-    ensures { λ r. ⌜ ((acc : List Item) → Stands (now (s .entry)) (now (w .entry)) st acc → Comes (now (s .entry)) (now (w .exit)) (st .at) («named-of» (dueOf (st .due) (st .elses)) (groupsIn (now (w .entry)) (st .depth)) acc (st .at) (word letters (cursorAt (now (s .entry)) next))) r) ⌝ }
+    requires { ⌜ Halfway (now s) (now w) st × (st .at < next) × (next ≤ length (now s)) × (256 ≤ letters → st .at + 2 ≤ next) ⌝ }
+    ensures { λ r. ⌜ RoundOf (now (s .entry)) (now (w .entry)) (now (w .exit)) st (λ due groups acc. «named-of» due groups acc (st .at) (word letters (cursorAt (now (s .entry)) next))) r ⌝ }
 {
     let shape = command(letters);
     let c = decode(s, w, st.k, st.at, next, shape, st.depth != 0);

@@ -3,16 +3,24 @@ ghost use mathlib.Core.Path.{_≡_};
 ghost use mathlib.Core.Bool.{false};
 ghost use Prim.Native.Nat.{_<_};
 ghost use Rattle.definitions.specs.Commands.{alters as «alters-shape», points as «points-shape», decode as «decode-of»};
-ghost use Rattle.reader.specs.Places.{cursorAt};
-ghost use Rattle.reader.specs.Shapes.{changeOf};
-ghost use Rattle.script.specs.Words.{changeKind, pointKind};
-ghost use Rattle.script.specs.Reading.{Room, Written};
+ghost use Rattle.lexer.specs.Places.{cursorAt};
+ghost use Rattle.lexer.specs.Shapes.{changeOf};
+ghost use Rattle.items.specs.Kinds.{changeKind, pointKind};
+ghost use Rattle.script.specs.Reading.{CommandRoom, CommandRead};
 ghost use Rattle.script.specs.Commands.{refusedByString, refusedByPair};
 use crate::Command;
-use crate::inserts::string_word;
-use crate::words::head;
+use items::arguments::string_word;
+use items::heads::head;
+use items::kinds::AFTER;
+use items::kinds::AFTER_POINTING;
+use items::kinds::BEFORE;
+use items::kinds::BEFORE_POINTING;
+use items::kinds::EXCHANGE;
+use items::kinds::EXCHANGE_POINTING;
+use items::kinds::POINT_AFTER;
+use items::kinds::POINT_BEFORE;
+use lexer::shapes::Change;
 use matching::search::put_string;
-use reader::shapes::Change;
 use strings::OneString;
 use strings::TwoStrings;
 use strings::qualified_string;
@@ -50,12 +58,18 @@ fn refusal_pair(both: TwoStrings) -> Command
 }
 
 fn change_kind(change: Change, pointing: bool) -> u32
-    ensures { λ r. ⌜ (r ≡ changeKind (changeOf change) pointing) × (r < 64) ⌝ }
+    ensures { λ r. ⌜ (r ≡ changeKind (changeOf change) pointing) × (r < 256) ⌝ }
 {
     match change {
-        Change::After => { if pointing { 25 } else { 24 } }
-        Change::Before => { if pointing { 27 } else { 26 } }
-        Change::Exchange => { if pointing { 29 } else { 28 } }
+        Change::After => { if pointing { AFTER_POINTING } else { AFTER } }
+        Change::Before => { if pointing { BEFORE_POINTING } else { BEFORE } }
+        Change::Exchange => {
+            if pointing {
+                EXCHANGE_POINTING
+            } else {
+                EXCHANGE
+            }
+        }
     }
 }
 
@@ -69,8 +83,8 @@ pub fn alters(
     change: Change,
     pointing: bool,
 ) -> Command
-    requires { ⌜ Room (now s) (now w) place at k ⌝ }
-    ensures { λ r. ⌜ Written (now (s .entry)) (now (w .entry)) (now (w .exit)) place k («decode-of» false place («alters-shape» (changeOf change) pointing) (cursorAt (now (s .entry)) at)) r ⌝ }
+    requires { ⌜ CommandRoom (now s) (now w) place at k ⌝ }
+    ensures { λ r. ⌜ CommandRead (now (s .entry)) (now (w .entry)) (now (w .exit)) place k («decode-of» false place («alters-shape» (changeOf change) pointing) (cursorAt (now (s .entry)) at)) r ⌝ }
 {
     let both = two_strings(s, at);
     let TwoStrings::Next {
@@ -91,15 +105,15 @@ pub fn alters(
 }
 
 fn point_kind(after: bool) -> u32
-    ensures { λ r. ⌜ (r ≡ pointKind after) × (r < 64) ⌝ }
+    ensures { λ r. ⌜ (r ≡ pointKind after) × (r < 256) ⌝ }
 {
-    if after { 30 } else { 31 }
+    if after { POINT_AFTER } else { POINT_BEFORE }
 }
 
 // PA (true), PB: a qualified string.
 pub fn points(s: &[u8], w: &mut [u32], k: usize, place: usize, at: usize, after: bool) -> Command
-    requires { ⌜ Room (now s) (now w) place at k ⌝ }
-    ensures { λ r. ⌜ Written (now (s .entry)) (now (w .entry)) (now (w .exit)) place k («decode-of» false place («points-shape» after) (cursorAt (now (s .entry)) at)) r ⌝ }
+    requires { ⌜ CommandRoom (now s) (now w) place at k ⌝ }
+    ensures { λ r. ⌜ CommandRead (now (s .entry)) (now (w .entry)) (now (w .exit)) place k («decode-of» false place («points-shape» after) (cursorAt (now (s .entry)) at)) r ⌝ }
 {
     let string = qualified_string(s, at, false);
     let OneString::Next {

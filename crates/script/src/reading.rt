@@ -1,12 +1,10 @@
 // The reader that carries its place: a script, and the offset of its next byte. Thin: the work is done on the slice and numbers.
 ghost use mathlib.Core.Path.{_≡_};
-ghost use mathlib.Core.List.{List};
 ghost use Prim.Native.Nat.{_-_, _≤_};
 ghost use lib.ListN.{length};
-ghost use Rattle.definitions.specs.Control.{Item};
 ghost use Rattle.definitions.specs.Script.{readOne};
-ghost use Rattle.script.specs.Reading.{readingOf, Stands, Comes};
-ghost use Rattle.script.specs.Placed.{standing, placeAfter, movedTo};
+ghost use Rattle.script.specs.Reading.{readingOf, Halfway, RoundOf};
+ghost use Rattle.script.specs.Placed.{standing, placeAfter, movedBy, RoundAt};
 use crate::State;
 use crate::Step;
 use crate::read_one;
@@ -40,8 +38,8 @@ pub fn left<'a>(r: Reader<'a>) -> usize
 
 // A round at a place, whatever the place of the state.
 fn read_from(s: &[u8], at: usize, w: &mut [u32], st: State) -> Step
-    requires { ⌜ ((acc : List Item) × Stands (now s) (now w) (standing st at) acc) ⌝ }
-    ensures { λ r. ⌜ ((acc : List Item) → Stands (now (s .entry)) (now (w .entry)) (standing st at) acc → Comes (now (s .entry)) (now (w .exit)) at (readOne (readingOf (now (s .entry)) (now (w .entry)) (standing st at) acc)) r) ⌝ }
+    requires { ⌜ Halfway (now s) (now w) (standing st at) ⌝ }
+    ensures { λ r. ⌜ RoundAt (now (s .entry)) (now (w .entry)) (now (w .exit)) at st r ⌝ }
 {
     let mut here = st;
     here.at = at;
@@ -61,8 +59,8 @@ fn place_after(at: usize, step: Step) -> usize
 
 // Reads the next round and moves on.
 pub fn read_next<'s, 'a, 'w>(r: &'s mut Reader<'a>, w: &'w mut [u32], st: State) -> Step
-    requires { ⌜ ((acc : List Item) × Stands (now (now r .script)) (now w) (standing st (now r .at)) acc) ⌝ }
-    ensures { λ q. ⌜ (now (r .exit) ≡ movedTo (now (r .entry)) (placeAfter (now (r .entry) .at) q)) × ((acc : List Item) → Stands (now (now (r .entry) .script)) (now (w .entry)) (standing st (now (r .entry) .at)) acc → Comes (now (now (r .entry) .script)) (now (w .exit)) (now (r .entry) .at) (readOne (readingOf (now (now (r .entry) .script)) (now (w .entry)) (standing st (now (r .entry) .at)) acc)) q) ⌝ }
+    requires { ⌜ Halfway (now (now r .script)) (now w) (standing st (now r .at)) ⌝ }
+    ensures { λ q. ⌜ (now (r .exit) ≡ movedBy (now (r .entry)) q) × RoundAt (now (now (r .entry) .script)) (now (w .entry)) (now (w .exit)) (now (r .entry) .at) st q ⌝ }
 {
     let at = r.at;
     let step = read_from(r.script, at, w, st);
@@ -72,8 +70,8 @@ pub fn read_next<'s, 'a, 'w>(r: &'s mut Reader<'a>, w: &'w mut [u32], st: State)
 
 // One round, by a reader at the state's place.
 pub fn round(s: &[u8], w: &mut [u32], st: State) -> Step
-    requires { ⌜ ((acc : List Item) × Stands (now s) (now w) st acc) ⌝ }
-    ensures { λ r. ⌜ ((acc : List Item) → Stands (now (s .entry)) (now (w .entry)) st acc → Comes (now (s .entry)) (now (w .exit)) (st .at) (readOne (readingOf (now (s .entry)) (now (w .entry)) st acc)) r) ⌝ }
+    requires { ⌜ Halfway (now s) (now w) st ⌝ }
+    ensures { λ r. ⌜ RoundOf (now (s .entry)) (now (w .entry)) (now (w .exit)) st (λ due groups acc. readOne (readingOf (now (s .entry)) (now (w .entry)) st acc)) r ⌝ }
 {
     let mut r = reader_at(s, st.at);
     read_next(&mut r, w, st)

@@ -4,22 +4,30 @@ ghost use mathlib.Core.Bool.{false};
 ghost use Prim.Native.Nat.{_+_, _≤_, _<_};
 ghost use Rattle.definitions.specs.Strings.{searchExpression};
 ghost use Rattle.definitions.specs.Commands.{seeks as «seeks-shape», branches as «branches-shape», loops as «loops-shape», decode as «decode-of»};
-ghost use Rattle.reader.specs.Places.{cursorAt};
-ghost use Rattle.reader.specs.Shapes.{seekOf};
-ghost use Rattle.script.specs.Words.{head as «head-of», seekKind};
-ghost use Rattle.script.specs.Reading.{Room, Written};
-ghost use Rattle.script.specs.Searches.{refusedSearch, branchKind, loopKind, Searched};
+ghost use Rattle.lexer.specs.Places.{cursorAt};
+ghost use Rattle.lexer.specs.Shapes.{seekOf};
+ghost use Rattle.items.specs.Kinds.{seekKind, branchKind, loopKind};
+ghost use Rattle.items.specs.Words.{head as «head-of»};
+ghost use Rattle.script.specs.Reading.{CommandRoom, CommandRead};
+ghost use Rattle.script.specs.Searches.{refusedSearch, Searched};
 use crate::Command;
-use crate::words::head;
-use crate::words::put_two;
-use reader::shapes::Seek;
-use reader::words::skip_then;
+use items::heads::head;
+use items::kinds::FIND;
+use items::kinds::FIND_BACK;
+use items::kinds::FIND_DELETE;
+use items::kinds::IF;
+use items::kinds::UNLESS;
+use items::kinds::UNTIL;
+use items::kinds::WHILE;
+use items::puts::put_two;
+use lexer::shapes::Seek;
+use lexer::words::skip_then;
 use searches::Parse;
 use searches::search;
 
 // The first word, where the search ends, and the search. The groups' words are kept from it.
 fn search_words(s: &[u8], w: &mut [u32], k: usize, place: usize, at: usize, kind: u32) -> Parse
-    requires { ⌜ Room (now s) (now w) place at k × (kind < 64) ⌝ }
+    requires { ⌜ CommandRoom (now s) (now w) place at k × (kind < 256) ⌝ }
     ensures { λ r. ⌜ Searched (now (s .entry)) (now (w .entry)) (now (w .exit)) at k («head-of» kind place) (searchExpression (cursorAt (now (s .entry)) at)) r ⌝ }
 {
     let limit = w.len() - 16;
@@ -42,19 +50,19 @@ fn refusal(found: Parse) -> Command
 }
 
 fn seek_kind(seek: Seek) -> u32
-    ensures { λ r. ⌜ (r ≡ seekKind (seekOf seek)) × (r < 64) ⌝ }
+    ensures { λ r. ⌜ (r ≡ seekKind (seekOf seek)) × (r < 256) ⌝ }
 {
     match seek {
-        Seek::Forward => 32,
-        Seek::Backward => 33,
-        Seek::Deleting => 34,
+        Seek::Forward => FIND,
+        Seek::Backward => FIND_BACK,
+        Seek::Deleting => FIND_DELETE,
     }
 }
 
 // F, BF, DF.
 pub fn seeks(s: &[u8], w: &mut [u32], k: usize, place: usize, at: usize, seek: Seek) -> Command
-    requires { ⌜ Room (now s) (now w) place at k ⌝ }
-    ensures { λ r. ⌜ Written (now (s .entry)) (now (w .entry)) (now (w .exit)) place k («decode-of» false place («seeks-shape» (seekOf seek)) (cursorAt (now (s .entry)) at)) r ⌝ }
+    requires { ⌜ CommandRoom (now s) (now w) place at k ⌝ }
+    ensures { λ r. ⌜ CommandRead (now (s .entry)) (now (w .entry)) (now (w .exit)) place k («decode-of» false place («seeks-shape» (seekOf seek)) (cursorAt (now (s .entry)) at)) r ⌝ }
 {
     let found = search_words(s, w, k, place, at, seek_kind(seek));
     let Parse::Next(next, m) = found else {
@@ -64,15 +72,15 @@ pub fn seeks(s: &[u8], w: &mut [u32], k: usize, place: usize, at: usize, seek: S
 }
 
 fn branch_kind(holds: bool) -> u32
-    ensures { λ r. ⌜ (r ≡ branchKind holds) × (r < 64) ⌝ }
+    ensures { λ r. ⌜ (r ≡ branchKind holds) × (r < 256) ⌝ }
 {
-    if holds { 44 } else { 45 }
+    if holds { IF } else { UNLESS }
 }
 
 // IF (true), UL: THEN may follow.
 pub fn branches(s: &[u8], w: &mut [u32], k: usize, place: usize, at: usize, holds: bool) -> Command
-    requires { ⌜ Room (now s) (now w) place at k × (place + 2 ≤ at) ⌝ }
-    ensures { λ r. ⌜ Written (now (s .entry)) (now (w .entry)) (now (w .exit)) place k («decode-of» false place («branches-shape» holds) (cursorAt (now (s .entry)) at)) r ⌝ }
+    requires { ⌜ CommandRoom (now s) (now w) place at k × (place + 2 ≤ at) ⌝ }
+    ensures { λ r. ⌜ CommandRead (now (s .entry)) (now (w .entry)) (now (w .exit)) place k («decode-of» false place («branches-shape» holds) (cursorAt (now (s .entry)) at)) r ⌝ }
 {
     let found = search_words(s, w, k, place, at, branch_kind(holds));
     let Parse::Next(next, m) = found else {
@@ -82,15 +90,15 @@ pub fn branches(s: &[u8], w: &mut [u32], k: usize, place: usize, at: usize, hold
 }
 
 fn loop_kind(holds: bool) -> u32
-    ensures { λ r. ⌜ (r ≡ loopKind holds) × (r < 64) ⌝ }
+    ensures { λ r. ⌜ (r ≡ loopKind holds) × (r < 256) ⌝ }
 {
-    if holds { 47 } else { 48 }
+    if holds { WHILE } else { UNTIL }
 }
 
 // WH (true), UT.
 pub fn loops(s: &[u8], w: &mut [u32], k: usize, place: usize, at: usize, holds: bool) -> Command
-    requires { ⌜ Room (now s) (now w) place at k × (place + 2 ≤ at) ⌝ }
-    ensures { λ r. ⌜ Written (now (s .entry)) (now (w .entry)) (now (w .exit)) place k («decode-of» false place («loops-shape» holds) (cursorAt (now (s .entry)) at)) r ⌝ }
+    requires { ⌜ CommandRoom (now s) (now w) place at k × (place + 2 ≤ at) ⌝ }
+    ensures { λ r. ⌜ CommandRead (now (s .entry)) (now (w .entry)) (now (w .exit)) place k («decode-of» false place («loops-shape» holds) (cursorAt (now (s .entry)) at)) r ⌝ }
 {
     let found = search_words(s, w, k, place, at, loop_kind(holds));
     let Parse::Next(next, m) = found else {

@@ -8,10 +8,10 @@ use lib.ListN.{length}
 use Rattle.definitions.specs.Reader.{Got, refused}
 use Rattle.definitions.specs.Search.{Search}
 use Rattle.definitions.specs.Strings.{operator}
-use Rattle.reader.specs.Places.{cursorAt}
+use Rattle.lexer.specs.Places.{cursorAt}
 use Rattle.searches.specs.declared.Parse.{Parse}
 use Rattle.searches.specs.declared.Right.{Right}
-use Rattle.searches.specs.Parsing.{rightOf, RightOn, Written, Parsed}
+use Rattle.searches.specs.Parsing.{rightOf, RightOn, SearchWritten, Parsed}
 
 -- ---- a search
 
@@ -19,7 +19,7 @@ never : (next m e p : ℕ) → Parse.Next next m ≡ Parse.Refused e p → ⊥
 never next m e p h = let z : _≡_ {A = ℕ} 0 1 = cc in omega arith
 
 module _ {s u w : List ℕ} {at k bound : ℕ} {x : ℕ → Got Search} where
-  pub is-read : {r : Parse} {next m : ℕ} → r ≡ Parse.Next next m → Written s u w at k bound x next m → Parsed s u w at k bound x r
+  pub is-read : {r : Parse} {next m : ℕ} → r ≡ Parse.Next next m → SearchWritten s u w at k bound x next m → Parsed s u w at k bound x r
   is-read {next = next} {m = m} is written = record {
     reads = λ next′ m′ h.
         let a : next ≡ next′ = cc in

@@ -8,15 +8,15 @@ use native.Mathlib.Omega.{arith}
 use lib.ListN.{length, take, getD, set, length-set}
 use lib.Seq.{take-take, take-set-le}
 use Rattle.definitions.specs.Bytes.{isDigit}
-use Rattle.definitions.specs.Reader.{Cursor, Got, refused}
+use Rattle.definitions.specs.Reader.{Cursor, Got}
 use Rattle.definitions.specs.Search.{Search}
 use Rattle.definitions.specs.Strings.{operator}
 use Rattle.matching.specs.Words.{Encodes}
 use Rattle.matching.proofs.Running.{forward}
 use Rattle.matching.proofs.Keeping.{kept-take}
-use Rattle.reader.specs.Places.{cursorAt}
+use Rattle.lexer.specs.Places.{cursorAt}
 use Rattle.searches.specs.declared.Parse.{Parse}
-use Rattle.searches.specs.Parsing.{Room, Written, Parsed}
+use Rattle.searches.specs.Parsing.{SearchRoom, SearchWritten, Parsed}
 use Rattle.searches.proofs.Answering.{is-read, is-refused, Operated}
 use Rattle.searches.proofs.Steps.{Joint}
 
@@ -44,7 +44,7 @@ module _ {s : List ℕ} {op kind : ℕ} {right whole : ℕ → Cursor → Got Se
       is-refused is (λ n h. joint .opens-not n (cursorAt s at) e p (omega arith) (parsed .refuses e p is (n - 1) (omega arith)))
 
   -- the first part is read
-  pub begins : {u w : List ℕ} {i m : ℕ} → Written s u w at k (3 * (length s - at) + need) (λ n. right n (cursorAt s at)) i m → Joined s w w at k bound whole more i m
+  pub begins : {u w : List ℕ} {i m : ℕ} → SearchWritten s u w at k (3 * (length s - at) + need) (λ n. right n (cursorAt s at)) i m → Joined s w w at k bound whole more i m
   begins {i = i} first = record {
     search = first .search;
     rest = λ n h. (
@@ -80,7 +80,7 @@ module _ {s : List ℕ} {op kind : ℕ} {right whole : ℕ → Cursor → Got Se
 
     module _ {next : ℕ} (operates : Operated s op i next) where
       -- there is room for the right part, whose words begin after the word between the parts
-      pub right-room : {u : List ℕ} → Room s u at k → length first ≡ length u → Room s w next (m + 1)
+      pub right-room : {u : List ℕ} → SearchRoom s u at k → length first ≡ length u → SearchRoom s w next (m + 1)
       right-room room same = record {
         form = room .form;
         inside = operates .within;
@@ -97,7 +97,7 @@ module _ {s : List ℕ} {op kind : ℕ} {right whole : ℕ → Cursor → Got Se
             (parsed .refuses e p is (on .0 - 1) (omega (arith, on .1, operates .after, operates .within))))
 
         module _ {past end : ℕ} (is : r ≡ Parse.Next past end) where
-          second : Written s w w₂ next (m + 1) (3 * (length s - next) + need) (λ n. right n (cursorAt s next)) past end
+          second : SearchWritten s w w₂ next (m + 1) (3 * (length s - next) + need) (λ n. right n (cursorAt s next)) past end
           second = parsed .reads past end is
 
           -- the loop goes on after the right part
@@ -108,7 +108,7 @@ module _ {s : List ℕ} {op kind : ℕ} {right whole : ℕ → Cursor → Got Se
           pub between : m < length w₂
           between = let on = forward s w₂ (m + 1) end (second .search) (second .encodes) in omega (arith, on .0, on .1)
 
-          pub end-fits : {u : List ℕ} → Room s u at k → end ≤ 1073741823
+          pub end-fits : {u : List ℕ} → SearchRoom s u at k → end ≤ 1073741823
           end-fits room = omega (arith, room .fits, joined .room, second .room, operates .after, operates .within, second .within)
 
           pub joins : length w₂ ≡ length w → Joined s first (set w₂ m (4 * end + kind)) at k bound whole more past end

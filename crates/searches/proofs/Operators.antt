@@ -9,10 +9,10 @@ use borrow.Author.Tests.{eq-eqb, ne-eqb}
 use Rattle.definitions.specs.Reader.{placeAt, bytesLeft, nextByte, skipSpaces, skipBlank}
 use Rattle.definitions.specs.Search.{Search}
 use Rattle.definitions.specs.Strings.{closing, operator}
-use Rattle.reader.specs.Places.{cursorAt}
-use Rattle.reader.specs.Answers.{answers}
-use Rattle.reader.specs.declared.Answer.{Answer}
-use Rattle.reader.proofs.AtPlace.{is-next, not-next, next-in, next-end, after-in, next-inside}
+use Rattle.lexer.specs.Places.{cursorAt}
+use Rattle.lexer.specs.Answers.{answers}
+use Rattle.lexer.specs.declared.Answer.{Answer}
+use Rattle.lexer.proofs.AtPlace.{is-next, not-next, next-in, next-end, after-in, next-inside}
 use Rattle.searches.specs.declared.Right.{Right}
 use Rattle.searches.specs.Parsing.{rightOf, RightOn, CloseOn}
 

@@ -8,12 +8,12 @@ use lib.ListN.{length, drop, length-drop}
 use Rattle.definitions.specs.Reader.{placeAt, bytesLeft, nextByte, afterByte, isNext, skipSpaces}
 use Rattle.definitions.specs.Search.{Search}
 use Rattle.definitions.specs.Strings.{closing, part, alternatives, searchExpression}
-use Rattle.reader.specs.Places.{cursorAt}
-use Rattle.reader.specs.Answers.{answers}
-use Rattle.reader.specs.declared.Answer.{Answer}
-use Rattle.reader.proofs.AtPlace.{is-next, not-next, after-in, next-inside}
+use Rattle.lexer.specs.Places.{cursorAt}
+use Rattle.lexer.specs.Answers.{answers}
+use Rattle.lexer.specs.declared.Answer.{Answer}
+use Rattle.lexer.proofs.AtPlace.{is-next, not-next, after-in, next-inside}
 use Rattle.searches.specs.declared.Parse.{Parse}
-use Rattle.searches.specs.Parsing.{CloseOn, closedOf, stringPart, Room, Written, Parsed}
+use Rattle.searches.specs.Parsing.{CloseOn, closedOf, stringPart, SearchRoom, SearchWritten, Parsed}
 use Rattle.searches.proofs.Steps.{part-string, part-too-deep, part-inside, part-refused}
 use Rattle.searches.proofs.Answering.{is-read, is-refused, same-parsed, with-fuel}
 
@@ -37,7 +37,7 @@ module _ (s : List ℕ) (at deep : ℕ) {i : ℕ} (spaces : skipSpaces (cursorAt
     unfolding placeAt
     too-deep d = is-refused refl (λ n h. part-too-deep (cursorAt s at) opens n deep (omega arith) d ∙ rw spaces)
 
-    pub inner-room : {u : List ℕ} {k : ℕ} → Room s u at k → Room s u (i + 1) k
+    pub inner-room : {u : List ℕ} {k : ℕ} → SearchRoom s u at k → SearchRoom s u (i + 1) k
     inner-room room = record {
       form = room .form;
       inside = omega (arith, bracket-within);
@@ -53,7 +53,7 @@ module _ (s : List ℕ) (at deep : ℕ) {i : ℕ} (spaces : skipSpaces (cursorAt
           part-refused (cursorAt s at) opens n deep (omega arith) some-left e p (rw inner (parsed .refuses e p is (n - 1) (omega (arith, bracket-within)))))
 
       module _ {past m : ℕ} (is : r ≡ Parse.Next past m) where
-        read : Written s u w (i + 1) k (3 * (length s - (i + 1)) + 3) (λ n. alternatives n (deep - 1) (cursorAt s (i + 1))) past m
+        read : SearchWritten s u w (i + 1) k (3 * (length s - (i + 1)) + 3) (λ n. alternatives n (deep - 1) (cursorAt s (i + 1))) past m
         read = parsed .reads past m is
 
         pub inner-within : past ≤ length s

@@ -14,12 +14,12 @@ use Rattle.matching.specs.declared.Quals.{Quals}
 use Rattle.matching.specs.Quals.{qualifiersOf}
 use Rattle.matching.specs.Words.{stringWords, Writable}
 use Rattle.matching.proofs.Keeping.{string-encodes}
-use Rattle.reader.specs.Places.{cursorAt}
+use Rattle.lexer.specs.Places.{cursorAt}
 use Rattle.strings.specs.declared.OneString.{OneString}
 use Rattle.strings.specs.Answers.{StringAt, Quoted}
 use Rattle.strings.proofs.Callers.{string-not, string-at, string-is, string-few, string-spare, string-writable}
 use Rattle.searches.specs.declared.Parse.{Parse}
-use Rattle.searches.specs.Parsing.{noPart, stringPart, Room, Parsed}
+use Rattle.searches.specs.Parsing.{noPart, stringPart, SearchRoom, Parsed}
 use Rattle.searches.proofs.Answering.{is-read, is-refused}
 
 -- the words before the string stay
@@ -28,7 +28,7 @@ before-stays w ws k h =
     ap (take k) (sets-eq ws w k h ∙ append-assoc (take k w) ws (drop (k + length ws) w))
     ∙ take-at (take k w) (ws ++ drop (k + length ws) w) k (length-take-le k w (omega arith))
 
-module _ (s w : List ℕ) (at k : ℕ) (room : Room s w at k) (a : OneString) (read : Quoted s at (qualifiedString true (cursorAt s at)) a) where
+module _ (s w : List ℕ) (at k : ℕ) (room : SearchRoom s w at k) (a : OneString) (read : Quoted s at (qualifiedString true (cursorAt s at)) a) where
   module _ (q : Quals) (start end next : ℕ) (is : a ≡ OneString.Next q start end next) where
     stands : StringAt s at q start end next
     stands = string-at s at (qualifiedString true (cursorAt s at)) a read q start end next is

@@ -11,8 +11,8 @@ use Rattle.definitions.specs.Reader.{Cursor, Got, got, refused, andThen}
 use Rattle.definitions.specs.Search.{Search, one}
 use Rattle.definitions.specs.Strings.{qualifiedString}
 use Rattle.matching.specs.Words.{Encodes}
-use Rattle.reader.specs.Places.{cursorAt}
-use Rattle.reader.specs.declared.Answer.{Answer}
+use Rattle.lexer.specs.Places.{cursorAt}
+use Rattle.lexer.specs.declared.Answer.{Answer}
 use Rattle.strings.specs.declared.OneString.{OneString}
 use Rattle.searches.specs.declared.Parse.{Parse}
 use Rattle.searches.specs.declared.Right.{Right}
@@ -49,7 +49,7 @@ unfoldable pub stringPart : Cursor → Got Search
 stringPart c = andThen (qualifiedString true c) (λ q c₁. got (one q) c₁)
 
 -- The work area has two words from k on for each byte of the script that is left, and a place in it fits a word
-pub record Room (script words : List ℕ) (at k : ℕ) : Type 0 where
+pub record SearchRoom (script words : List ℕ) (at k : ℕ) : Type 0 where
   pub form : isScript script ≡ true
   pub inside : at ≤ length script
   pub enough : k + 2 * (length script - at) ≤ length words
@@ -57,7 +57,7 @@ pub record Room (script words : List ℕ) (at k : ℕ) : Type 0 where
 
 -- A search was read from `at` up to `next`, and lies in the words from k up to m; the words before k are as they were, and two words for each
 -- byte that is left are still free, and one more where a digit follows. x n is the definition's answer with fuel n, and `bound` is enough fuel.
-pub record Written (script before words : List ℕ) (at k bound : ℕ) (x : ℕ → Got Search) (next m : ℕ) : Type 0 where
+pub record SearchWritten (script before words : List ℕ) (at k bound : ℕ) (x : ℕ → Got Search) (next m : ℕ) : Type 0 where
   pub search : Search
   pub is : (n : ℕ) → bound ≤ n → x n ≡ got search (cursorAt script next)
   pub encodes : Encodes script words k m search
@@ -69,5 +69,5 @@ pub record Written (script before words : List ℕ) (at k bound : ℕ) (x : ℕ 
 
 -- the answer r of a reader of a search at `at`, with the words before and after
 pub record Parsed (script before words : List ℕ) (at k bound : ℕ) (x : ℕ → Got Search) (r : Parse) : Type 0 where
-  pub reads : (next m : ℕ) → r ≡ Parse.Next next m → Written script before words at k bound x next m
+  pub reads : (next m : ℕ) → r ≡ Parse.Next next m → SearchWritten script before words at k bound x next m
   pub refuses : (e p : ℕ) → r ≡ Parse.Refused e p → (n : ℕ) → bound ≤ n → x n ≡ refused e p

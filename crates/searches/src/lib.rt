@@ -1,9 +1,9 @@
 // Search expressions. The reader writes each part's words into the work area, in the order in which they are tested.
+use lexer::Answer;
+use lexer::bytes::next_byte;
+use lexer::spaces::skip_blank;
+use lexer::spaces::skip_spaces;
 use matching::search::put_string;
-use reader::Answer;
-use reader::bytes::next_byte;
-use reader::spaces::skip_blank;
-use reader::spaces::skip_spaces;
 use strings::OneString;
 use strings::qualified_string;
 ghost use mathlib.Core.Path.{_≡_};
@@ -12,9 +12,9 @@ ghost use lib.ListN.{length};
 ghost use Rattle.definitions.specs.Reader.{skipSpaces};
 ghost use Rattle.definitions.specs.Search.{Search};
 ghost use Rattle.definitions.specs.Strings.{closing as «closing-of», operator as «operator-of», part as «part-of», conjunction as «conjunction-of», alternatives as «alternatives-of», searchExpression};
-ghost use Rattle.reader.specs.Places.{cursorAt};
-ghost use Rattle.reader.specs.Answers.{answers};
-ghost use Rattle.searches.specs.Parsing.{rightOf, RightOn, CloseOn, closedOf, noPart, stringPart, Room, Parsed};
+ghost use Rattle.lexer.specs.Places.{cursorAt};
+ghost use Rattle.lexer.specs.Answers.{answers};
+ghost use Rattle.searches.specs.Parsing.{rightOf, RightOn, CloseOn, closedOf, noPart, stringPart, SearchRoom, Parsed};
 
 pub enum Parse {
     // The place after the search, and the next free word.
@@ -89,7 +89,7 @@ fn no_part(a: OneString) -> Parse
 
 // One qualified string.
 fn string_part(s: &[u8], at: usize, w: &mut [u32], k: usize) -> Parse
-    requires { ⌜ Room (now s) (now w) at k ⌝ }
+    requires { ⌜ SearchRoom (now s) (now w) at k ⌝ }
     ensures { λ r. ⌜ Parsed (now (s .entry)) (now (w .entry)) (now (w .exit)) at k 0 (λ n. stringPart (cursorAt (now (s .entry)) at)) r ⌝ }
 {
     let string = qualified_string(s, at, true);
@@ -115,7 +115,7 @@ fn joint(m: usize, kind: u32) -> u32
 
 // A bracketed part, `deep` brackets being left, or one qualified string.
 fn part(s: &[u8], at: usize, w: &mut [u32], k: usize, deep: usize) -> Parse
-    requires { ⌜ Room (now s) (now w) at k ⌝ }
+    requires { ⌜ SearchRoom (now s) (now w) at k ⌝ }
     ensures { λ r. ⌜ Parsed (now (s .entry)) (now (w .entry)) (now (w .exit)) at k (3 * (length (now (s .entry)) - at) + 1) (λ n. «part-of» n deep (cursorAt (now (s .entry)) at)) r ⌝ }
 {
     let i = skip_spaces(s, at);
@@ -134,7 +134,7 @@ fn part(s: &[u8], at: usize, w: &mut [u32], k: usize, deep: usize) -> Parse
 
 // Parts joined by &.
 fn conjunction(s: &[u8], at: usize, w: &mut [u32], k: usize, deep: usize) -> Parse
-    requires { ⌜ Room (now s) (now w) at k ⌝ }
+    requires { ⌜ SearchRoom (now s) (now w) at k ⌝ }
     ensures { λ r. ⌜ Parsed (now (s .entry)) (now (w .entry)) (now (w .exit)) at k (3 * (length (now (s .entry)) - at) + 2) (λ n. «conjunction-of» n deep (cursorAt (now (s .entry)) at)) r ⌝ }
 {
     let first = part(s, at, w, k, deep);
@@ -160,7 +160,7 @@ fn conjunction(s: &[u8], at: usize, w: &mut [u32], k: usize, deep: usize) -> Par
 
 // Conjunctions joined by |.
 fn alternatives(s: &[u8], at: usize, w: &mut [u32], k: usize, deep: usize) -> Parse
-    requires { ⌜ Room (now s) (now w) at k ⌝ }
+    requires { ⌜ SearchRoom (now s) (now w) at k ⌝ }
     ensures { λ r. ⌜ Parsed (now (s .entry)) (now (w .entry)) (now (w .exit)) at k (3 * (length (now (s .entry)) - at) + 3) (λ n. «alternatives-of» n deep (cursorAt (now (s .entry)) at)) r ⌝ }
 {
     let first = conjunction(s, at, w, k, deep);
@@ -186,7 +186,7 @@ fn alternatives(s: &[u8], at: usize, w: &mut [u32], k: usize, deep: usize) -> Pa
 
 // A search expression at the place: its words from k on.
 pub fn search(s: &[u8], at: usize, w: &mut [u32], k: usize) -> Parse
-    requires { ⌜ Room (now s) (now w) at k ⌝ }
+    requires { ⌜ SearchRoom (now s) (now w) at k ⌝ }
     ensures { λ r. ⌜ Parsed (now (s .entry)) (now (w .entry)) (now (w .exit)) at k 0 (λ n. searchExpression (cursorAt (now (s .entry)) at)) r ⌝ }
 {
     part(s, at, w, k, 8)

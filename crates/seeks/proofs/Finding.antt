@@ -1,133 +1,162 @@
--- A search on one line, and over lines. Assumes nothing.
-use mathlib.Core.Path.{_≡_, refl, sym, _∙_}
+-- A search on one line. Assumes nothing.
+use mathlib.Core.Path.{_≡_, refl, sym, ap, _∙_}
 use mathlib.Core.Bool.{Bool, true, false}
-use Prim.Native.Nat.{ℕ, _+_, _-_, _≤_, _<_}
-use native.Mathlib.Omega.{arith}
-use mathlib.Core.List.{List, [], _∷_, _++_, map}
+use Prim.Native.Nat.{ℕ, _≤_, _<_}
+use mathlib.Core.List.{List, [], _∷_}
 use lib.ListN.{length}
-use Rattle.definitions.specs.Journal.{Record, kept}
-use Rattle.definitions.specs.Tape.{Tape, bind}
-use Rattle.definitions.specs.Editor.{Ed, ed, on, current, seen, goBack}
+use Rattle.definitions.specs.Bytes.{Line}
+use Rattle.definitions.specs.Journal.{Record}
+use Rattle.definitions.specs.Tape.{Tape}
+use Rattle.definitions.specs.Given.{Given, Carried}
+use Rattle.definitions.specs.Editor.{Ed, ed, n21, stopNumber, Move, struckBack, strikeBack, edit, edits}
+use Rattle.definitions.specs.StepProgram.{Program, gives, _>>=_, _>>_, runs, state, Did, answers, changes, finish, perform}
 use Rattle.definitions.specs.Search.{Search, holds}
-use Rattle.definitions.specs.Edit.{Op, need, nextNeed, findNeed, act, withLine, within, step, searchHolds, reached, looked, lookedBack, lookedDelete, notYet}
-use Rattle.editor.specs.Shows.{Shows, Answers, Answered, pointOf}
+use Rattle.definitions.specs.Edit.{program, step, either, go, goAhead, goesOn, lineOr, lookOn, lookBack, searchHolds}
+use Rattle.definitions.specs.Control.{Seek, forward, backward, deleting, lookOp}
+use Rattle.editor.specs.Shows.{Holds, Stays, Shows, lent, Came}
 use Rattle.editor.specs.Current.{PointIn}
 use Rattle.editor.specs.declared.State.{State}
 use Rattle.editor.specs.declared.Moved.{Moved}
 use Rattle.editor.specs.declared.Moved.the-variants.{On, Stop as Stopped}
-use Rattle.editor.proofs.Answers.{step-still, shows-leaves}
-use Rattle.editor.proofs.Reaching.{landRead, landing, lands, back-reached}
+use Rattle.editor.proofs.Parts.{shown-record, line-on, line-stop, perform-as, perform-changes}
+use Rattle.editor.proofs.Changing.{edited-on, strike-back-shows}
 use Rattle.seeks.specs.declared.Looked.{Looked}
 use Rattle.seeks.specs.declared.Looked.the-variants.{Yes, No, Stop}
-use Rattle.seeks.specs.Looks.{Looks, LooksAs, passing, Passes}
-use Rattle.seeks.proofs.Texts.{shown-record, shown-eof}
-use Rattle.seeks.proofs.Tests.{says-yes, says-stop, previous-step, back-no, back-not}
+use Rattle.seeks.specs.declared.Way.{Way}
+use Rattle.seeks.specs.declared.Way.the-variants.{Forward, Backward, Deleting}
+use Rattle.seeks.specs.Looks.{LooksAs, LooksBy, seekOf, eofStop, whereFound, whereNot}
+use Rattle.seeks.proofs.Texts.{line-holds}
+use Rattle.seeks.proofs.Looking.{Pointed, says-yes, says-no, says-stop, then-looks, then-stops, within-yes, back-pointed, ahead-pointed}
 
 -- ---- on to the next live line
 
-next-step : (n : ℕ) (b : List Record) (r : Record) (a : List Record) (p : ℕ) (t : Tape)
-    → step n Op.next (ed b (r ∷ a) p) t ≡ (on true (landing (r ∷ b) a t), (landRead a t) .1)
-unfolding step bind need nextNeed act withLine within seen
-next-step n b r a p t = refl
+module _ (g : Given) (c : Carried) (e : Ed) (t : Tape) (k : List ℕ) (s : State) where
+  -- a line is then current
+  on-line : Pointed (runs g c goAhead e t) → s .back < length k → Came k (On s) (runs g c goAhead e t) → LooksAs k (No s) (perform g lookOn (state e c) t)
+  unfolding lookOn _>>_ runs
+  on-line i more w =
+      then-looks g c goAhead (λ a. _>>=_ (lineOr n21) (λ b. gives (answers false))) e t k (No s) w i
+      (λ a x u h y. says-no g c (_>>=_ (lineOr n21) (λ b. gives (answers false))) x u (line-on g c n21 (λ b. gives (answers false)) x u h more) h y)
 
--- what is reached: EOF, or a line
-reached-stop : {k : List ℕ} {s : State} (e : Ed) (t : Tape) → Shows k s e t → length k ≤ s .back → Looks k (Stop 21 s) (reached e) t
-unfolding Looks reached
-reached-stop (ed b [] p) t h end = (refl, shows-leaves (ed b [] p) t h)
-reached-stop (ed b (r ∷ a) p) t h end = absurd (shown-eof b r a p t h end)
+  -- EOF is
+  on-eof : Pointed (runs g c goAhead e t) → length k ≤ s .back → Came k (On s) (runs g c goAhead e t) → LooksAs k (Stop 21 s) (perform g lookOn (state e c) t)
+  unfolding lookOn _>>_ stopNumber
+  on-eof i end w =
+      then-looks g c goAhead (λ a. _>>=_ (lineOr n21) (λ b. gives (answers false))) e t k (Stop 21 s) w i
+      (λ a x u h y. says-stop g c (_>>=_ (lineOr n21) (λ b. gives (answers false))) x u 21 (line-stop g c n21 (λ b. gives (answers false)) x u h end) refl h)
 
-reached-no : {k : List ℕ} {s : State} (e : Ed) (t : Tape) → pointOf e ≡ 0 → Shows k s e t → s .back < length k → Looks k (No s) (reached e) t
-unfolding Looks reached
-reached-no (ed b [] p) t q h more = absurd (shown-record b p t h more)
-reached-no (ed b (r ∷ a) p) t q h more = (h, omega (arith, q))
+  pub look-on-stop : (r : Moved) (n : ℕ) → r ≡ Stopped n s → Came k r (runs g c goAhead e t) → LooksAs k (Stop n s) (perform g lookOn (state e c) t)
+  unfolding lookOn _>>_
+  look-on-stop r n q w = then-stops g c goAhead (λ a. _>>=_ (lineOr n21) (λ b. gives (answers false))) e t k n s (rw q at w)
 
-module _ {j : List ℕ} {st : State} (k : List ℕ) (s : State) (n : ℕ) (more : st .back < length j) where
-  pub pass-eof : (x : Moved) → x ≡ On s → length k ≤ s .back → (e : Ed) (t : Tape) → Shows j st e t → Answered k x (step n Op.next e t) → Passes k (Stop 21 s) e t
-  unfolding Answers passing
-  pass-eof x q end (ed b [] p) t h w = shown-record b p t h more
-  pass-eof x q end (ed b (r ∷ a) p) t h w = reached-stop (landing (r ∷ b) a t) ((landRead a t) .1) (rw (next-step n b r a p t, q) at w) end
+module _ {j : List ℕ} {st : State} (g : Given) (k : List ℕ) (s : State) (r : Moved) (more : st .back < length j) where
+  ahead-in : (e : Ed) (c : Carried) (t : Tape) → Shows j st e t → Pointed (runs g c goAhead e t)
+  ahead-in (ed b [] p) c t h = absurd (shown-record b p t h more)
+  ahead-in (ed b (r′ ∷ a) p) c t h = ahead-pointed g c b r′ a p t
 
-  pub pass-line : (x : Moved) → x ≡ On s → s .back < length k → (e : Ed) (t : Tape) → Shows j st e t → Answered k x (step n Op.next e t) → Passes k (No s) e t
-  unfolding Answers passing
-  pass-line x q on-line (ed b [] p) t h w = shown-record b p t h more
-  pass-line x q on-line (ed b (r ∷ a) p) t h w =
-      reached-no (landing (r ∷ b) a t) ((landRead a t) .1) (lands (r ∷ b) a t .point) (rw (next-step n b r a p t, q) at w) on-line
+  pub look-on-line : r ≡ On s → s .back < length k → (e : Ed) (c : Carried) (t : Tape) → Shows j st e t → Came k r (runs g c goAhead e t)
+      → LooksAs k (No s) (perform g lookOn (state e c) t)
+  look-on-line q line e c t h w = on-line g c e t k s (ahead-in e c t h) line (rw q at w)
 
-  pub pass-never : (m : ℕ) (x : Moved) → x ≡ Stopped m s → (e : Ed) (t : Tape) → Shows j st e t → Answered k x (step n Op.next e t) → Passes k (Stop m s) e t
-  unfolding Answers
-  pass-never m x q (ed b [] p) t h w = shown-record b p t h more
-  pass-never m x q (ed b (r ∷ a) p) t h w = absurd (rw (next-step n b r a p t, q) at w)
+  pub look-on-eof : r ≡ On s → length k ≤ s .back → (e : Ed) (c : Carried) (t : Tape) → Shows j st e t → Came k r (runs g c goAhead e t)
+      → LooksAs k (Stop 21 s) (perform g lookOn (state e c) t)
+  look-on-eof q end e c t h w = on-eof g c e t k s (ahead-in e c t h) end (rw q at w)
 
--- ---- F on one line
+-- ---- back to the previous one
 
-within-reached : (n : ℕ) (z e : Ed) (t : Tape) → within n z (reached e) t ≡ (reached e, t)
-unfolding within reached
-within-reached n z (ed b [] p) t = refl
-within-reached n z (ed b (r ∷ a) p) t = refl
+module _ (g : Given) (k : List ℕ) (s : State) (r : Moved) (e : Ed) (c : Carried) (t : Tape) (w : Came k r (runs g c (go Move.back) e t)) where
+  pub look-back-line : r ≡ On s → LooksAs k (No s) (perform g lookBack (state e c) t)
+  unfolding lookBack _>>_ runs
+  look-back-line q =
+      then-looks g c (go Move.back) (λ a. gives (answers false)) e t k (No s) (rw q at w) (back-pointed g c e t) (λ a x u h y. says-no g c (gives (answers false)) x u refl h y)
 
-pub find-passes : (n : ℕ) (se : Search) (b : List Record) (r : Record) (a : List Record) (p : ℕ) (t : Tape) → holds se p (current r) ≡ false
-    → step n (Op.find se) (ed b (r ∷ a) p) t ≡ passing b r a t
-unfolding step bind need findNeed act looked seen passing
-find-passes n se b r a p t q =
-    rw q (within-reached n (ed b (r ∷ (a ++ map kept ((landRead a t) .0))) p) (landing (r ∷ b) a t) ((landRead a t) .1))
+  pub look-back-stop : (n : ℕ) → r ≡ Stopped n s → LooksAs k (Stop n s) (perform g lookBack (state e c) t)
+  unfolding lookBack _>>_
+  look-back-stop n q = then-stops g c (go Move.back) (λ a. gives (answers false)) e t k n s (rw q at w)
 
--- DF passes a line as F does
-pub delete-passes : (n : ℕ) (se : Search) (i : ℕ) (b : List Record) (r : Record) (a : List Record) (p : ℕ) (t : Tape) → holds se p (current r) ≡ false
-    → step n (Op.findDelete se i) (ed b (r ∷ a) p) t ≡ passing b r a t
-unfolding step bind need findNeed act lookedDelete seen passing
-delete-passes n se i b r a p t q =
-    rw q (within-reached n (ed b (r ∷ (a ++ map kept ((landRead a t) .0))) p) (landing (r ∷ b) a t) ((landRead a t) .1))
+-- ---- by the search
 
-module _ {j : List ℕ} {st : State} (n : ℕ) (se : Search) where
-  pub find-eof : length j ≤ st .back → (e : Ed) (t : Tape) → Shows j st e t → LooksAs j (Stop 21 st) (step n (Op.find se) e t)
-  unfolding need findNeed act
-  find-eof end (ed b [] p) t h = says-stop n (Op.find se) (ed b [] p) t refl h 21 refl
-  find-eof end (ed b (r ∷ a) p) t h = absurd (shown-eof b r a p t h end)
+pub not-by : (j : List ℕ) (st : State) (k : List ℕ) (r : Looked) (f : Seek) {m : Program Did} → whereNot f ≡ m → LooksBy j st m k r → LooksBy j st (whereNot f) k r
+not-by j st k r f q h = rw q h
 
-  pub find-back-eof : length j ≤ st .back → (e : Ed) (t : Tape) → Shows j st e t → LooksAs j (Stop 22 st) (step n (Op.findBack se) e t)
-  unfolding need act
-  find-back-eof end (ed b [] p) t h = says-stop n (Op.findBack se) (ed b [] p) t refl h 22 refl
-  find-back-eof end (ed b (r ∷ a) p) t h = absurd (shown-eof b r a p t h end)
+pub goes-forward : (w : Way) → w ≡ Forward → whereNot (seekOf w) ≡ lookOn
+unfolding seekOf whereNot
+goes-forward w q = rw q
 
-  module _ (v : Bool) (more : st .back < length j) where
-    pub find-found : v ≡ true → (e : Ed) (t : Tape) → Shows j st e t → PointIn e → v ≡ searchHolds se e → LooksAs j (Yes st) (step n (Op.find se) e t)
-    unfolding need findNeed act looked searchHolds
-    find-found q (ed b [] p) t h i is = absurd (shown-record b p t h more)
-    find-found q (ed b (r ∷ a) p) t h i is =
-        let w : holds se p (current r) ≡ true = sym is ∙ q in
-        says-yes n (Op.find se) (ed b (r ∷ a) p) t (rw w) h (rw w) i
+pub goes-backward : (w : Way) → w ≡ Backward → whereNot (seekOf w) ≡ lookBack
+unfolding seekOf whereNot
+goes-backward w q = rw q
 
-    pub find-not : v ≡ false → (k : List ℕ) (x : Looked) (e : Ed) (t : Tape) → Shows j st e t → v ≡ searchHolds se e → Passes k x e t → LooksAs k x (step n (Op.find se) e t)
-    unfolding searchHolds
-    find-not q k x (ed b [] p) t h is w = absurd w
-    find-not q k x (ed b (r ∷ a) p) t h is w = rw (find-passes n se b r a p t (sym is ∙ q)) w
+pub goes-deleting : (w : Way) → w ≡ Deleting → whereNot (seekOf w) ≡ lookOn
+unfolding seekOf whereNot
+goes-deleting w q = rw q
 
-    pub find-back-found : v ≡ true → (e : Ed) (t : Tape) → Shows j st e t → PointIn e → v ≡ searchHolds se e → LooksAs j (Yes st) (step n (Op.findBack se) e t)
-    unfolding need act lookedBack searchHolds
-    find-back-found q (ed b [] p) t h i is = absurd (shown-record b p t h more)
-    find-back-found q (ed b (r ∷ a) p) t h i is =
-        let w : holds se p (current r) ≡ true = sym is ∙ q in
-        says-yes n (Op.findBack se) (ed b (r ∷ a) p) t refl h (rw w) i
+-- ---- the line matches
 
--- ---- BF on one line
+yes-runs : (j : List ℕ) (st : State) → LooksBy j st goesOn j (Yes st)
+unfolding goesOn runs
+yes-runs j st e c t h i = says-yes (lent j) c goesOn e t refl h i
 
-back-step : (n : ℕ) (se : Search) (b : List Record) (r : Record) (a : List Record) (p : ℕ) (t : Tape) → holds se p (current r) ≡ false
-    → step n (Op.findBack se) (ed b (r ∷ a) p) t ≡ within n (ed b (r ∷ a) p) (notYet (goBack (ed b (r ∷ a) p) b (r ∷ a))) t
-unfolding need act lookedBack
-back-step n se b r a p t q = step-still n (Op.findBack se) (ed b (r ∷ a) p) t refl ∙ rw q
+-- the lines passed are struck
+module _ (n : ℕ) where
+  struck-in : (e : Ed) → PointIn e → PointIn (edits (strikeBack n ∷ []) e)
+  unfolding edits edit
+  struck-in (ed b [] p) i = i
+  struck-in (ed b (r ∷ a) p) i = i
 
-module _ {j : List ℕ} {st : State} (k : List ℕ) (s : State) (n : ℕ) (se : Search) (v : Bool) (more : st .back < length j) (q : v ≡ false) where
-  pub find-back-on : (x : Moved) → x ≡ On s → (e : Ed) (t : Tape) → Shows j st e t → v ≡ searchHolds se e → Answered k x (step n Op.previous e t) → LooksAs k (No s) (step n (Op.findBack se) e t)
-  unfolding searchHolds
-  find-back-on x is-on (ed b [] p) t h is w = absurd (shown-record b p t h more)
-  find-back-on x is-on (ed b (r ∷ a) p) t h is w =
-      rw (back-step n se b r a p t (sym is ∙ q))
-      (back-no k s n (ed b (r ∷ a) p) t _ _ (back-reached [] (ed b (r ∷ a) p) b (r ∷ a)) (rw (previous-step n b (r ∷ a) p t, is-on) at w))
+  struck-yes : (j : List ℕ) (st : State) (k : List ℕ) (s : State) → length k ≡ length j
+      → ((b : List Record) (a : List Record) → Holds j st b a → Holds k s (struckBack n b []) a) → Stays st s
+      → LooksBy j st (gives (changes (strikeBack n ∷ []))) k (Yes s)
+  unfolding edits finish
+  struck-yes j st k s q strikes stays e c t h i =
+      rw (perform-changes c (strikeBack n ∷ []) e t (lent j))
+      (within-yes k s (lent j) c e (edits (strikeBack n ∷ []) e) t (struck-in e i) (edited-on c (strikeBack n ∷ []) e t j k s q (strike-back-shows n e t h strikes stays)))
 
-  pub find-back-stop : (m : ℕ) (x : Moved) → x ≡ Stopped m s → (e : Ed) (t : Tape) → Shows j st e t → v ≡ searchHolds se e → Answered k x (step n Op.previous e t)
-      → LooksAs k (Stop m s) (step n (Op.findBack se) e t)
-  unfolding searchHolds
-  find-back-stop m x is-on (ed b [] p) t h is w = absurd (shown-record b p t h more)
-  find-back-stop m x is-on (ed b (r ∷ a) p) t h is w =
-      rw (back-step n se b r a p t (sym is ∙ q))
-      (back-not k s n (ed b (r ∷ a) p) t m _ _ (back-reached [] (ed b (r ∷ a) p) b (r ∷ a)) (rw (previous-step n b (r ∷ a) p t, is-on) at w))
+module _ (j : List ℕ) (st : State) (w : Way) (n : ℕ) where
+  pub found-forward : w ≡ Forward → LooksBy j st (whereFound (seekOf w) n) j (Yes st)
+  unfolding seekOf whereFound
+  found-forward q = rw q (yes-runs j st)
+
+  pub found-backward : w ≡ Backward → LooksBy j st (whereFound (seekOf w) n) j (Yes st)
+  unfolding seekOf whereFound
+  found-backward q = rw q (yes-runs j st)
+
+  pub found-deleting : w ≡ Deleting → (k : List ℕ) (s : State) → length k ≡ length j
+      → ((b : List Record) (a : List Record) → Holds j st b a → Holds k s (struckBack n b []) a) → Stays st s → LooksBy j st (whereFound (seekOf w) n) k (Yes s)
+  unfolding seekOf whereFound
+  found-deleting q k s same strikes stays = rw q (struck-yes n j st k s same strikes stays)
+
+-- ---- one line
+
+look-program : (f : Seek) (se : Search) (n : ℕ)
+    → program (lookOp f se n) ≡ _>>=_ (lineOr (eofStop f)) (λ x. either (holds se (x .1) (x .0)) (whereFound f n) (whereNot f))
+unfolding program lookOp eofStop whereFound whereNot
+look-program forward se n = refl
+look-program backward se n = refl
+look-program deleting se n = refl
+
+module _ {j : List ℕ} {st : State} (g : Given) (f : Seek) (se : Search) (n : ℕ) (e : Ed) (c : Carried) (t : Tape) (h : Shows j st e t) where
+  abbrev after-line : Line × ℕ → Program Did
+  after-line x = either (holds se (x .1) (x .0)) (whereFound f n) (whereNot f)
+
+  pub look-eof : length j ≤ st .back → (i : ℕ) → i ≡ stopNumber (eofStop f) → LooksAs j (Stop i st) (step g (lookOp f se n) (state e c) t)
+  unfolding step
+  look-eof end i q =
+      says-stop g c (program (lookOp f se n)) e t i (rw (look-program f se n) (line-stop g c (eofStop f) after-line e t h end)) q h
+
+  module _ (more : st .back < length j) (v : Bool) (is : v ≡ searchHolds se e) where
+    look-step : step g (lookOp f se n) (state e c) t ≡ perform g (either v (whereFound f n) (whereNot f)) (state e c) t
+    unfolding step
+    look-step =
+        perform-as g c (program (lookOp f se n)) (either v (whereFound f n) (whereNot f)) e e t t
+        (rw (look-program f se n)
+        (line-on g c (eofStop f) after-line e t h more
+        ∙ ap (λ (b : Bool). runs g c (either b (whereFound f n) (whereNot f)) e t) (line-holds more se e t h ∙ sym is)))
+
+    pub look-found : v ≡ true → (k : List ℕ) (r : Looked) → LooksAs k r (perform g (whereFound f n) (state e c) t) → LooksAs k r (step g (lookOp f se n) (state e c) t)
+    unfolding either
+    look-found q k r w = rw (look-step, q) w
+
+    pub look-not : v ≡ false → (k : List ℕ) (r : Looked) → LooksAs k r (perform g (whereNot f) (state e c) t) → LooksAs k r (step g (lookOp f se n) (state e c) t)
+    unfolding either
+    look-not q k r w = rw (look-step, q) w

@@ -1,16 +1,12 @@
 // Tests and searches on the journal buffer: IF, WH, UL, UT, IFEOF, F, BF and DF.
 ghost use mathlib.Core.Path.{_≡_};
-ghost use Prim.Native.Nat.{ℕ, _+_, _≤_, _<_};
+ghost use Prim.Native.Nat.{_+_, _≤_, _<_};
 ghost use lib.ListN.{length};
-ghost use Rattle.definitions.specs.Tape.{Tape};
-ghost use Rattle.definitions.specs.Search.{Search};
-ghost use Rattle.definitions.specs.Editor.{Ed};
-ghost use Rattle.definitions.specs.Edit.{Op, Test, step, searchHolds};
-ghost use Rattle.definitions.specs.Control.{forward, backward, deleting, lookOp};
-ghost use Rattle.matching.specs.Words.{Encodes};
-ghost use Rattle.editor.specs.Shows.{Shows};
-ghost use Rattle.editor.specs.Current.{PointIn, TableOf};
-ghost use Rattle.seeks.specs.Looks.{LooksAs, Passes, stepsOf, Seeks};
+ghost use Rattle.definitions.specs.Editor.{stopNumber};
+ghost use Rattle.definitions.specs.Edit.{Op, Test, lookOn, lookBack};
+ghost use Rattle.definitions.specs.Control.{lookOp};
+ghost use Rattle.editor.specs.Shows.{ShowsText};
+ghost use Rattle.seeks.specs.Looks.{LooksBy, LooksOnce, Searchable, Tells, LooksFor, seekOf, eofStop, whereFound, whereNot, SeeksFor};
 use editor::Moved;
 use editor::State;
 
@@ -27,6 +23,13 @@ pub struct Sought {
     pub made: usize,
 }
 
+// F, BF, DF.
+pub enum Way {
+    Forward,
+    Backward,
+    Deleting,
+}
+
 // Does the search in the words from k to m hold on the current line, with the window from p. At EOF it does not.
 pub fn holds_here<'a>(
     script: &[u8],
@@ -37,8 +40,8 @@ pub fn holds_here<'a>(
     j: &'a [u8],
     st: State,
 ) -> bool
-    requires { ⌜ ((se : Search) × Encodes (now script) (now words) k m se) × ((e : Ed) × (t : Tape) × Shows (now j) st e t × PointIn e × TableOf (now table) e t) ⌝ }
-    ensures { λ r. ⌜ ((se : Search) (e : Ed) (t : Tape) → Encodes (now (script .entry)) (now (words .entry)) k m se → Shows (now (j .entry)) st e t → PointIn e → TableOf (now (table .entry)) e t → r ≡ searchHolds se e) ⌝ }
+    requires { ⌜ Searchable (now script) (now words) k m (now table) (now j) st ⌝ }
+    ensures { λ r. ⌜ Tells (now (script .entry)) (now (words .entry)) k m (now (table .entry)) (now (j .entry)) st r ⌝ }
 {
     let at = st.back;
     if at >= j.len() {
@@ -58,8 +61,8 @@ pub fn test_is<'a>(
     j: &'a [u8],
     st: State,
 ) -> Looked
-    requires { ⌜ ((se : Search) × Encodes (now script) (now words) k m se) × ((e : Ed) × (t : Tape) × Shows (now j) st e t × PointIn e × TableOf (now table) e t) ⌝ }
-    ensures { λ r. ⌜ ((se : Search) (e : Ed) (t : Tape) → Encodes (now (script .entry)) (now (words .entry)) k m se → Shows (now (j .entry)) st e t → PointIn e → TableOf (now (table .entry)) e t → LooksAs (now (j .entry)) r (step (length (now (j .entry))) (Op.test (Test.is se)) e t)) ⌝ }
+    requires { ⌜ Searchable (now script) (now words) k m (now table) (now j) st ⌝ }
+    ensures { λ r. ⌜ LooksFor (now (script .entry)) (now (words .entry)) k m (now (table .entry)) (now (j .entry)) st (λ se. Op.test (Test.is se)) (now (j .entry)) r ⌝ }
 {
     if holds_here(script, words, k, m, table, j, st) {
         return Looked::Yes(st);
@@ -77,8 +80,8 @@ pub fn test_is_not<'a>(
     j: &'a [u8],
     st: State,
 ) -> Looked
-    requires { ⌜ ((se : Search) × Encodes (now script) (now words) k m se) × ((e : Ed) × (t : Tape) × Shows (now j) st e t × PointIn e × TableOf (now table) e t) ⌝ }
-    ensures { λ r. ⌜ ((se : Search) (e : Ed) (t : Tape) → Encodes (now (script .entry)) (now (words .entry)) k m se → Shows (now (j .entry)) st e t → PointIn e → TableOf (now (table .entry)) e t → LooksAs (now (j .entry)) r (step (length (now (j .entry))) (Op.test (Test.isNot se)) e t)) ⌝ }
+    requires { ⌜ Searchable (now script) (now words) k m (now table) (now j) st ⌝ }
+    ensures { λ r. ⌜ LooksFor (now (script .entry)) (now (words .entry)) k m (now (table .entry)) (now (j .entry)) st (λ se. Op.test (Test.isNot se)) (now (j .entry)) r ⌝ }
 {
     if holds_here(script, words, k, m, table, j, st) {
         return Looked::No(st);
@@ -88,7 +91,7 @@ pub fn test_is_not<'a>(
 
 // IFEOF.
 pub fn test_eof(j: &[u8], st: State) -> Looked
-    ensures { λ r. ⌜ ((e : Ed) (t : Tape) → Shows (now (j .entry)) st e t → PointIn e → LooksAs (now (j .entry)) r (step (length (now (j .entry))) (Op.test Test.isEof) e t)) ⌝ }
+    ensures { λ r. ⌜ LooksOnce (now (j .entry)) st (Op.test Test.isEof) (now (j .entry)) r ⌝ }
 {
     let at = st.back;
     if at >= j.len() {
@@ -99,7 +102,7 @@ pub fn test_eof(j: &[u8], st: State) -> Looked
 
 // F and DF begin: not at EOF.
 pub fn begin(j: &[u8], st: State) -> Looked
-    ensures { λ r. ⌜ ((e : Ed) (t : Tape) → Shows (now (j .entry)) st e t → PointIn e → LooksAs (now (j .entry)) r (step (length (now (j .entry))) Op.begin e t)) ⌝ }
+    ensures { λ r. ⌜ LooksOnce (now (j .entry)) st Op.begin (now (j .entry)) r ⌝ }
 {
     let at = st.back;
     if at >= j.len() {
@@ -110,26 +113,26 @@ pub fn begin(j: &[u8], st: State) -> Looked
 
 // BF begins: at EOF, from the last live line.
 pub fn begin_back(j: &mut [u8], st: State) -> Looked
-    requires { ⌜ ((e : Ed) × (t : Tape) × Shows (now j) st e t) ⌝ }
-    ensures { λ r. ⌜ ((e : Ed) (t : Tape) → Shows (now (j .entry)) st e t → PointIn e → LooksAs (now (j .exit)) r (step (length (now (j .entry))) Op.beginBack e t)) ⌝ }
+    requires { ⌜ ShowsText (now j) st ⌝ }
+    ensures { λ r. ⌜ LooksOnce (now (j .entry)) st Op.beginBack (now (j .exit)) r ⌝ }
 {
     let at = st.back;
     if at < j.len() {
         return Looked::Yes(st);
     }
-    let r = editor::moves::previous_line(j, st);
+    let r = editor::moves::go_back(j, st);
     match r {
         Moved::On(s) => Looked::Yes(s),
         Moved::Stop(n, s) => Looked::Stop(n, s),
     }
 }
 
-// The current line does not match: on to the next live line.
-fn pass_line(j: &mut [u8], st: State) -> Looked
-    requires { ⌜ ((e : Ed) × (t : Tape) × Shows (now j) st e t) × (st .back < length (now j)) ⌝ }
-    ensures { λ r. ⌜ ((e : Ed) (t : Tape) → Shows (now (j .entry)) st e t → Passes (now (j .exit)) r e t) ⌝ }
+// F and DF: on to the next live line.
+fn look_on(j: &mut [u8], st: State) -> Looked
+    requires { ⌜ ShowsText (now j) st × (st .back < length (now j)) ⌝ }
+    ensures { λ r. ⌜ LooksBy (now (j .entry)) st lookOn (now (j .exit)) r ⌝ }
 {
-    let r = editor::moves::next_line(j, st);
+    let r = editor::moves::go_ahead(j, st);
     match r {
         Moved::On(s) => {
             let at = s.back;
@@ -142,139 +145,55 @@ fn pass_line(j: &mut [u8], st: State) -> Looked
     }
 }
 
-// F on one line: found here, or on to the next live line.
-pub fn find_here(
-    script: &[u8],
-    words: &[u32],
-    k: usize,
-    m: usize,
-    table: &[u8],
-    j: &mut [u8],
-    st: State,
-) -> Looked
-    requires { ⌜ ((se : Search) × Encodes (now script) (now words) k m se) × ((e : Ed) × (t : Tape) × Shows (now j) st e t × PointIn e × TableOf (now table) e t) ⌝ }
-    ensures { λ r. ⌜ ((se : Search) (e : Ed) (t : Tape) → Encodes (now (script .entry)) (now (words .entry)) k m se → Shows (now (j .entry)) st e t → PointIn e → TableOf (now (table .entry)) e t → LooksAs (now (j .exit)) r (step (length (now (j .entry))) (Op.find se) e t)) ⌝ }
+// BF: back to the previous live line.
+fn look_back(j: &mut [u8], st: State) -> Looked
+    requires { ⌜ ShowsText (now j) st ⌝ }
+    ensures { λ r. ⌜ LooksBy (now (j .entry)) st lookBack (now (j .exit)) r ⌝ }
 {
-    let at = st.back;
-    if at >= j.len() {
-        return Looked::Stop(21, st);
-    }
-    if holds_here(script, words, k, m, table, j, st) {
-        return Looked::Yes(st);
-    }
-    pass_line(j, st)
-}
-
-// DF on one line, `lines` lines being passed: found here, these are deleted; or on to the next live line.
-pub fn find_delete(
-    script: &[u8],
-    words: &[u32],
-    k: usize,
-    m: usize,
-    table: &[u8],
-    j: &mut [u8],
-    st: State,
-    lines: usize,
-) -> Looked
-    requires { ⌜ ((se : Search) × Encodes (now script) (now words) k m se) × ((e : Ed) × (t : Tape) × Shows (now j) st e t × PointIn e × TableOf (now table) e t) ⌝ }
-    ensures { λ r. ⌜ ((se : Search) (e : Ed) (t : Tape) → Encodes (now (script .entry)) (now (words .entry)) k m se → Shows (now (j .entry)) st e t → PointIn e → TableOf (now (table .entry)) e t → LooksAs (now (j .exit)) r (step (length (now (j .entry))) (Op.findDelete se lines) e t)) ⌝ }
-{
-    let r = find_here(script, words, k, m, table, j, st);
-    let Looked::Yes(s) = r else {
-        return r;
-    };
-    Looked::Yes(spans::striking::strike_back(j, s, lines))
-}
-
-// BF on one line: found here, or back to the previous live line.
-pub fn find_back(
-    script: &[u8],
-    words: &[u32],
-    k: usize,
-    m: usize,
-    table: &[u8],
-    j: &mut [u8],
-    st: State,
-) -> Looked
-    requires { ⌜ ((se : Search) × Encodes (now script) (now words) k m se) × ((e : Ed) × (t : Tape) × Shows (now j) st e t × PointIn e × TableOf (now table) e t) ⌝ }
-    ensures { λ r. ⌜ ((se : Search) (e : Ed) (t : Tape) → Encodes (now (script .entry)) (now (words .entry)) k m se → Shows (now (j .entry)) st e t → PointIn e → TableOf (now (table .entry)) e t → LooksAs (now (j .exit)) r (step (length (now (j .entry))) (Op.findBack se) e t)) ⌝ }
-{
-    let at = st.back;
-    if at >= j.len() {
-        return Looked::Stop(22, st);
-    }
-    if holds_here(script, words, k, m, table, j, st) {
-        return Looked::Yes(st);
-    }
-    let r = editor::moves::previous_line(j, st);
+    let r = editor::moves::go_back(j, st);
     match r {
         Moved::On(s) => Looked::No(s),
         Moved::Stop(n, s) => Looked::Stop(n, s),
     }
 }
 
-// F: live lines are tested forward until one matches, the current line first, at most `left` of them.
-pub fn seek_forward(
-    script: &[u8],
-    words: &[u32],
-    k: usize,
-    m: usize,
-    table: &[u8],
-    j: &mut [u8],
-    st: State,
-    left: usize,
-) -> Sought
-    requires { ⌜ ((se : Search) × Encodes (now script) (now words) k m se) × ((e : Ed) × (t : Tape) × Shows (now j) st e t × PointIn e × TableOf (now table) e t) ⌝ }
-    ensures { λ r. ⌜ ((se : Search) (i : ℕ) (e : Ed) (t : Tape) → Encodes (now (script .entry)) (now (words .entry)) k m se → Shows (now (j .entry)) st e t → PointIn e → TableOf (now (table .entry)) e t → Seeks (now (j .exit)) r (stepsOf (length (now (j .entry))) (lookOp forward se) i left e t)) ⌝ }
+// The current line does not match: on to the next one.
+fn look_further(j: &mut [u8], st: State, way: Way) -> Looked
+    requires { ⌜ ShowsText (now j) st × (st .back < length (now j)) ⌝ }
+    ensures { λ r. ⌜ LooksBy (now (j .entry)) st (whereNot (seekOf way)) (now (j .exit)) r ⌝ }
 {
-    let mut s = st;
-    let mut made: usize = 0;
-    let looked = loop {
-        if made >= left {
-            break Looked::No(s);
-        }
-        made += 1;
-        let r = find_here(script, words, k, m, table, j, s);
-        let Looked::No(next) = r else {
-            break r;
-        };
-        s = next;
-    };
-    Sought { looked, made }
+    match way {
+        Way::Forward => look_on(j, st),
+        Way::Backward => look_back(j, st),
+        Way::Deleting => look_on(j, st),
+    }
 }
 
-// BF: live lines are tested backward until one matches, the current line first, at most `left` of them.
-pub fn seek_backward(
-    script: &[u8],
-    words: &[u32],
-    k: usize,
-    m: usize,
-    table: &[u8],
-    j: &mut [u8],
-    st: State,
-    left: usize,
-) -> Sought
-    requires { ⌜ ((se : Search) × Encodes (now script) (now words) k m se) × ((e : Ed) × (t : Tape) × Shows (now j) st e t × PointIn e × TableOf (now table) e t) ⌝ }
-    ensures { λ r. ⌜ ((se : Search) (i : ℕ) (e : Ed) (t : Tape) → Encodes (now (script .entry)) (now (words .entry)) k m se → Shows (now (j .entry)) st e t → PointIn e → TableOf (now (table .entry)) e t → Seeks (now (j .exit)) r (stepsOf (length (now (j .entry))) (lookOp backward se) i left e t)) ⌝ }
+// The current line matches: DF deletes the lines that it has passed.
+fn found(j: &mut [u8], st: State, way: Way, lines: usize) -> Looked
+    requires { ⌜ ShowsText (now j) st ⌝ }
+    ensures { λ r. ⌜ LooksBy (now (j .entry)) st (whereFound (seekOf way) lines) (now (j .exit)) r ⌝ }
 {
-    let mut s = st;
-    let mut made: usize = 0;
-    let looked = loop {
-        if made >= left {
-            break Looked::No(s);
-        }
-        made += 1;
-        let r = find_back(script, words, k, m, table, j, s);
-        let Looked::No(previous) = r else {
-            break r;
-        };
-        s = previous;
-    };
-    Sought { looked, made }
+    match way {
+        Way::Forward => Looked::Yes(st),
+        Way::Backward => Looked::Yes(st),
+        Way::Deleting => Looked::Yes(spans::striking::strike_back(j, st, lines)),
+    }
 }
 
-// DF: live lines are tested forward as F does, at most `left` of them, `lines` being passed before. Those passed are deleted where one matches.
-pub fn seek_delete(
+// The number with which a search stops at EOF.
+fn eof_number(way: Way) -> usize
+    ensures { λ r. ⌜ r ≡ stopNumber (eofStop (seekOf way)) ⌝ }
+{
+    match way {
+        Way::Forward => 21,
+        Way::Backward => 22,
+        Way::Deleting => 21,
+    }
+}
+
+// A search on one line, `lines` lines being passed: found here, or on to the next line.
+fn look(
     script: &[u8],
     words: &[u32],
     k: usize,
@@ -282,11 +201,37 @@ pub fn seek_delete(
     table: &[u8],
     j: &mut [u8],
     st: State,
+    way: Way,
+    lines: usize,
+) -> Looked
+    requires { ⌜ Searchable (now script) (now words) k m (now table) (now j) st ⌝ }
+    ensures { λ r. ⌜ LooksFor (now (script .entry)) (now (words .entry)) k m (now (table .entry)) (now (j .entry)) st (λ se. lookOp (seekOf way) se lines) (now (j .exit)) r ⌝ }
+{
+    let at = st.back;
+    if at >= j.len() {
+        return Looked::Stop(eof_number(way), st);
+    }
+    if holds_here(script, words, k, m, table, j, st) {
+        return found(j, st, way, lines);
+    }
+    look_further(j, st, way)
+}
+
+// F, BF or DF: live lines are tested until one matches, the current line first, at most `left` of them, `lines` being passed before.
+pub fn seek(
+    script: &[u8],
+    words: &[u32],
+    k: usize,
+    m: usize,
+    table: &[u8],
+    j: &mut [u8],
+    st: State,
+    way: Way,
     lines: usize,
     left: usize,
 ) -> Sought
-    requires { ⌜ ((se : Search) × Encodes (now script) (now words) k m se) × ((e : Ed) × (t : Tape) × Shows (now j) st e t × PointIn e × TableOf (now table) e t) × (lines + left ≤ 18446744073709551615) ⌝ }
-    ensures { λ r. ⌜ ((se : Search) (e : Ed) (t : Tape) → Encodes (now (script .entry)) (now (words .entry)) k m se → Shows (now (j .entry)) st e t → PointIn e → TableOf (now (table .entry)) e t → Seeks (now (j .exit)) r (stepsOf (length (now (j .entry))) (lookOp deleting se) lines left e t)) ⌝ }
+    requires { ⌜ Searchable (now script) (now words) k m (now table) (now j) st × (lines + left ≤ 18446744073709551615) ⌝ }
+    ensures { λ r. ⌜ SeeksFor (now (script .entry)) (now (words .entry)) k m (now (table .entry)) (now (j .entry)) st (seekOf way) lines left (now (j .exit)) r ⌝ }
 {
     let mut s = st;
     let mut made: usize = 0;
@@ -296,7 +241,7 @@ pub fn seek_delete(
         }
         let passed = lines + made;
         made += 1;
-        let r = find_delete(script, words, k, m, table, j, s, passed);
+        let r = look(script, words, k, m, table, j, s, way, passed);
         let Looked::No(next) = r else {
             break r;
         };

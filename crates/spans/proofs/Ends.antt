@@ -1,118 +1,237 @@
--- What `span_end` answers: where the lines that D and R take end, or their stop. Assumes nothing.
+-- What `span_end` answers: where the records end that D and R take, or their stop. Assumes nothing.
 use mathlib.Core.Path.{_≡_, refl, sym, ap, _∙_}
-use mathlib.Core.Bool.{Bool, true, false}
-use Prim.Native.Nat.{ℕ, zero, suc, _+_, _-_, _≤_, _<_, max, min}
+use mathlib.Core.Bool.{true}
+use mathlib.Core.Logic.{_⊎_, inl, inr}
+use Prim.Native.Nat.{ℕ, suc, _+_, _-_, _≤_, _<_}
 use native.Mathlib.Omega.{arith}
-use mathlib.Core.List.{List, [], _∷_}
+use mathlib.Core.List.{List, [], _∷_, _++_, map, reverseAux, append-nil}
 use lib.ListN.{length, drop, getD}
-use lib.Dec.{eqb}
-use borrow.Author.Tests.{eqb-true, eqb-false}
+use lib.Seq.{drop-at}
+use lib.Dec.{leb}
+use borrow.Author.Tests.{leb-true, ne-eqb, le-leb, lt-leb}
 use Rattle.text.specs.Feeds.{lineLength}
-use Rattle.definitions.specs.Journal.{Record}
-use Rattle.definitions.specs.Tape.{Tape}
-use Rattle.definitions.specs.Editor.{Ed, sources, Through, isDeleted, afterSource}
+use Rattle.definitions.specs.Bytes.{Line}
+use Rattle.definitions.specs.Journal.{Record, kept}
+use Rattle.definitions.specs.Tape.{Tape, ended, restLines}
+use Rattle.definitions.specs.Given.{Given, Carried}
+use Rattle.definitions.specs.Editor.{Ed, ed, beforeOf, afterOf, records, sources, n20, n21, n23, n28, stopNumber, Target, Through}
+use Rattle.definitions.specs.Editor.{Stop as StopNumber}
+use Rattle.definitions.specs.Reading.{Ran, gave, stopped}
+use Rattle.definitions.specs.StepProgram.{Program, gives, stops, _>>=_, _>>_, runs}
+use Rattle.definitions.specs.Edit.{stopIf, see, readUpTo, countThrough, reach}
+use Rattle.theorems.specs.GoodItems.{goodThrough}
+use Rattle.theorems.specs.RecordLaws.{sources-reverse}
+use Rattle.theorems.specs.Programs.{runs-on, runs-pass, runs-halt}
+use Rattle.theorems.specs.ReadLines.{readNext, seenAll, read-line, read-eof}
 use Rattle.editor.specs.Records.{encAll}
-use Rattle.editor.specs.Shows.{Holds, Placed, Shows, beforeOf, restOf}
+use Rattle.editor.specs.Shows.{Shows, restOf, CameTo, raised}
 use Rattle.editor.specs.declared.State.{State}
-use Rattle.editor.proofs.Held.{held-length}
-use Rattle.spans.specs.Spans.{GoesTo, leftOf, Reaches, Spanned, Finds, SourceAt}
+use Rattle.editor.proofs.Records.{both}
+use Rattle.editor.proofs.Reading.{next-rest, line-read, reads-line, reads-eof}
+use Rattle.editor.proofs.Parts.{shown-record, line-on, line-stop}
+use Rattle.spans.specs.Spans.{throughOf, reachHere, EndsAt, FoundBy, SourceAt}
+use Rattle.spans.specs.declared.Found.{Found}
 use Rattle.spans.specs.declared.Found.the-variants.{To, Stop}
-use Rattle.spans.proofs.Sources.{after-at, live-at}
-use Rattle.spans.proofs.Standing.{held-most, stands-held, stands-length, stands-mark, stands-on}
-use Rattle.spans.proofs.Stops.{stop-20, stop-28, stop-21, stop-23}
-
-pub not-zero : (n : ℕ) → (n ≡ 0 → ⊥) → 0 < n
-not-zero zero h = absurd (h refl)
-not-zero (suc n) h = omega arith
-
--- a record is current
-held-some : {j : List ℕ} {st : State} {b : List Record} → Holds j st b [] → length j ≤ st .back
-unfolding encAll
-held-some h = omega (arith, held-length h)
+use Rattle.spans.proofs.Counting.{dead-at, live-at, after-at, count-none, count-append, count-within}
+use Rattle.spans.proofs.Standing.{stands-held, stands-length, stands-mark, stands-on}
 
 -- ---- how far, by its number
 
-module _ (P : Through → Type 0) {n : ℕ} where
-  pub goes-alone : (b : Through) → n ≡ 0 → GoesTo n b → P Through.alone → P b
-  goes-alone Through.alone z g h = h
-  goes-alone (Through.upTo m) z g h = absurd (omega (arith, g .0, g .1))
-  goes-alone Through.toEof z g h = absurd (omega arith)
+pub through-alone : (n : ℕ) → n ≡ 0 → throughOf n ≡ Through.alone
+unfolding throughOf
+through-alone n q = rw q
 
-  pub goes-all : (b : Through) → n ≡ 65536 → GoesTo n b → P Through.toEof → P b
-  goes-all Through.alone z g h = absurd (omega arith)
-  goes-all (Through.upTo m) z g h = absurd (g .2 (sym (g .0) ∙ z))
-  goes-all Through.toEof z g h = h
+pub through-all : (n : ℕ) → n ≡ 65536 → throughOf n ≡ Through.toEof
+unfolding throughOf
+through-all n q = rw q
 
-  pub goes-line : (b : Through) → (n ≡ 0 → ⊥) → (n ≡ 65536 → ⊥) → GoesTo n b → P (Through.upTo n) → P b
-  goes-line Through.alone z w g h = absurd (z g)
-  goes-line (Through.upTo m) z w g h = rw (← g .0) h
-  goes-line Through.toEof z w g h = absurd (w g)
+pub through-line : (n : ℕ) → (n ≡ 0 → ⊥) → (n ≡ 65536 → ⊥) → throughOf n ≡ Through.upTo n
+unfolding throughOf
+through-line n p q = rw (ne-eqb n 0 p, ne-eqb n 65536 q)
 
--- every number says how far
-pub goes-some : (n : ℕ) → (b : Through) × GoesTo n b
-goes-some n = by-zero (eqb n 0) refl (eqb n 65536) refl
-  where
-    by-zero : (x : Bool) → eqb n 0 ≡ x → (y : Bool) → eqb n 65536 ≡ y → (b : Through) × GoesTo n b
-    by-zero true q y w = (Through.alone, eqb-true n 0 q)
-    by-zero false q true w = (Through.toEof, eqb-true n 65536 w)
-    by-zero false q false w = (Through.upTo n, (refl, not-zero n (eqb-false n 0 q), eqb-false n 65536 w))
+-- a line number of a script stands for itself
+pub through-number : (b : ℕ) → goodThrough (Through.upTo b) ≡ true → throughOf b ≡ Through.upTo b
+unfolding goodThrough
+through-number b good =
+    let x : (leb 1 b ≡ true) × (leb b 65535 ≡ true) = both (leb 1 b) (leb b 65535) good in
+    through-line b (λ z. omega (arith, leb-true 1 b (x .0))) (λ z. omega (arith, leb-true b 65535 (x .1)))
 
--- ---- the places
+-- ---- what is found
 
-module _ {j : List ℕ} {st : State} {b : List Record} (more : st .back < length j) where
-  pub spanned-alone : (a : List Record) → Holds j st b a → (end : ℕ) → end ≡ st .back + lineLength (drop (st .back) j) → Spanned j end Through.alone b a
-  unfolding Reaches leftOf
-  spanned-alone [] h end is = absurd (omega (arith, held-some h))
-  spanned-alone (r ∷ rs) h end is = record { reaches = tt; place = stands-length (stands-on (stands-held h) end is) }
+abbrev FoundAt : List ℕ → Found → Ran ℕ × Tape → Type 0
+FoundAt j r x = FoundBy j r (x .0) (x .1)
 
-  pub spanned-all : (a : List Record) → Holds j st b a → Spanned j (length j) Through.toEof b a
-  unfolding Reaches leftOf encAll
-  spanned-all [] h = absurd (omega (arith, held-some h))
-  spanned-all (r ∷ rs) h = record { reaches = tt; place = omega arith }
+found-to : {j : List ℕ} {end : ℕ} {s : State} {x : Ran ℕ × Tape} {n : ℕ} {e : Ed} {t : Tape} → x ≡ (gave n e, t) → Shows j s e t → EndsAt j end n e t → FoundAt j (To end s) x
+unfolding FoundBy
+found-to q h w = rw q (h, w)
 
-  pub spanned-through : (a : List Record) → Holds j st b a → (m last end : ℕ) → st .past < m → m ≤ st .lines → SourceAt j last (m - (sources b + 1)) a → (getD j last 0 ≡ 45 → ⊥)
-      → end ≡ last + lineLength (drop last j) → Spanned j end (Through.upTo m) b a
-  unfolding Reaches leftOf
-  spanned-through [] h m last end past most w alive is = absurd (omega (arith, held-some h))
-  spanned-through (r ∷ rs) h m last end past most w alive is =
-      let k : ℕ = m - (sources b + 1) in
-      let after : afterSource k (r ∷ rs) ≡ w .after = ap (afterSource k) (sym (w .same)) ∙ after-at k (w .passed) (w .this) (w .after) (w .count) (w .source) in
-      record {
-        reaches = (omega (arith, h .past), held-most h most, ap (isDeleted k) (sym (w .same)) ∙ live-at k (w .passed) (w .this) (w .after) (w .count) (λ q. alive (stands-mark (w .stands) ∙ q)) (w .source));
-        place = rw after (stands-length (stands-on (w .stands) end is));
-      }
+found-stop : {j : List ℕ} {m : ℕ} {s : State} {x : Ran ℕ × Tape} {n : StopNumber} {e : Ed} {t : Tape} → x ≡ (stopped n e, t) → m ≡ stopNumber n → Shows j s e t → FoundAt j (Stop m s) x
+unfolding FoundBy
+found-stop q m h = rw q (m, h)
 
--- ---- what is found, by the number that says how far
+module _ {j : List ℕ} {st : State} (g : Given) (c : Carried) (e : Ed) (t : Tape) (h : Shows j st e t) where
+  -- EOF is current
+  pub finds-20 : (b : Through) → length j ≤ st .back → FoundAt j (Stop 20 st) (runs g c (reachHere b) e t)
+  unfolding reachHere _>>_ stopNumber
+  finds-20 b end = found-stop (line-stop g c n20 (λ x. reach b) e t h end) refl h
 
-module _ {j : List ℕ} {st : State} (e : Ed) (t : Tape) (b : Through) (h : Shows j st e t) where
-  pub finds-20 : length j ≤ st .back → Finds j (Stop 20 st) b e t
-  unfolding Finds
-  finds-20 end ls = stop-20 (length j) b ls e t h end
+  module _ (more : st .back < length j) where
+    -- a line is: how far by its number
+    here-is : (n : ℕ) {b : Through} → throughOf n ≡ b → runs g c (reachHere (throughOf n)) e t ≡ runs g c (reach b) e t
+    unfolding reachHere _>>_
+    here-is n {b} q = rw q (line-on g c n20 (λ x. reach b) e t h more)
 
-  module _ (more : st .back < length j) {n : ℕ} (g : GoesTo n b) where
-    pub finds-alone : n ≡ 0 → (end : ℕ) → end ≡ st .back + lineLength (drop (st .back) j) → Finds j (To end) b e t
-    unfolding Finds
-    finds-alone z end is = goes-alone (λ b. Finds j (To end) b e t) b z g (spanned-alone more (restOf e t) (h .holds) end is)
+-- ---- one line
 
-    pub finds-all : n ≡ 65536 → Finds j (To (length j)) b e t
-    unfolding Finds
-    finds-all z = goes-all (λ b. Finds j (To (length j)) b e t) b z g (spanned-all more (restOf e t) (h .holds))
+alone-runs : (g : Given) (c : Carried) (e : Ed) (t : Tape) → runs g c (reach Through.alone) e t ≡ (gave 1 e, t)
+unfolding reach runs
+alone-runs g c e t = refl
 
-    module _ (one : n ≡ 0 → ⊥) (all : n ≡ 65536 → ⊥) where
-      pub finds-28 : n ≤ st .past → Finds j (Stop 28 st) b e t
-      unfolding Finds
-      finds-28 low = goes-line (λ b. Finds j (Stop 28 st) b e t) b one all g (λ ls. stop-28 (length j) n ls e t h more low)
+alone-ends : {j : List ℕ} {st : State} (e : Ed) (t : Tape) → Shows j st e t → st .back < length j → (end : ℕ) → end ≡ st .back + lineLength (drop (st .back) j) → EndsAt j end 1 e t
+unfolding beforeOf afterOf
+alone-ends (ed b [] p) t h more end is = absurd (shown-record b p t h more)
+alone-ends (ed b (r ∷ a) p) t h more end is = record {
+  within = omega arith;
+  place = stands-length (stands-on (stands-held (h .holds)) end is);
+}
 
-      pub finds-21 : {s : State} → st .lines < n → Placed st s → s .furthest ≡ max (st .furthest) (min n (st .lines + 1)) → Finds j (Stop 21 s) b e t
-      unfolding Finds
-      finds-21 {s} fewer pl far = goes-line (λ b. Finds j (Stop 21 s) b e t) b one all g (λ ls. stop-21 (length j) n ls e t h more fewer pl far)
+pub finds-alone : {j : List ℕ} {st : State} (g : Given) (c : Carried) (e : Ed) (t : Tape) → Shows j st e t → st .back < length j → (n : ℕ) → n ≡ 0
+    → (end : ℕ) → end ≡ st .back + lineLength (drop (st .back) j) → FoundAt j (To end st) (runs g c (reachHere (throughOf n)) e t)
+finds-alone g c e t h more n z end is = found-to (here-is g c e t h more n (through-alone n z) ∙ alone-runs g c e t) h (alone-ends e t h more end is)
 
-      pub finds-23 : (last : ℕ) → st .past < n → SourceAt j last (n - (sources (beforeOf e) + 1)) (restOf e t) → getD j last 0 ≡ 45 → Finds j (Stop 23 st) b e t
-      unfolding Finds
-      finds-23 last past w dead = goes-line (λ b. Finds j (Stop 23 st) b e t) b one all g (λ ls. stop-23 (length j) n last ls e t h more past w dead)
+-- ---- all lines
 
-      pub finds-through : (last end : ℕ) → st .past < n → n ≤ st .lines → SourceAt j last (n - (sources (beforeOf e) + 1)) (restOf e t) → (getD j last 0 ≡ 45 → ⊥)
-          → end ≡ last + lineLength (drop last j) → Finds j (To end) b e t
-      unfolding Finds
-      finds-through last end past most w alive is =
-          goes-line (λ b. Finds j (To end) b e t) b one all g (spanned-through more (restOf e t) (h .holds) n last end past most w alive is)
+all-runs : (g : Given) (c : Carried) (e : Ed) (t : Tape)
+    → runs g c (reach Through.toEof) e t ≡ (gave (length (afterOf (seenAll (restLines t) e))) (seenAll (restLines t) e), ended)
+unfolding reach see _>>_ runs
+all-runs g c e t = runs-on g c (λ u. see (λ x. length (afterOf x))) (readUpTo Target.eof) e t (read-eof g c e t)
+
+all-ends : {j : List ℕ} (e : Ed) → EndsAt j (length j) (length (afterOf e)) e ended
+unfolding restLines encAll
+all-ends e = record {
+  within = omega arith;
+  place = rw (drop-at (afterOf e) [] (length (afterOf e)) refl) (omega arith);
+}
+
+pub finds-all : {j : List ℕ} {st s : State} (g : Given) (c : Carried) (e : Ed) (t : Tape) → Shows j st e t → st .back < length j → (n : ℕ) → n ≡ 65536
+    → s ≡ raised st (st .lines + 1) → FoundAt j (To (length j) s) (runs g c (reachHere (throughOf n)) e t)
+unfolding CameTo
+finds-all g c e t h more n z is =
+    found-to (here-is g c e t h more n (through-all n z) ∙ all-runs g c e t) (rw is (rw (read-eof g c e t) at (reads-eof g c e t h))) (all-ends (seenAll (restLines t) e))
+
+-- ---- through a source line
+
+-- what is left once b is known not to be before the current line, which stands after n source lines
+unfoldable throughLine : ℕ → ℕ → Program ℕ
+throughLine b n = do
+  readUpTo (Target.line b)
+  after ← see afterOf
+  countThrough 0 (b - suc n) after
+
+reach-is : (g : Given) (c : Carried) (m : ℕ) (e : Ed) (t : Tape)
+    → runs g c (reach (Through.upTo m)) e t ≡ runs g c (_>>_ (stopIf n28 (leb m (sources (beforeOf e)))) (throughLine m (sources (beforeOf e)))) e t
+unfolding reach see throughLine _>>_ _>>=_ runs
+reach-is g c m e t = refl
+
+past-is : {j : List ℕ} {st : State} (e : Ed) (t : Tape) → Shows j st e t → st .past ≡ sources (beforeOf e)
+past-is e t h = h .holds .past
+
+pub finds-28 : {j : List ℕ} {st : State} (g : Given) (c : Carried) (e : Ed) (t : Tape) → Shows j st e t → st .back < length j → (n : ℕ) → (n ≡ 0 → ⊥) → (n ≡ 65536 → ⊥)
+    → n ≤ st .past → FoundAt j (Stop 28 st) (runs g c (reachHere (throughOf n)) e t)
+unfolding stopNumber
+finds-28 g c e t h more n one all low =
+    found-stop (here-is g c e t h more n (through-line n one all) ∙ reach-is g c n e t ∙ runs-halt g c n28 (leb n (sources (beforeOf e))) (throughLine n (sources (beforeOf e))) e t (le-leb n (sources (beforeOf e)) (omega (arith, past-is e t h)))) refl h
+
+module _ {j : List ℕ} {st s : State} (g : Given) (c : Carried) (m : ℕ) (b a : List Record) (p : ℕ) (t : Tape) (h : Shows j st (ed b a p) t) (is : s ≡ raised st m) (past : sources b < m) where
+  abbrev x : List Line × Tape
+  x = readNext (m - sources (records (ed b a p))) t
+
+  -- the records from the current one on, once the line is read, and the text
+  abbrev A : List Record
+  A = a ++ map kept (x .0)
+
+  abbrev E : Ed
+  E = ed b A p
+
+  abbrev K : ℕ
+  K = m - suc (sources b)
+
+  through-runs : runs g c (reach (Through.upTo m)) (ed b a p) t ≡ runs g c (countThrough 0 K A) E (x .1)
+  unfolding beforeOf afterOf seenAll throughLine see _>>_ _>>=_ runs
+  through-runs =
+      reach-is g c m (ed b a p) t ∙ runs-pass g c n28 (leb m (sources b)) (throughLine m (sources b)) (ed b a p) t (lt-leb m (sources b) past)
+      ∙ runs-on g c (λ u. _>>=_ (see afterOf) (λ after. countThrough 0 K after)) (readUpTo (Target.line m)) (ed b a p) t (read-line g c m (ed b a p) t)
+
+  read-shows : Shows j s E (x .1)
+  unfolding CameTo seenAll
+  read-shows = rw is (rw (read-line g c m (ed b a p) t) at (reads-line g c (ed b a p) t h m))
+
+  -- the count among the records that are read is that among all
+  count-whole : countThrough 0 K A ≡ countThrough 0 K (a ++ map kept (restLines t))
+  unfolding records
+  count-whole = by (line-read m E (x .1) read-shows (omega arith) (rw is (omega arith)))
+    where
+      U : List Record
+      U = map kept (restLines (x .1))
+
+      by : (m - 1 < sources (reverseAux b A)) ⊎ (U ≡ []) → countThrough 0 K A ≡ countThrough 0 K (a ++ map kept (restLines t))
+      by (inl l) = sym (count-append 0 K A U (omega (arith, sources-reverse b A))) ∙ ap (countThrough 0 K) (next-rest (m - sources (records (ed b a p))) a t)
+      by (inr q) = ap (countThrough 0 K) (sym (append-nil A) ∙ ap (λ (z : List Record). A ++ z) (sym q) ∙ next-rest (m - sources (records (ed b a p))) a t)
+
+  line-stops : (i : ℕ) (n : StopNumber) → i ≡ stopNumber n → countThrough 0 K (a ++ map kept (restLines t)) ≡ stops n → FoundAt j (Stop i s) (runs g c (reach (Through.upTo m)) (ed b a p) t)
+  unfolding runs
+  line-stops i n number q = found-stop (through-runs ∙ ap (λ (z : Program ℕ). runs g c z E (x .1)) (count-whole ∙ q)) number read-shows
+
+  line-21 : st .lines < m → FoundAt j (Stop 21 s) (runs g c (reach (Through.upTo m)) (ed b a p) t)
+  unfolding stopNumber beforeOf afterOf
+  line-21 fewer = line-stops 21 n21 refl (count-none 0 K (a ++ map kept (restLines t)) (omega (arith, h .holds .lines)))
+
+  module _ (last : ℕ) (w : SourceAt j last K (a ++ map kept (restLines t))) where
+    line-23 : getD j last 0 ≡ 45 → FoundAt j (Stop 23 s) (runs g c (reach (Through.upTo m)) (ed b a p) t)
+    unfolding stopNumber
+    line-23 dead =
+        line-stops 23 n23 refl (ap (countThrough 0 K) (sym (w .same)) ∙ dead-at K (w .passed) (w .this) (w .after) (w .count) (sym (stands-mark (w .stands)) ∙ dead))
+
+    line-ends : (getD j last 0 ≡ 45 → ⊥) → (end : ℕ) → end ≡ last + lineLength (drop last j) → FoundAt j (To end s) (runs g c (reach (Through.upTo m)) (ed b a p) t)
+    unfolding runs afterOf
+    line-ends live end to =
+        let v : ℕ = suc (length (w .passed)) in
+        let many : countThrough 0 K A ≡ gives v =
+        count-whole ∙ ap (countThrough 0 K) (sym (w .same)) ∙ live-at K (w .passed) (w .this) (w .after) (w .count) (λ q. live (stands-mark (w .stands) ∙ q)) (w .source) in
+        found-to (through-runs ∙ ap (λ (z : Program ℕ). runs g c z E (x .1)) many) read-shows
+        (record {
+          within = omega (arith, count-within 0 K A v many);
+          place = rw (place-is v refl) (stands-length (stands-on (w .stands) end to));
+        })
+      where
+        place-is : (v : ℕ) → v ≡ suc (length (w .passed)) → drop v (A ++ map kept (restLines (x .1))) ≡ w .after
+        place-is v q =
+            ap (λ (z : List Record). drop v z) (next-rest (m - sources (records (ed b a p))) a t ∙ sym (w .same)) ∙ ap (λ (i : ℕ). drop i (reverseAux (w .passed) (w .this ∷ w .after))) q
+            ∙ after-at (w .passed) (w .this) (w .after)
+
+module _ {j : List ℕ} {st s : State} (g : Given) (c : Carried) (e : Ed) (t : Tape) (h : Shows j st e t) (more : st .back < length j) (n : ℕ) (one : n ≡ 0 → ⊥) (all : n ≡ 65536 → ⊥)
+    (is : s ≡ raised st n) (past : st .past < n) where
+  by-line : (r : Found) → FoundAt j r (runs g c (reach (Through.upTo n)) e t) → FoundAt j r (runs g c (reachHere (throughOf n)) e t)
+  by-line r w = rw (here-is g c e t h more n (through-line n one all)) w
+
+  pub finds-21 : st .lines < n → FoundAt j (Stop 21 s) (runs g c (reachHere (throughOf n)) e t)
+  unfolding beforeOf
+  finds-21 fewer = by-line (Stop 21 s) (at e h)
+    where
+      at : (e : Ed) → Shows j st e t → FoundAt j (Stop 21 s) (runs g c (reach (Through.upTo n)) e t)
+      at (ed b a p) h = line-21 g c n b a p t h is (omega (arith, h .holds .past)) fewer
+
+  module _ (last : ℕ) (w : SourceAt j last (n - suc (sources (beforeOf e))) (restOf e t)) where
+    pub finds-23 : getD j last 0 ≡ 45 → FoundAt j (Stop 23 s) (runs g c (reachHere (throughOf n)) e t)
+    unfolding beforeOf afterOf
+    finds-23 dead = by-line (Stop 23 s) (at e h w)
+      where
+        at : (e : Ed) → Shows j st e t → SourceAt j last (n - suc (sources (beforeOf e))) (restOf e t) → FoundAt j (Stop 23 s) (runs g c (reach (Through.upTo n)) e t)
+        at (ed b a p) h w = line-23 g c n b a p t h is (omega (arith, h .holds .past)) last w dead
+
+    pub finds-through : (getD j last 0 ≡ 45 → ⊥) → (end : ℕ) → end ≡ last + lineLength (drop last j) → FoundAt j (To end s) (runs g c (reachHere (throughOf n)) e t)
+    unfolding beforeOf afterOf
+    finds-through live end to = by-line (To end s) (at e h w)
+      where
+        at : (e : Ed) → Shows j st e t → SourceAt j last (n - suc (sources (beforeOf e))) (restOf e t) → FoundAt j (To end s) (runs g c (reach (Through.upTo n)) e t)
+        at (ed b a p) h w = line-ends g c n b a p t h is (omega (arith, h .holds .past)) last w live end to

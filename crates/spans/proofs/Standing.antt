@@ -8,10 +8,11 @@ use lib.Seq.{drop-at, drop-cons, drop-drop}
 use Rattle.text.specs.Feeds.{lineLength}
 use Rattle.definitions.specs.Journal.{Record}
 use Rattle.definitions.specs.Editor.{sources}
+use Rattle.theorems.specs.RecordLaws.{sources-reverse}
 use Rattle.editor.specs.Records.{enc, encAll, mark}
 use Rattle.editor.specs.Shows.{Holds}
 use Rattle.editor.specs.declared.State.{State}
-use Rattle.editor.proofs.Records.{unmarked, marked, some-bytes, record-line, sourced, new-line, old-line, sources-cons, sources-nil, sources-reverse}
+use Rattle.editor.proofs.Records.{unmarked, marked, some-bytes, record-line, sourced, new-line, old-line, sources-cons, sources-nil}
 use Rattle.editor.proofs.Held.{held-length, held-drop}
 use Rattle.spans.specs.Spans.{Stands, SourceAt}
 
@@ -95,7 +96,7 @@ module _ {j : List ℕ} {at n : ℕ} {c a : List Record} (w : Scanning j at n c 
   scanning-in = stands-in here-stands
 
   -- the record that is looked for
-  pub scanning-found : (getD j at 0 ≡ 43 → ⊥) → b ≤ n + 1 → SourceAt j at (b - (sources c + 1)) a
+  pub scanning-found : (getD j at 0 ≡ 43 → ⊥) → b ≤ n + 1 → SourceAt j at (b - suc (sources c)) a
   scanning-found old last = record {
     passed = w .passed;
     this = scanned .0;

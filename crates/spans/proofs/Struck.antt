@@ -2,16 +2,25 @@
 use mathlib.Core.Path.{_≡_, refl, sym, ap, _∙_}
 use Prim.Native.Nat.{ℕ, zero, suc, _+_, _-_, _<_}
 use native.Mathlib.Omega.{arith}
-use mathlib.Core.List.{List, [], _∷_, _++_, reverseAux}
-use lib.ListN.{length, getD, length-append}
+use mathlib.Core.List.{List, [], _∷_, _++_, map, reverseAux, append-assoc}
+use lib.ListN.{length, take, drop, getD, length-append, take-append-drop}
+use lib.Seq.{length-take-le, drop-append-le}
 use Rattle.definitions.specs.Journal.{Record, kept, changed, deleted, inserted, erase}
-use Rattle.definitions.specs.Editor.{land, eraseBack}
+use Rattle.definitions.specs.Tape.{Tape, restLines}
+use Rattle.definitions.specs.Given.{Given, Carried}
+use Rattle.definitions.specs.Editor.{Ed, ed, beforeOf, afterOf, sources, land, struckBack, strike, edit}
+use Rattle.definitions.specs.StepProgram.{runs}
+use Rattle.definitions.specs.Edit.{readPast}
+use Rattle.theorems.specs.ReadLines.{seenAll, read-past}
 use Rattle.editor.specs.Records.{enc, encAll, mark}
-use Rattle.editor.specs.Shows.{Holds, Placed, beforeOf, afterOf, reachedBy}
+use Rattle.editor.specs.Shows.{Holds, Shows, Lands, strikeOver, raised, lineAt}
 use Rattle.editor.specs.declared.State.{State}
 use Rattle.editor.proofs.Records.{some-bytes}
-use Rattle.editor.proofs.Held.{holds-as, holds-lists, held-length, held-nearest, held-start, held-mark, held-more}
-use Rattle.spans.specs.Spans.{struck, strikeOver, Withdrawn, Landed}
+use Rattle.editor.proofs.Held.{holds-lists, held-length, held-nearest, held-start, held-mark, held-more}
+use Rattle.editor.proofs.Reading.{reachOf, shown-reach}
+use Rattle.editor.proofs.Reaching.{landRead}
+use Rattle.editor.proofs.Changing.{strike-shows}
+use Rattle.spans.specs.Spans.{EndsAt, Spanned, Until, PassesTo, Withdrawn, StruckBy}
 
 pub all-append : (a b : List Record) → length (encAll (a ++ b)) ≡ length (encAll a) + length (encAll b)
 unfolding encAll
@@ -20,14 +29,11 @@ all-append (r ∷ a) b = omega (arith, length-append (enc r) (encAll (a ++ b)), 
 
 -- one record is passed and its line deleted
 pub strike-one : (r : Record) (rs c : List Record) → strikeOver rs (erase r ++ c) ≡ strikeOver (r ∷ rs) c
-unfolding struck erase
-strike-one (kept l) rs c = refl
-strike-one (changed o n) rs c = refl
-strike-one (deleted l) rs c = refl
-strike-one (inserted l) rs c = refl
+unfolding strikeOver
+strike-one r rs c = refl
 
 pub strike-none : (c : List Record) → strikeOver [] c ≡ c
-unfolding struck
+unfolding strikeOver
 strike-none c = refl
 
 -- ---- a walk over the records `m`
@@ -82,27 +88,40 @@ strike-still h i q = omega (arith, held-length h, held-length i)
 
 -- ---- back over live records
 
-erase-live : (k : ℕ) (r : Record) (c p : List Record) → (mark r ≡ 45 → ⊥) → eraseBack (suc k) (r ∷ c) p ≡ eraseBack k c (erase r ++ p)
-unfolding eraseBack erase
+-- what is left of records whose lines are deleted, in order
+unfoldable pub erased : List Record → List Record
+erased [] = []
+erased (r ∷ rs) = erase r ++ erased rs
+
+erased-over : (m c : List Record) → reverseAux (erased m) c ≡ strikeOver m c
+unfolding erased strikeOver erase
+erased-over [] c = refl
+erased-over (kept l ∷ m) c = erased-over m (deleted l ∷ c)
+erased-over (changed o n ∷ m) c = erased-over m (deleted o ∷ c)
+erased-over (deleted l ∷ m) c = erased-over m (deleted l ∷ c)
+erased-over (inserted l ∷ m) c = erased-over m c
+
+erase-live : (k : ℕ) (r : Record) (c p : List Record) → (mark r ≡ 45 → ⊥) → struckBack (suc k) (r ∷ c) p ≡ struckBack k c (erase r ++ p)
+unfolding struckBack erase
 erase-live k (kept l) c p m = refl
 erase-live k (changed o n) c p m = refl
 erase-live k (deleted l) c p m = absurd (m refl)
 erase-live k (inserted l) c p m = refl
 
-erase-dead : (k : ℕ) (r : Record) (c p : List Record) → mark r ≡ 45 → eraseBack (suc k) (r ∷ c) p ≡ eraseBack (suc k) c (erase r ++ p)
-unfolding eraseBack erase
+erase-dead : (k : ℕ) (r : Record) (c p : List Record) → mark r ≡ 45 → struckBack (suc k) (r ∷ c) p ≡ struckBack (suc k) c (erase r ++ p)
+unfolding struckBack erase
 erase-dead k (kept l) c p m = absurd (omega arith)
 erase-dead k (changed o n) c p m = absurd (omega arith)
 erase-dead k (deleted l) c p m = refl
 erase-dead k (inserted l) c p m = absurd (omega arith)
 
-erase-start : (k : ℕ) (p : List Record) → eraseBack k [] p ≡ reverseAux p []
-unfolding eraseBack
+erase-start : (k : ℕ) (p : List Record) → struckBack k [] p ≡ reverseAux p []
+unfolding struckBack
 erase-start zero p = refl
 erase-start (suc k) p = refl
 
-erase-zero : (c p : List Record) → eraseBack 0 c p ≡ reverseAux p c
-unfolding eraseBack
+erase-zero : (c p : List Record) → struckBack 0 c p ≡ reverseAux p c
+unfolding struckBack
 erase-zero c p = refl
 
 -- where the walk back has come to, `left` live records being left of k
@@ -110,10 +129,10 @@ pub record Withdrawing (j : List ℕ) (s : State) (left k : ℕ) (b a : List Rec
   pub front : List Record
   pub passed : List Record
   pub holds : Holds j s front (passed ++ a)
-  pub same : eraseBack k b [] ≡ eraseBack left front (struck passed)
+  pub same : struckBack k b [] ≡ struckBack left front (erased passed)
 
 pub withdrawing-start : {j : List ℕ} {s : State} (k : ℕ) (b a : List Record) → Holds j s b a → Withdrawing j s k k b a
-unfolding struck
+unfolding erased
 withdrawing-start k b a h = record { front = b; passed = []; holds = h; same = refl }
 
 module _ {j : List ℕ} {s : State} {left k : ℕ} {b a : List Record} (w : Withdrawing j s left k b a) where
@@ -124,7 +143,7 @@ module _ {j : List ℕ} {s : State} {left k : ℕ} {b a : List Record} (w : With
         front = w .front;
         passed = w .passed;
         holds = w .holds;
-        same = w .same ∙ ap (λ (c : List Record). eraseBack left c (struck (w .passed))) first ∙ erase-start left (struck (w .passed)) ∙ ap (reverseAux (struck (w .passed))) (sym first);
+        same = w .same ∙ ap (λ (c : List Record). struckBack left c (erased (w .passed))) first ∙ erase-start left (erased (w .passed)) ∙ ap (reverseAux (erased (w .passed))) (sym first) ∙ erased-over (w .passed) (w .front);
       }
 
   pub withdrawn-all : left ≡ 0 → Withdrawn j s k b a
@@ -132,7 +151,7 @@ module _ {j : List ℕ} {s : State} {left k : ℕ} {b a : List Record} (w : With
     front = w .front;
     passed = w .passed;
     holds = w .holds;
-    same = w .same ∙ ap (λ (n : ℕ). eraseBack n (w .front) (struck (w .passed))) z ∙ erase-zero (w .front) (struck (w .passed));
+    same = w .same ∙ ap (λ (n : ℕ). struckBack n (w .front) (erased (w .passed))) z ∙ erase-zero (w .front) (erased (w .passed)) ∙ erased-over (w .passed) (w .front);
   }
 
   module _ (some : 0 < left) (more : 0 < s .front) {i : List ℕ} {u : State}
@@ -143,43 +162,75 @@ module _ {j : List ℕ} {s : State} {left k : ℕ} {b a : List Record} (w : With
     gone-back : Holds i u (nearest .1) (nearest .0 ∷ (w .passed ++ a))
     gone-back = moves (nearest .0) (nearest .1) (w .passed ++ a) (holds-lists (nearest .2) refl (w .holds))
 
-    was : eraseBack k b [] ≡ eraseBack (suc (left - 1)) (nearest .0 ∷ nearest .1) (struck (w .passed))
+    was : struckBack k b [] ≡ struckBack (suc (left - 1)) (nearest .0 ∷ nearest .1) (erased (w .passed))
     was =
         let n : left ≡ suc (left - 1) = omega arith in
-        w .same ∙ ap (λ (c : List Record). eraseBack left c (struck (w .passed))) (nearest .2) ∙ ap (λ (m : ℕ). eraseBack m (nearest .0 ∷ nearest .1) (struck (w .passed))) n
+        w .same ∙ ap (λ (c : List Record). struckBack left c (erased (w .passed))) (nearest .2) ∙ ap (λ (m : ℕ). struckBack m (nearest .0 ∷ nearest .1) (erased (w .passed))) n
 
     pub withdrawing-in : u .back < length i
     withdrawing-in = omega (arith, held-more gone-back, some-bytes (nearest .0))
 
     pub withdrawing-live : (getD i (u .back) 0 ≡ 45 → ⊥) → Withdrawing i u (left - 1) k b a
-    unfolding struck
+    unfolding erased
     withdrawing-live m = record {
       front = nearest .1;
       passed = nearest .0 ∷ w .passed;
       holds = gone-back;
-      same = was ∙ erase-live (left - 1) (nearest .0) (nearest .1) (struck (w .passed)) (λ q. m (held-mark gone-back ∙ q));
+      same = was ∙ erase-live (left - 1) (nearest .0) (nearest .1) (erased (w .passed)) (λ q. m (held-mark gone-back ∙ q));
     }
 
     pub withdrawing-dead : getD i (u .back) 0 ≡ 45 → Withdrawing i u left k b a
-    unfolding struck
+    unfolding erased
     withdrawing-dead m =
         let n : suc (left - 1) ≡ left = omega arith in
         record {
           front = nearest .1;
           passed = nearest .0 ∷ w .passed;
           holds = gone-back;
-          same = was ∙ erase-dead (left - 1) (nearest .0) (nearest .1) (struck (w .passed)) (sym (held-mark gone-back) ∙ m) ∙ ap (λ (i : ℕ). eraseBack i (nearest .1) (struck (nearest .0 ∷ w .passed))) n;
+          same = was ∙ erase-dead (left - 1) (nearest .0) (nearest .1) (erased (w .passed)) (sym (held-mark gone-back) ∙ m) ∙ ap (λ (i : ℕ). struckBack i (nearest .1) (erased (nearest .0 ∷ w .passed))) n;
         }
 
--- ---- the line that is current then
+-- ---- the records up to a place, and the line that is current then
 
-pub landed-by : {g k : List ℕ} {gone l s : State} {lines f : ℕ} (o d : List Record) → Holds g gone o d
-    → ((b : List Record) (a : List Record) → Holds g gone b a → Holds k l (beforeOf (land b a)) (afterOf (land b a)))
-    → ((b : List Record) (a : List Record) → Holds k l b a → s .furthest ≡ reachedBy (l .lines) (l .furthest) b a)
-    → l .furthest ≡ f → l .lines ≡ lines → Placed l s → Landed k s lines f o d
-landed-by o d h lands reads lf ll pl =
-    let x = lands o d h in
-    record {
-      holds = holds-as pl x;
-      reach = rw (ll, lf) at (reads (beforeOf (land o d)) (afterOf (land o d)) x);
-    }
+module _ {j : List ℕ} {st : State} {end n : ℕ} (b a : List Record) (p : ℕ) (t : Tape) (h : Shows j st (ed b a p) t) (w : EndsAt j end n (ed b a p) t) where
+  abbrev U : List Record
+  U = map kept (restLines t)
+
+  -- the records that are taken, and those after them
+  parts : take n a ++ (drop n a ++ U) ≡ a ++ U
+  parts = sym (append-assoc (take n a) (drop n a) U) ∙ ap (λ (z : List Record). z ++ U) (take-append-drop n a)
+
+  pub span-held : Holds j st b (take n a ++ (drop n a ++ U))
+  unfolding beforeOf afterOf
+  span-held = holds-lists refl (sym parts) (h .holds)
+
+  pub span-place : end + length (encAll (drop n a ++ U)) ≡ length j
+  unfolding afterOf
+  span-place = rw (← drop-append-le n a U (w .within)) (w .place)
+
+  pub span-many : length (take n a) ≡ n
+  unfolding afterOf
+  span-many = length-take-le n a (w .within)
+
+pub spanned-until : {j : List ℕ} {st : State} {end : ℕ} → Spanned j st end → Until j st end
+spanned-until (ed b a p, t, n, h, w) = (b, take n a, drop n a ++ map kept (restLines t), span-held b a p t h w, span-place b a p t h w)
+
+-- the records are struck, deleted ones after them passed, and the line that is current then is read
+pub struck-span : {j k i : List ℕ} {st gone l s : State} {end : ℕ} (g : Given) (c : Carried) (e : Ed) (t : Tape) (n : ℕ) → Shows j st e t → EndsAt j end n e t
+    → PassesTo strikeOver end j st k gone → Lands k gone i l → ((b : List Record) (a : List Record) → Holds i l b a → s ≡ raised l (lineAt b a))
+    → let x = runs g c (readPast n) e t in
+    StruckBy i s n (x .0) (x .1)
+unfolding StruckBy afterOf beforeOf
+struck-span {j} {k} {i} {st} {gone} {l} {s} g c (ed b a p) t n h w passes landed reads =
+    let m : List Record = take n a in
+    let d : List Record = drop n a in
+    let U : List Record = map kept (restLines t) in
+    let held : Holds k gone (strikeOver m b) (d ++ U) = passes .0 b m (d ++ U) (span-held b a p t h w) (span-place b a p t h w) in
+    let x : Holds i l (beforeOf (land (strikeOver m b) (d ++ U))) (afterOf (land (strikeOver m b) (d ++ U))) = landed .0 (strikeOver m b) (d ++ U) held in
+    let lines : l .lines ≡ st .lines = landed .2 ∙ passes .1 .lines in
+    let whole : m ++ d ≡ a = take-append-drop n a in
+    let total : l .lines ≡ sources b + sources ((m ++ d) ++ U) = lines ∙ h .holds .lines ∙ ap (λ (z : List Record). sources b + sources (z ++ U)) (sym whole) in
+    let far : l .furthest ≡ reachOf (l .lines) t = landed .1 ∙ passes .1 .furthest ∙ shown-reach (ed b a p) t h ∙ ap (λ (z : ℕ). reachOf z t) (sym lines) in
+    let shows : Shows i s (edit (strike (length m)) (seenAll ((landRead d t) .0) (ed b (m ++ d) p))) ((landRead d t) .1) =
+    strike-shows b m d p t total far x (landed .3) (reads (beforeOf (land (strikeOver m b) (d ++ U))) (afterOf (land (strikeOver m b) (d ++ U))) x) in
+    rw (read-past g c n (ed b a p) t) (rw (span-many b a p t h w, whole) at shows)

@@ -1,66 +1,79 @@
--- Several records at once: where D and R start and end, and what is left of the records between. Assumes nothing.
+-- Several records at once: how far D and R go, where the records that they take end, and what is left of these. Assumes nothing.
 use mathlib.Core.Path.{_≡_}
-use mathlib.Core.Bool.{false}
+use mathlib.Core.Bool.{cond}
 use mathlib.Core.List.{List, [], _∷_, _++_, reverseAux}
-use Prim.Native.Nat.{ℕ, _+_, _-_, _≤_, _<_}
+use Prim.Native.Nat.{ℕ, _+_, _≤_}
 use lib.ListN.{length, drop}
-use Rattle.definitions.specs.Bytes.{Line}
-use Rattle.definitions.specs.Journal.{Record, erase}
+use lib.Dec.{eqb}
+use Rattle.definitions.specs.Journal.{Record}
 use Rattle.definitions.specs.Tape.{Tape}
-use Rattle.definitions.specs.Editor.{Ed, sources, land, Target, here, line, eof, Through, alone, upTo, toEof, isDeleted, afterSource, eraseBack}
-use Rattle.definitions.specs.Edit.{Op, step}
+use Rattle.definitions.specs.Given.{Carried}
+use Rattle.definitions.specs.Editor.{Ed, afterOf, sources, n20, stopNumber, Through, alone, upTo, toEof, struckBack, strike, edit}
+use Rattle.definitions.specs.Editor.{Edit as Editing}
+use Rattle.definitions.specs.Reading.{Ran, gave, stopped}
+use Rattle.definitions.specs.StepProgram.{Program, gives, _>>=_, _>>_, runs, state, Did, changes, perform}
+use Rattle.definitions.specs.Edit.{readPast, lineOr, reach}
 use Rattle.editor.specs.Records.{encAll, Goods, mark}
-use Rattle.editor.specs.Shows.{Holds, beforeOf, afterOf, restOf, reachedBy, Answered}
+use Rattle.editor.specs.Shows.{Holds, Stays, Shows, restOf, lent, Answered, strikeOver}
 use Rattle.editor.specs.declared.State.{State}
 use Rattle.editor.specs.declared.Moved.{Moved}
 use Rattle.spans.specs.declared.Found.{Found}
 use Rattle.spans.specs.declared.Found.the-variants.{To, Stop}
 
--- ---- D's and R's lines as numbers
+-- ---- how far D and R go, as a number
 
--- where they start: 0 is `.`, else the line's number
-abbrev pub StartsAt : ℕ → Target → Type 0
-StartsAt n here = n ≡ 0
-StartsAt n (line a) = (n ≡ a) × (0 < a)
-StartsAt n eof = ⊥
+-- 0 is one line, 65,536 is `*`, any other number is that of a source line
+unfoldable pub throughOf : ℕ → Through
+throughOf n = cond (eqb n 0) alone (cond (eqb n 65536) toEof (upTo n))
 
--- how far they go: 0 is one line, 65,536 is `*`, any other number is the line's
-abbrev pub GoesTo : ℕ → Through → Type 0
-GoesTo n alone = n ≡ 0
-GoesTo n (upTo b) = (n ≡ b) × (0 < b) × (b ≡ 65536 → ⊥)
-GoesTo n toEof = n ≡ 65536
+-- ---- D and R from the current line on
 
--- D or R by these two numbers
-pub record Spans (from through : ℕ) (a : Target) (b : Through) : Type 0 where
-  pub starts : StartsAt from a
-  pub goes : GoesTo through b
+-- how many records they take
+unfoldable pub reachHere : Through → Program ℕ
+reachHere b = do
+  lineOr n20
+  reach b
 
--- ---- the lines that are taken
+-- the same, and the next live line after these is read: `span` after its move
+unfoldable pub spanHere : Through → Program ℕ
+spanHere b = do
+  lineOr n20
+  k ← reach b
+  readPast k
+  gives k
 
--- the records after those that are taken of `rest`, the records from the current one on, which stand after `before`
-unfoldable pub leftOf : Through → List Record → List Record → List Record
-leftOf b before [] = []
-leftOf alone before (r ∷ rs) = rs
-leftOf (upTo b) before (r ∷ rs) = afterSource (b - (sources before + 1)) (r ∷ rs)
-leftOf toEof before (r ∷ rs) = []
+-- what is left of the command then: changes by the number of records
+unfoldable pub changeHere : (ℕ → List Editing) → Through → Program Did
+changeHere f b = do
+  k ← spanHere b
+  gives (changes (f k))
 
--- there are lines to take: one is current, and line b is not before it, stands in the table, and is live
-unfoldable pub Reaches : Through → List Record → List Record → Type 0
-Reaches b before [] = ⊥
-Reaches alone before (r ∷ rs) = Unit {0}
-Reaches (upTo b) before (r ∷ rs) =
-    (sources before < b) × (b ≤ sources before + sources (r ∷ rs)) × (isDeleted (b - (sources before + 1)) (r ∷ rs) ≡ false)
-Reaches toEof before (r ∷ rs) = Unit {0}
+-- with the buffer j and its numbers st before, and the buffer k after, the function that answered r did what is left of a command
+abbrev pub Finishes : List ℕ → State → Program Did → List ℕ → Moved → Type 0
+Finishes j st m k r = (e : Ed) (c : Carried) (t : Tape) → Shows j st e t → Answered k r (perform (lent j) m (state e c) t)
 
--- the records that are taken end at the place `end` of the buffer
-pub record Spanned (j : List ℕ) (end : ℕ) (b : Through) (before rest : List Record) : Type 0 where
-  pub reaches : Reaches b before rest
-  pub place : end + length (encAll (leftOf b before rest)) ≡ length j
+-- ---- the records that are taken
 
--- what `span_end` answers: a place, or the stop that R comes to, whatever its lines
-unfoldable pub Finds : List ℕ → Found → Through → Ed → Tape → Type 0
-Finds j (To end) b e t = Spanned j end b (beforeOf e) (restOf e t)
-Finds j (Stop n s) b e t = (ls : List Line) → Answered j (Moved.Stop n s) (step (length j) (Op.replace Target.here b ls) e t)
+-- the n records from the current one on, which are read, end at the place `end` of the buffer
+pub record EndsAt (j : List ℕ) (end n : ℕ) (e : Ed) (t : Tape) : Type 0 where
+  pub within : n ≤ length (afterOf e)
+  pub place : end + length (encAll (drop n (restOf e t))) ≡ length j
+
+-- there is a text with records that end there
+abbrev pub Spanned : List ℕ → State → ℕ → Type 0
+Spanned j st end = (e : Ed) × (t : Tape) × (n : ℕ) × Shows j st e t × EndsAt j end n e t
+
+-- what `span_end` answers, and what `reachHere` comes to
+unfoldable pub FoundBy : List ℕ → Found → Ran ℕ → Tape → Type 0
+FoundBy j (To end s) (gave n e) t = Shows j s e t × EndsAt j end n e t
+FoundBy j (To end s) (stopped n e) t = ⊥
+FoundBy j (Stop m s) (gave n e) t = ⊥
+FoundBy j (Stop m s) (stopped n e) t = (m ≡ stopNumber n) × Shows j s e t
+
+abbrev pub Finds : List ℕ → State → Through → Found → Type 0
+Finds j st b r =
+    (e : Ed) (c : Carried) (t : Tape) → Shows j st e t → let x = runs (lent j) c (reachHere b) e t in
+    FoundBy j r (x .0) (x .1)
 
 -- the records `rs` stand in the buffer from the place `at` to its end
 pub record Stands (j : List ℕ) (at : ℕ) (rs : List Record) : Type 0 where
@@ -80,23 +93,36 @@ pub record SourceAt (j : List ℕ) (at k : ℕ) (rs : List Record) : Type 0 wher
 
 -- ---- deletion
 
--- what is left of records whose lines are deleted, in order
-unfoldable pub struck : List Record → List Record
-struck [] = []
-struck (r ∷ rs) = erase r ++ struck rs
+-- some records up to the place `end` stand from the current one on
+abbrev pub Until : List ℕ → State → ℕ → Type 0
+Until j st end = (c : List Record) × (m : List Record) × (d : List Record) × Holds j st c (m ++ d) × (end + length (encAll d) ≡ length j)
 
--- the records `rs`, in order, passed with their lines deleted
-abbrev pub strikeOver : List Record → List Record → List Record
-strikeOver rs before = reverseAux (struck rs) before
+-- the records up to the place `end` are passed, and become what `over` makes of them before the gap
+abbrev pub PassesTo : (List Record → List Record → List Record) → ℕ → List ℕ → State → List ℕ → State → Type 0
+PassesTo over end j st k r =
+    ((c : List Record) (m : List Record) (d : List Record) → Holds j st c (m ++ d) → end + length (encAll d) ≡ length j → Holds k r (over m c) d) × Stays st r
 
--- The gap stands before the nearest k live records of `before`: `passed` are the records that it has gone back over.
-pub record Withdrawn (j : List ℕ) (s : State) (k : ℕ) (before rest : List Record) : Type 0 where
+-- The gap stands before the nearest n live records of `before`: `passed` are the records that it has gone back over.
+pub record Withdrawn (j : List ℕ) (s : State) (n : ℕ) (before rest : List Record) : Type 0 where
   pub front : List Record
   pub passed : List Record
   pub holds : Holds j s front (passed ++ rest)
-  pub same : eraseBack k before [] ≡ strikeOver passed front
+  pub same : struckBack n before [] ≡ strikeOver passed front
 
--- The live line after `before`, among `rest`, is current and read: f was the furthest line read before.
-pub record Landed (j : List ℕ) (s : State) (lines f : ℕ) (before rest : List Record) : Type 0 where
-  pub holds : Holds j s (beforeOf (land before rest)) (afterOf (land before rest))
-  pub reach : s .furthest ≡ reachedBy lines f (beforeOf (land before rest)) (afterOf (land before rest))
+abbrev pub Withdraws : ℕ → List ℕ → State → List ℕ → State → Type 0
+Withdraws n j st k r = ((b : List Record) (a : List Record) → Holds j st b a → Withdrawn k r n b a) × Stays st r
+
+-- the nearest n live lines before the current one are deleted
+abbrev pub StrikesBack : ℕ → List ℕ → State → List ℕ → State → Type 0
+StrikesBack n j st k r = ((b : List Record) (a : List Record) → Holds j st b a → Holds k r (struckBack n b []) a) × Stays st r
+
+-- the text that a part of a step comes to is shown once n records are struck
+unfoldable pub StruckBy : List ℕ → State → ℕ → Ran (Unit {0}) → Tape → Type 0
+StruckBy j s n (gave u e) t = Shows j s (edit (strike n) e) t
+StruckBy j s n (stopped m e) t = ⊥
+
+-- the records up to the place `end` are struck, and the next live line after them, which is read, is current
+abbrev pub StrikesSpan : ℕ → List ℕ → State → List ℕ → State → Type 0
+StrikesSpan end j st k r =
+    (e : Ed) (c : Carried) (t : Tape) (n : ℕ) → Shows j st e t → EndsAt j end n e t → let x = runs (lent j) c (readPast n) e t in
+    StruckBy k r n (x .0) (x .1)

@@ -2,35 +2,30 @@
 use crate::Found;
 use editor::Moved;
 use editor::State;
-ghost use lib.ListN.{length};
-ghost use Rattle.definitions.specs.Tape.{Tape};
-ghost use Rattle.definitions.specs.Editor.{Ed, Target, Through};
-ghost use Rattle.definitions.specs.Edit.{Op, step};
-ghost use Rattle.editor.specs.Shows.{Shows, Answered};
-ghost use Rattle.spans.specs.Spans.{GoesTo, Spans};
+ghost use mathlib.Core.List.{[], _∷_};
+ghost use Rattle.definitions.specs.Editor.{strike};
+ghost use Rattle.definitions.specs.Edit.{Op};
+ghost use Rattle.editor.specs.Shows.{ShowsText, Performs, targetNumbered};
+ghost use Rattle.spans.specs.Spans.{throughOf, changeHere, Finishes};
 
 // D from the current line on.
 fn delete_here(j: &mut [u8], st: State, through: usize) -> Moved
-    requires { ⌜ ((e : Ed) × (t : Tape) × Shows (now j) st e t) ⌝ }
-    ensures { λ r. ⌜ ((e : Ed) (t : Tape) (b : Through) → Shows (now (j .entry)) st e t → GoesTo through b → Answered (now (j .exit)) r (step (length (now (j .entry))) (Op.delete Target.here b) e t)) ⌝ }
+    requires { ⌜ ShowsText (now j) st ⌝ }
+    ensures { λ r. ⌜ Finishes (now (j .entry)) st (changeHere (λ n. strike n ∷ []) (throughOf through)) (now (j .exit)) r ⌝ }
 {
     let found = crate::finding::span_end(j, st, through);
     match found {
         Found::Stop(n, s) => Moved::Stop(n, s),
-        Found::To(end) => Moved::On(crate::striking::strike_span(j, st, end)),
+        Found::To(end, s) => Moved::On(crate::striking::strike_span(j, s, end)),
     }
 }
 
-// D: `from` is 0 for the current line, else a source line.
-// `through` is 0 for one line, 65,536 for `*`, else a source line.
+// D: `from` is as in M. `through` is 0 for one line, 65,536 for `*`, else a source line.
 pub fn delete_span(j: &mut [u8], st: State, from: usize, through: usize) -> Moved
-    requires { ⌜ ((e : Ed) × (t : Tape) × Shows (now j) st e t) ⌝ }
-    ensures { λ r. ⌜ ((e : Ed) (t : Tape) (a : Target) (b : Through) → Shows (now (j .entry)) st e t → Spans from through a b → Answered (now (j .exit)) r (step (length (now (j .entry))) (Op.delete a b) e t)) ⌝ }
+    requires { ⌜ ShowsText (now j) st ⌝ }
+    ensures { λ r. ⌜ Performs (now (j .entry)) st (Op.delete (targetNumbered from) (throughOf through)) (now (j .exit)) r ⌝ }
 {
-    if from == 0 {
-        return delete_here(j, st, through);
-    }
-    let moved = editor::moves::move_to(j, st, from);
+    let moved = editor::moves::go_to(j, st, from);
     match moved {
         Moved::Stop(n, s) => Moved::Stop(n, s),
         Moved::On(s) => delete_here(j, s, through),

@@ -1,19 +1,14 @@
 // Records passed over the gap one after the other, and their lines deleted.
 use editor::State;
-ghost use mathlib.Core.Path.{_≡_};
-ghost use mathlib.Core.List.{List, [], _++_};
-ghost use Prim.Native.Nat.{_+_};
-ghost use lib.ListN.{length};
+ghost use mathlib.Core.List.{List};
 ghost use Rattle.definitions.specs.Journal.{Record};
-ghost use Rattle.definitions.specs.Editor.{eraseBack};
-ghost use Rattle.editor.specs.Records.{encAll};
-ghost use Rattle.editor.specs.Shows.{Holds, Stays};
-ghost use Rattle.spans.specs.Spans.{strikeOver, Withdrawn, Landed};
+ghost use Rattle.editor.specs.Shows.{Holds, strikeOver};
+ghost use Rattle.spans.specs.Spans.{Spanned, Until, PassesTo, Withdraws, StrikesBack, StrikesSpan};
 
 // The records up to the place `end` are passed, and their lines are deleted.
 pub fn strike_to(j: &mut [u8], st: State, end: usize) -> State
-    requires { ⌜ ((c : List Record) × (m : List Record) × (d : List Record) × Holds (now j) st c (m ++ d) × (end + length (encAll d) ≡ length (now j))) ⌝ }
-    ensures { λ r. ⌜ ((c : List Record) (m : List Record) (d : List Record) → Holds (now (j .entry)) st c (m ++ d) → end + length (encAll d) ≡ length (now (j .entry)) → Holds (now (j .exit)) r (strikeOver m c) d) × Stays st r ⌝ }
+    requires { ⌜ Until (now j) st end ⌝ }
+    ensures { λ r. ⌜ PassesTo strikeOver end (now (j .entry)) st (now (j .exit)) r ⌝ }
 {
     let mut s = st;
     while s.back < end {
@@ -27,7 +22,7 @@ pub fn strike_to(j: &mut [u8], st: State, end: usize) -> State
 // Back over the nearest k live records, or to the start.
 fn back_live(j: &mut [u8], st: State, k: usize) -> State
     requires { ⌜ ((b : List Record) × (a : List Record) × Holds (now j) st b a) ⌝ }
-    ensures { λ r. ⌜ ((b : List Record) (a : List Record) → Holds (now (j .entry)) st b a → Withdrawn (now (j .exit)) r k b a) × Stays st r ⌝ }
+    ensures { λ r. ⌜ Withdraws k (now (j .entry)) st (now (j .exit)) r ⌝ }
 {
     let mut s = st;
     let mut left = k;
@@ -47,7 +42,7 @@ fn back_live(j: &mut [u8], st: State, k: usize) -> State
 // The nearest k live lines before the current one are deleted.
 pub fn strike_back(j: &mut [u8], st: State, k: usize) -> State
     requires { ⌜ ((b : List Record) × (a : List Record) × Holds (now j) st b a) ⌝ }
-    ensures { λ r. ⌜ ((b : List Record) (a : List Record) → Holds (now (j .entry)) st b a → Holds (now (j .exit)) r (eraseBack k b []) a) × Stays st r ⌝ }
+    ensures { λ r. ⌜ StrikesBack k (now (j .entry)) st (now (j .exit)) r ⌝ }
 {
     let end = st.back;
     let near = back_live(j, st, k);
@@ -56,8 +51,8 @@ pub fn strike_back(j: &mut [u8], st: State, k: usize) -> State
 
 // The lines of the records up to the place `end` are deleted; the next live line is current and read.
 pub fn strike_span(j: &mut [u8], st: State, end: usize) -> State
-    requires { ⌜ ((c : List Record) × (m : List Record) × (d : List Record) × Holds (now j) st c (m ++ d) × (end + length (encAll d) ≡ length (now j))) ⌝ }
-    ensures { λ r. ⌜ ((c : List Record) (m : List Record) (d : List Record) → Holds (now (j .entry)) st c (m ++ d) → end + length (encAll d) ≡ length (now (j .entry)) → Landed (now (j .exit)) r (st .lines) (st .furthest) (strikeOver m c) d) × (r .lines ≡ st .lines) × (r .p ≡ 0) ⌝ }
+    requires { ⌜ Spanned (now j) st end ⌝ }
+    ensures { λ r. ⌜ StrikesSpan end (now (j .entry)) st (now (j .exit)) r ⌝ }
 {
     let gone = strike_to(j, st, end);
     let l = editor::walk::land_live(j, gone);

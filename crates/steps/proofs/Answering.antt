@@ -4,21 +4,23 @@ use mathlib.Core.List.{List}
 use Prim.Native.Nat.{ℕ, _≤_}
 use lib.ListN.{length}
 use Rattle.definitions.specs.Tape.{Tape}
+use Rattle.definitions.specs.Given.{Carried}
 use Rattle.definitions.specs.Editor.{Ed}
-use Rattle.definitions.specs.Edit.{Op, round, begin, beginBack, need, act, within, step}
+use Rattle.definitions.specs.StepProgram.{runs, state, textOf}
+use Rattle.definitions.specs.Edit.{Op, round, begin, beginBack, goesOn, program, step}
 use Rattle.definitions.specs.Control.{Ctl}
-use Rattle.script.specs.Words.{OpAt}
+use Rattle.items.specs.Words.{OpAt}
+use Rattle.items.specs.Simple.{CommandAt}
 use Rattle.control.specs.declared.Wanted.{Wanted}
 use Rattle.editor.specs.declared.State.{State}
-use Rattle.editor.specs.Shows.{Shows}
-use Rattle.editor.specs.Current.{PointIn}
-use Rattle.editor.proofs.Answers.{step-still}
+use Rattle.editor.specs.Shows.{lent}
+use Rattle.editor.specs.Current.{Ready}
 use Rattle.seeks.specs.declared.Looked.{Looked}
 use Rattle.seeks.specs.declared.Looked.the-variants.{Yes}
 use Rattle.seeks.specs.declared.Sought.{Sought}
-use Rattle.seeks.specs.Looks.{Looks, LooksAs}
-use Rattle.commands.specs.Ready.{CommandAt, Ready}
-use Rattle.steps.specs.Steps.{Wants, Comes}
+use Rattle.seeks.specs.Looks.{LooksAs, LooksOnce}
+use Rattle.seeks.proofs.Looking.{says-yes}
+use Rattle.steps.specs.Steps.{Wants, AnswersStep}
 use Rattle.steps.proofs.Asked.{wanted-asked}
 use Rattle.steps.proofs.OneStep.{one-comes}
 use Rattle.steps.proofs.Views.{asks-round, asks-begin, asks-begin-back, asks-command}
@@ -38,28 +40,26 @@ command-at s w x from op c₁ c₀ q h = by (asks-command s w x op (h .asks) q)
     }
 
 -- a round changes nothing
-round-looks : (n : ℕ) (j : List ℕ) (st : State) (e : Ed) (t : Tape) → Shows j st e t → PointIn e → LooksAs j (Yes st) (step n round e t)
-unfolding need act within Looks
-round-looks n j st e t h i = rw (step-still n round e t refl) (h, i)
+round-looks : (j : List ℕ) (st : State) → LooksOnce j st round j (Yes st)
+unfolding step program goesOn runs
+round-looks j st e c t h i = says-yes (lent j) c goesOn e t refl h i
 
-module _ (s w : List ℕ) (x : Wanted) (table j k : List ℕ) (st : State) (size left : ℕ) (r : Looked) (z : Sought) (once : z ≡ record { looked = r; made = 1 }) (some : 1 ≤ left) where
-  -- what is known of the run after a wanted step
-  abbrev pub After : Type 0
-  After = (from : Ctl) (op : Op) (c₁ c₀ : Ctl) (e : Ed) (t : Tape) (steps : ℕ) → Wants s w x from op c₁ c₀ → Ready table j st e t
-      → Comes size left steps from e t table k (x .place) c₁ c₀ z
+module _ (s w : List ℕ) (x : Wanted) (table j k : List ℕ) (st : State) (left : ℕ) (r : Looked) (z : Sought) (once : z ≡ record { looked = r; made = 1 }) (some : 1 ≤ left) where
+  -- one step answers what is wanted
+  pub after-step : ((from : Ctl) (op : Op) (c₁ c₀ : Ctl) (e : Ed) (c : Carried) (t : Tape) → Wants s w x from op c₁ c₀ → Ready table j st e t → LooksAs k r (step (lent j) op (state e c) t))
+      → AnswersStep s w x table j st left k z
+  unfolding textOf
+  after-step f from op c₁ c₀ e c t steps h ready =
+      one-comes j left steps from (x .place) op c₁ c₀ (state e c) t table k r z once some (h .next) (ready .old) (f from op c₁ c₀ e c t h ready)
 
-  pub after-step : ((from : Ctl) (op : Op) (c₁ c₀ : Ctl) (e : Ed) (t : Tape) → Wants s w x from op c₁ c₀ → Ready table j st e t → LooksAs k r (step size op e t)) → After
-  after-step f from op c₁ c₀ e t steps h ready =
-      one-comes size left steps from (x .place) op c₁ c₀ e t table k r z once some (h .next) (ready .old) (f from op c₁ c₀ e t h ready)
+  pub after-begin : x .what ≡ 4 → LooksOnce j st begin k r → AnswersStep s w x table j st left k z
+  after-begin q f = after-step (λ from op c₁ c₀ e c t h ready. rw (asks-begin s w x op (h .asks) q) (f e c t (ready .shows) (ready .point)))
 
-  pub after-begin : x .what ≡ 4 → ((e : Ed) (t : Tape) → Shows j st e t → PointIn e → LooksAs k r (step size begin e t)) → After
-  after-begin q f = after-step (λ from op c₁ c₀ e t h ready. rw (asks-begin s w x op (h .asks) q) (f e t (ready .shows) (ready .point)))
+  pub after-begin-back : x .what ≡ 5 → LooksOnce j st beginBack k r → AnswersStep s w x table j st left k z
+  after-begin-back q f = after-step (λ from op c₁ c₀ e c t h ready. rw (asks-begin-back s w x op (h .asks) q) (f e c t (ready .shows) (ready .point)))
 
-  pub after-begin-back : x .what ≡ 5 → ((e : Ed) (t : Tape) → Shows j st e t → PointIn e → LooksAs k r (step size beginBack e t)) → After
-  after-begin-back q f = after-step (λ from op c₁ c₀ e t h ready. rw (asks-begin-back s w x op (h .asks) q) (f e t (ready .shows) (ready .point)))
-
-pub after-round : (s w : List ℕ) (x : Wanted) (table j : List ℕ) (st : State) (size left : ℕ) (z : Sought) (once : z ≡ record { looked = Yes st; made = 1 }) (some : 1 ≤ left)
-    → x .what ≡ 0 → After s w x table j j st size left (Yes st) z once some
-after-round s w x table j st size left z once some q =
-    after-step s w x table j j st size left (Yes st) z once some
-    (λ from op c₁ c₀ e t h ready. rw (asks-round s w x op (h .asks) q) (round-looks size j st e t (ready .shows) (ready .point)))
+pub after-round : (s w : List ℕ) (x : Wanted) (table j : List ℕ) (st : State) (left : ℕ) (z : Sought) (once : z ≡ record { looked = Yes st; made = 1 }) (some : 1 ≤ left)
+    → x .what ≡ 0 → AnswersStep s w x table j st left j z
+after-round s w x table j st left z once some q =
+    after-step s w x table j j st left (Yes st) z once some
+    (λ from op c₁ c₀ e c t h ready. rw (asks-round s w x op (h .asks) q) (round-looks j st e c t (ready .shows) (ready .point)))

@@ -9,7 +9,7 @@ use Rattle.definitions.specs.Edit.{Test, Op, round, test}
 use Rattle.definitions.specs.Control.{Seek, forward, backward, deleting, Item, Frame, Ctl, running, seeking, want, beginOp, lookOp, pull}
 use Rattle.theorems.specs.GoodItems.{goodOp}
 use Rattle.theorems.specs.Runs.{Asking, pull-asks}
-use Rattle.script.specs.Words.{OpAt}
+use Rattle.items.specs.Words.{OpAt}
 use Rattle.steps.specs.Steps.{GoodCtl}
 
 -- a search goes on: found, after it; not found, it has passed a line more

@@ -9,7 +9,7 @@ use Rattle.definitions.specs.Edit.{is, isNot, isEof, Op, round, test, begin, be
 use Rattle.definitions.specs.Control.{Seek, forward, backward, deleting, lookOp}
 use Rattle.matching.specs.Words.{Encodes}
 use Rattle.matching.proofs.Running.{forward as forward-on}
-use Rattle.script.specs.Words.{OpAt}
+use Rattle.items.specs.Words.{OpAt}
 use Rattle.control.specs.declared.Wanted.{Wanted}
 use Rattle.steps.proofs.Asked.{look-same}
 use Rattle.control.specs.Shown.{SearchOf, Asks, a-round, holds, holds-not, at-eof, begins, begins-back, finds, finds-back, deletes, simply}

@@ -1,16 +1,10 @@
 // What a step of the run asks of the editor, done on the journal buffer.
 ghost use mathlib.Core.Path.{_≡_};
-ghost use Prim.Native.Nat.{ℕ, _+_, _≤_, _<_};
+ghost use Prim.Native.Nat.{_+_, _≤_, _<_};
 ghost use lib.ListN.{length, getD};
-ghost use Rattle.definitions.specs.Tape.{Tape};
-ghost use Rattle.definitions.specs.Search.{Search};
-ghost use Rattle.definitions.specs.Editor.{Ed};
-ghost use Rattle.definitions.specs.Edit.{Op, step};
-ghost use Rattle.definitions.specs.Control.{Seek, lookOp, Ctl};
 ghost use Rattle.control.specs.Shown.{Asks};
-ghost use Rattle.seeks.specs.Looks.{LooksAs, stepsOf, Seeks};
-ghost use Rattle.commands.specs.Ready.{CommandAt, Ready};
-ghost use Rattle.steps.specs.Steps.{Wants, Comes};
+ghost use Rattle.items.specs.Simple.{CommandAt};
+ghost use Rattle.steps.specs.Steps.{Asking, LooksAsked, SeeksAsked, Wanting, AnswersStep};
 use control::AT_EOF;
 use control::BEGIN;
 use control::BEGIN_BACK;
@@ -24,6 +18,8 @@ use editor::Moved;
 use editor::State;
 use seeks::Looked;
 use seeks::Sought;
+use seeks::Way;
+use seeks::seek;
 
 // One step was made.
 fn once(looked: Looked) -> Sought
@@ -42,8 +38,8 @@ fn search_end(w: &[u32], item: usize) -> usize
 
 // The test of IF, UL, IFEOF, WH or UT.
 fn test<'a>(script: &[u8], table: &'a [u8], w: &[u32], x: Wanted, j: &'a [u8], st: State) -> Looked
-    requires { ⌜ ((op : Op) × Asks (now script) (now w) x op) × ((e : Ed) × (t : Tape) × Ready (now table) (now j) st e t) × (1 ≤ x .what) × (x .what ≤ 3) ⌝ }
-    ensures { λ r. ⌜ ((op : Op) (e : Ed) (t : Tape) → Asks (now (script .entry)) (now (w .entry)) x op → Ready (now (table .entry)) (now (j .entry)) st e t → LooksAs (now (j .entry)) r (step (length (now (j .entry))) op e t)) ⌝ }
+    requires { ⌜ Asking (Asks (now script) (now w) x) (now table) (now j) st × (1 ≤ x .what) × (x .what ≤ 3) ⌝ }
+    ensures { λ r. ⌜ LooksAsked (Asks (now (script .entry)) (now (w .entry)) x) (now (table .entry)) (now (j .entry)) st (now (j .entry)) r ⌝ }
 {
     let what = x.what;
     if what == AT_EOF {
@@ -68,20 +64,20 @@ fn lines(
     st: State,
     left: usize,
 ) -> Sought
-    requires { ⌜ ((op : Op) × Asks (now script) (now w) x op) × ((e : Ed) × (t : Tape) × Ready (now table) (now j) st e t) × (6 ≤ x .what) × (x .what ≤ 8) × (x .what ≡ 8 → x .lines + left ≤ 18446744073709551615) ⌝ }
-    ensures { λ r. ⌜ ((f : Seek) (se : Search) (i : ℕ) (e : Ed) (t : Tape) → Asks (now (script .entry)) (now (w .entry)) x (lookOp f se i) → Ready (now (table .entry)) (now (j .entry)) st e t → Seeks (now (j .exit)) r (stepsOf (length (now (j .entry))) (lookOp f se) i left e t)) ⌝ }
+    requires { ⌜ Asking (Asks (now script) (now w) x) (now table) (now j) st × (6 ≤ x .what) × (x .what ≤ 8) × (x .what ≡ 8 → x .lines + left ≤ 18446744073709551615) ⌝ }
+    ensures { λ r. ⌜ SeeksAsked (Asks (now (script .entry)) (now (w .entry)) x) (now (table .entry)) (now (j .entry)) st left (now (j .exit)) r ⌝ }
 {
     let what = x.what;
     let item = x.item;
     let k = item + 2;
     let m = search_end(w, item);
     if what == FIND {
-        return seeks::seek_forward(script, w, k, m, table, j, st, left);
+        return seek(script, w, k, m, table, j, st, Way::Forward, 0, left);
     }
     if what == FIND_BACK {
-        return seeks::seek_backward(script, w, k, m, table, j, st, left);
+        return seek(script, w, k, m, table, j, st, Way::Backward, 0, left);
     }
-    seeks::seek_delete(script, w, k, m, table, j, st, x.lines, left)
+    seek(script, w, k, m, table, j, st, Way::Deleting, x.lines, left)
 }
 
 // F, BF or DF from the current line on. Where none of `left` lines matches, the budget is spent.
@@ -94,8 +90,8 @@ fn search(
     st: State,
     left: usize,
 ) -> Sought
-    requires { ⌜ ((from : Ctl) × (op : Op) × (c₁ : Ctl) × (c₀ : Ctl) × Wants (now script) (now w) x from op c₁ c₀) × ((e : Ed) × (t : Tape) × Ready (now table) (now j) st e t) × (1 ≤ left) × (6 ≤ x .what) × (x .what ≤ 8) × (x .what ≡ 8 → x .lines + left ≤ 18446744073709551615) ⌝ }
-    ensures { λ r. ⌜ ((from : Ctl) (op : Op) (c₁ c₀ : Ctl) (e : Ed) (t : Tape) (steps : ℕ) → Wants (now (script .entry)) (now (w .entry)) x from op c₁ c₀ → Ready (now (table .entry)) (now (j .entry)) st e t → Comes (length (now (j .entry))) left steps from e t (now (table .entry)) (now (j .exit)) (x .place) c₁ c₀ r) ⌝ }
+    requires { ⌜ Wanting (now script) (now w) x (now table) (now j) st × (1 ≤ left) × (6 ≤ x .what) × (x .what ≤ 8) × (x .what ≡ 8 → x .lines + left ≤ 18446744073709551615) ⌝ }
+    ensures { λ r. ⌜ AnswersStep (now (script .entry)) (now (w .entry)) x (now (table .entry)) (now (j .entry)) st left (now (j .exit)) r ⌝ }
 {
     let r = lines(script, table, w, x, j, st, left);
     let looked = r.looked;
@@ -110,8 +106,8 @@ fn search(
 
 // A simple command.
 fn command(script: &[u8], table: &[u8], w: &[u32], x: Wanted, j: &mut [u8], st: State) -> Looked
-    requires { ⌜ ((op : Op) × CommandAt (now script) (now w) (x .item) op) × ((e : Ed) × (t : Tape) × Ready (now table) (now j) st e t) ⌝ }
-    ensures { λ r. ⌜ ((op : Op) (e : Ed) (t : Tape) → CommandAt (now (script .entry)) (now (w .entry)) (x .item) op → Ready (now (table .entry)) (now (j .entry)) st e t → LooksAs (now (j .exit)) r (step (length (now (j .entry))) op e t)) ⌝ }
+    requires { ⌜ Asking (CommandAt (now script) (now w) (x .item)) (now table) (now j) st ⌝ }
+    ensures { λ r. ⌜ LooksAsked (CommandAt (now (script .entry)) (now (w .entry)) (x .item)) (now (table .entry)) (now (j .entry)) st (now (j .exit)) r ⌝ }
 {
     let r = commands::perform(script, table, w, x.item, j, st);
     match r {
@@ -130,8 +126,8 @@ pub fn answer_step(
     st: State,
     left: usize,
 ) -> Sought
-    requires { ⌜ ((from : Ctl) × (op : Op) × (c₁ : Ctl) × (c₀ : Ctl) × Wants (now script) (now w) x from op c₁ c₀) × ((e : Ed) × (t : Tape) × Ready (now table) (now j) st e t) × (1 ≤ left) × (x .what ≡ 8 → x .lines + left ≤ 18446744073709551615) ⌝ }
-    ensures { λ r. ⌜ ((from : Ctl) (op : Op) (c₁ c₀ : Ctl) (e : Ed) (t : Tape) (steps : ℕ) → Wants (now (script .entry)) (now (w .entry)) x from op c₁ c₀ → Ready (now (table .entry)) (now (j .entry)) st e t → Comes (length (now (j .entry))) left steps from e t (now (table .entry)) (now (j .exit)) (x .place) c₁ c₀ r) ⌝ }
+    requires { ⌜ Wanting (now script) (now w) x (now table) (now j) st × (1 ≤ left) × (x .what ≡ 8 → x .lines + left ≤ 18446744073709551615) ⌝ }
+    ensures { λ r. ⌜ AnswersStep (now (script .entry)) (now (w .entry)) x (now (table .entry)) (now (j .entry)) st left (now (j .exit)) r ⌝ }
 {
     let what = x.what;
     if what == ROUND {

@@ -1,13 +1,13 @@
 -- Laws of adding a qualifier, one for each way out. Assumes nothing.
 use mathlib.Core.Path.{_≡_, refl, sym, _∙_}
-use mathlib.Core.Bool.{Bool, true, false, not, _&&_, _||_}
+use mathlib.Core.Bool.{Bool, true, false, _&&_}
 use mathlib.Core.Logic.{_⊎_, inl, inr}
 use mathlib.Core.Option.{Option, none, some}
 use Prim.Native.Nat.{ℕ, zero, suc, _≤_, _<_}
 use native.Mathlib.Omega.{arith}
 use native.Mathlib.Nat.{not-suc-le-zero}
 use borrow.Author.Tests.{eq-eqb, ne-eqb}
-use Rattle.definitions.specs.Matching.{Qualifiers, qualifiers}
+use Rattle.definitions.specs.Matching.{Qualifiers}
 use Rattle.definitions.specs.Reader.{Cursor, placeAt, afterByte}
 use Rattle.definitions.specs.Strings.{isAnchored, clashesWithL, unless, addAnchor, addCount, addL, addN, addW, addU, addS, added, letterOf, readQualifier}
 use Rattle.matching.specs.declared.Quals.{Quals}
@@ -38,10 +38,6 @@ not-zero (suc (suc (suc n))) h = refl
 pub is-zero : (n : ℕ) → n ≡ 0 → isAnchored (anchorOf n) ≡ false
 unfolding isAnchored anchorOf
 is-zero n h = rw h
-
-or-true : (t : Bool) → (t || true) ≡ true
-or-true true = refl
-or-true false = refl
 
 -- P and B clash with L, E does not
 not-end : (n : ℕ) → 1 ≤ n → n ≤ 3 → (n ≡ 2 → ⊥) → clashesWithL (anchorOf n) ≡ true

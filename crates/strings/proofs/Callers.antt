@@ -1,12 +1,10 @@
 -- What a caller has of strings that were read: what the definition says of them, where they lie, and room for their words. Assumes nothing.
 use mathlib.Core.Path.{_≡_, sym, _∙_}
 use mathlib.Core.Bool.{true}
-use mathlib.Core.List.{List, [], _∷_}
+use mathlib.Core.List.{List}
 use Prim.Native.Nat.{ℕ, zero, suc, _+_, _-_, _*_, _≤_, _<_}
 use native.Mathlib.Omega.{arith}
-use native.Mathlib.Nat.{not-suc-le-zero, sub-zero}
 use lib.ListN.{length, take, drop}
-use lib.Seq.{slice, take-nil}
 use Rattle.definitions.specs.Table.{isScript}
 use Rattle.definitions.specs.Matching.{Qualified, qualified}
 use Rattle.definitions.specs.Reader.{Got, got, refused}
@@ -14,20 +12,11 @@ use Rattle.definitions.specs.Strings.{Pair, pair}
 use Rattle.matching.specs.declared.Quals.{Quals}
 use Rattle.matching.specs.Quals.{columnsOf, qualifiersOf}
 use Rattle.matching.specs.Words.{columnsIn, columnWords, stringWords, Writable}
-use Rattle.reader.specs.Places.{cursorAt}
+use Rattle.lexer.specs.Places.{cursorAt}
 use Rattle.strings.specs.declared.OneString.{OneString}
 use Rattle.strings.specs.declared.TwoStrings.{TwoStrings}
 use Rattle.strings.specs.Answers.{StringAt, StringOn, stringOf, Quoted, PairAt, PairOn, pairOf, Paired}
 use Rattle.strings.proofs.Lines.{strings-short, script-short}
-
--- a part of the script, by its start and its length
-pub part-is : (start end : ℕ) (s : List ℕ) → start ≤ end → slice start end s ≡ take (end - start) (drop start s)
-part-is zero end s h = rw sub-zero
-part-is (suc start) zero s h = absurd (not-suc-le-zero h)
-part-is (suc start) (suc end) [] h = sym (take-nil (suc end - suc start))
-part-is (suc start) (suc end) (b ∷ s) h =
-    let e : suc end - suc start ≡ end - start = omega arith in
-    rw e (part-is start end s (omega arith))
 
 -- ---- one string
 
@@ -43,7 +32,7 @@ module _ (s : List ℕ) (at : ℕ) (x : Got Qualified) (a : OneString) (read : Q
 
     pub string-is : x ≡ got (qualified (qualifiersOf q) (take (end - start) (drop start s))) (cursorAt s next)
     unfolding stringOf
-    string-is = sym (read .is) ∙ rw (is, part-is start end s (string-at .ordered))
+    string-is = sym (read .is) ∙ rw is
 
 -- ---- two strings
 
@@ -59,7 +48,7 @@ module _ (s : List ℕ) (at : ℕ) (x : Got Pair) (a : TwoStrings) (read : Paire
 
     pub pair-is : x ≡ got (pair (qualified (qualifiersOf q) (take (end - start) (drop start s))) (take (second-end - second) (drop second s))) (cursorAt s next)
     unfolding pairOf
-    pair-is = sym (read .is) ∙ rw (is, part-is start end s (pair-at .first .ordered), part-is second second-end s (pair-at .ordered))
+    pair-is = sym (read .is) ∙ rw is
 
 -- ---- the words of a string
 

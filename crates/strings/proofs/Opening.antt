@@ -12,10 +12,10 @@ use Rattle.definitions.specs.Reader.{Cursor, got, refused, bytesLeft, nextByte,
 use Rattle.definitions.specs.Strings.{noQualifiers, qualifierByte, readQualifier, readQualifiers, startQualifiers}
 use Rattle.matching.specs.declared.Quals.{Quals}
 use Rattle.matching.specs.Quals.{anchorOf, columnsOf, qualifiersOf}
-use Rattle.reader.specs.Places.{cursorAt}
-use Rattle.reader.proofs.AtPlace.{next-inside}
+use Rattle.lexer.specs.Places.{cursorAt}
+use Rattle.lexer.proofs.AtPlace.{next-inside}
 use Rattle.strings.specs.declared.Read.{Read}
-use Rattle.strings.specs.Answers.{Small, readOf, ReadOn, Reads, OpenAt, Opened}
+use Rattle.strings.specs.Answers.{Small, readOf, ReadOn, QualifierRead, OpenAt, QualifiersRead}
 
 -- no qualifiers, as the code writes them
 abbrev pub none-yet : Quals
@@ -78,7 +78,7 @@ module _ (inSearch : Bool) (q : Qualifiers) (c : Cursor) where
     round-refused (suc n) h k p e = rw (more, e, readQualifiers)
 
 module _ (s : List ℕ) (at : ℕ) (inSearch : Bool) (q : Quals) (i : ℕ) (begun : Begun s at inSearch q i) where
-  pub opened : isDelimiter (nextByte (cursorAt s i)) ≡ true → Opened s at (startQualifiers inSearch (cursorAt s at)) (Read.Next q i)
+  pub opened : isDelimiter (nextByte (cursorAt s i)) ≡ true → QualifiersRead s at (startQualifiers inSearch (cursorAt s at)) (Read.Next q i)
   unfolding readOf OpenAt
   opened e = record {
     is = sym (begun .same ∙ round-open inSearch (qualifiersOf q) (cursorAt s i) (begun .rounds) (omega (arith, begun .enough)) e);
@@ -86,8 +86,8 @@ module _ (s : List ℕ) (at : ℕ) (inSearch : Bool) (q : Quals) (i : ℕ) (begu
   }
 
   module _ (more : isDelimiter (nextByte (cursorAt s i)) ≡ false) (r : Read)
-      (step : Reads s i (readQualifier inSearch (qualifiersOf q) (cursorAt s i) (qualifierByte (nextByte (cursorAt s i)))) r) where
-    pub refused-up : (k p : ℕ) → r ≡ Read.Refused k p → Opened s at (startQualifiers inSearch (cursorAt s at)) r
+      (step : QualifierRead s i (readQualifier inSearch (qualifiersOf q) (cursorAt s i) (qualifierByte (nextByte (cursorAt s i)))) r) where
+    pub refused-up : (k p : ℕ) → r ≡ Read.Refused k p → QualifiersRead s at (startQualifiers inSearch (cursorAt s at)) r
     unfolding readOf OpenAt
     refused-up k p e = rw e (record {
       is = sym (begun .same ∙ round-refused inSearch (qualifiersOf q) (cursorAt s i) more (begun .rounds) (omega (arith, begun .enough)) k p

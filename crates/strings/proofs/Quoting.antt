@@ -8,20 +8,20 @@ use native.Mathlib.Nat.{eq-or-lt-of-le}
 use native.Mathlib.Omega.{arith}
 use lib.ListN.{length, drop, getD}
 use lib.Dec.{eqb}
-use lib.Seq.{slice, slice-empty, slice-cons, length-slice}
+use Rattle.text.specs.Lines.{part}
+use Rattle.text.proofs.Parts.{part-length, part-none, part-cons}
 use borrow.Author.Tests.{eq-eqb, ne-eqb, eqb-true}
 use Rattle.definitions.specs.Bytes.{isDigit}
-use Rattle.definitions.specs.Matching.{qualifiers, qualified}
-use Rattle.definitions.specs.Reader.{Cursor, cursor, andThen, placeAt, nextByte, isNext, afterByte, stringUpTo, stringNext, advance, pastDelimiter, afterString}
+use Rattle.definitions.specs.Reader.{Cursor, cursor, andThen, placeAt, nextByte, stringUpTo, stringNext, advance, pastDelimiter, afterString}
 use Rattle.definitions.specs.Strings.{wantsBytes, isEmpty, readString, startQualifiers, qualifiedString, secondString, twoStrings}
 use Rattle.matching.specs.declared.Quals.{Quals}
 use Rattle.matching.specs.Quals.{qualifiersOf}
-use Rattle.reader.specs.Places.{cursorAt}
-use Rattle.reader.proofs.AtPlace.{is-next, next-in, next-at, after-in, after-next}
+use Rattle.lexer.specs.Places.{cursorAt}
+use Rattle.lexer.proofs.AtPlace.{is-next, next-in, next-at, after-in, after-next}
 use Rattle.strings.specs.declared.Read.{Read}
 use Rattle.strings.specs.declared.OneString.{OneString}
 use Rattle.strings.specs.declared.TwoStrings.{TwoStrings}
-use Rattle.strings.specs.Answers.{noString, noPair, readOf, Open, OpenAt, Opened, Short, StringAt, stringOf, StringOn, Quoted, pairOf, PairOn, Paired}
+use Rattle.strings.specs.Answers.{noString, noPair, readOf, Open, OpenAt, QualifiersRead, Short, StringAt, stringOf, StringOn, Quoted, pairOf, PairOn, Paired}
 
 -- ---- which qualifiers want bytes
 
@@ -35,16 +35,16 @@ words-want q e = rw (eq-eqb (q .count) 0 e)
 
 -- ---- the string at its opening delimiter
 
-pub not-empty : (s : List ℕ) (f t : ℕ) → f < t → t ≤ length s → isEmpty (slice f t s) ≡ false
+pub not-empty : (s : List ℕ) (f t : ℕ) → f < t → t ≤ length s → isEmpty (part f t s) ≡ false
 unfolding isEmpty
-not-empty s f t h k = rw (slice-cons f t s 0 h k)
+not-empty s f t h k = rw (part-cons s f t h k)
 
 and-false : (t : Bool) → (t && false) ≡ false
 and-false true = refl
 and-false false = refl
 
 -- a string's place and what is after its delimiter, as the readers of the small parts say it
-module _ (s : List ℕ) (start end d next : ℕ) (string : stringNext d (cursorAt s start) ≡ slice start end s)
+module _ (s : List ℕ) (start end d next : ℕ) (string : stringNext d (cursorAt s start) ≡ part start end s)
     (passed : advance (length (stringNext d (cursorAt s start))) (cursorAt s start) ≡ cursorAt s end)
     (closed : pastDelimiter d (cursorAt s end) ≡ cursorAt s next) where
   pub after-is : afterString d (cursorAt s start) ≡ cursorAt s next
@@ -89,20 +89,20 @@ module _ (s : List ℕ) (start end d next : ℕ) (passed : advance (length (stri
       by (inl e) (inl is) = absurd (false≢true (sym (passes s end d is (rw (← e) at closed)) ∙ rw (← is, next-at s end, e) digit))
 
 -- a string that is as long as a line at most
-short : (s : List ℕ) (start end d : ℕ) → stringNext d (cursorAt s start) ≡ slice start end s → end ≤ length s → Short s → end ≤ start + 255
-short s start end d e h lines = omega (arith, lines d start, ap length e ∙ length-slice start end s h)
+short : (s : List ℕ) (start end d : ℕ) → stringNext d (cursorAt s start) ≡ part start end s → end ≤ length s → Short s → end ≤ start + 255
+short s start end d e h lines = omega (arith, lines d start, ap length e ∙ part-length s start end h)
 
 -- `from` is where the qualifiers begin, `at` where the opening delimiter stands
 module _ (s : List ℕ) (from at : ℕ) (q : Quals) (opened : Open s from q at) where
-  module _ (end : ℕ) (string : stringNext (getD s at 0) (cursorAt s (at + 1)) ≡ slice (at + 1) end s) where
+  module _ (end : ℕ) (string : stringNext (getD s at 0) (cursorAt s (at + 1)) ≡ part (at + 1) end s) where
     pub wants-more : end ≡ at + 1 → wantsBytes (qualifiersOf q) ≡ true → Quoted s from (readString (qualifiersOf q) (cursorAt s at)) (OneString.Refused 4 at)
     unfolding readString stringOf StringOn placeAt isEmpty
-    wants-more e w = record { is = rw (next-in s at (opened .inside), after-in s at (opened .inside), string, e, slice-empty (at + 1) s, w); on = tt }
+    wants-more e w = record { is = rw (next-in s at (opened .inside), after-in s at (opened .inside), string, e, part-none s (at + 1), w); on = tt }
 
     module _ (next : ℕ) (passed : advance (length (stringNext (getD s at 0) (cursorAt s (at + 1)))) (cursorAt s (at + 1)) ≡ cursorAt s end)
         (closed : pastDelimiter (getD s at 0) (cursorAt s end) ≡ cursorAt s next)
         (ordered : at + 1 ≤ end) (ends : end ≤ next) (within : next ≤ length s) where
-      quoted-is : (isEmpty (slice (at + 1) end s) && wantsBytes (qualifiersOf q)) ≡ false
+      quoted-is : (isEmpty (part (at + 1) end s) && wantsBytes (qualifiersOf q)) ≡ false
           → Quoted s from (readString (qualifiersOf q) (cursorAt s at)) (OneString.Next q (at + 1) end next)
       unfolding readString stringOf StringOn
       quoted-is e = record {
@@ -120,14 +120,14 @@ module _ (s : List ℕ) (from at : ℕ) (q : Quals) (opened : Open s from q at) 
       }
 
       pub quoted-empty : wantsBytes (qualifiersOf q) ≡ false → Quoted s from (readString (qualifiersOf q) (cursorAt s at)) (OneString.Next q (at + 1) end next)
-      quoted-empty w = quoted-is (rw w (and-false (isEmpty (slice (at + 1) end s))))
+      quoted-empty w = quoted-is (rw w (and-false (isEmpty (part (at + 1) end s))))
 
       pub quoted-bytes : (end ≡ at + 1 → ⊥) → Quoted s from (readString (qualifiersOf q) (cursorAt s at)) (OneString.Next q (at + 1) end next)
       quoted-bytes e = quoted-is (rw (not-empty s (at + 1) end (omega arith) (omega arith)))
 
 -- ---- a qualified string
 
-module _ (s : List ℕ) (at : ℕ) (i : Bool) (a : Read) (opened : Opened s at (startQualifiers i (cursorAt s at)) a) where
+module _ (s : List ℕ) (at : ℕ) (i : Bool) (a : Read) (opened : QualifiersRead s at (startQualifiers i (cursorAt s at)) a) where
   -- where the opening delimiter stands
   pub open-at : (q : Quals) (o : ℕ) → a ≡ Read.Next q o → Open s at q o
   unfolding OpenAt
@@ -154,7 +154,7 @@ module _ (s : List ℕ) (d : ℕ) (a : OneString) where
   pair-refused k p r e r-is = rw (r-is, e) (refl, λ at on. tt)
 
   module _ (q : Quals) (start end next second-end past : ℕ) (is : a ≡ OneString.Next q start end next)
-      (string : stringNext d (cursorAt s next) ≡ slice next second-end s)
+      (string : stringNext d (cursorAt s next) ≡ part next second-end s)
       (passed : advance (length (stringNext d (cursorAt s next))) (cursorAt s next) ≡ cursorAt s second-end)
       (closed : pastDelimiter d (cursorAt s second-end) ≡ cursorAt s past) where
     pub pair-read : pairOf s (TwoStrings.Next q start end next second-end past) ≡ andThen (stringOf s a) (λ q c. secondString d q c)
@@ -180,7 +180,7 @@ ends-within s a q start end next e on =
     let first : StringAt s (on .0) q start end next = rw e at (on .1) in
     first .within
 
-module _ (s : List ℕ) (at : ℕ) (a : Read) (opened : Opened s at (startQualifiers false (cursorAt s at)) a) where
+module _ (s : List ℕ) (at : ℕ) (a : Read) (opened : QualifiersRead s at (startQualifiers false (cursorAt s at)) a) where
   pub both-refused : (k p : ℕ) (first : OneString) (r : TwoStrings) → a ≡ Read.Refused k p → first ≡ noString a → r ≡ noPair first
       → Paired s at (twoStrings (cursorAt s at)) r
   unfolding twoStrings readOf andThen noString noPair pairOf PairOn

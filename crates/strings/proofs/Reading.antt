@@ -9,19 +9,19 @@ use lib.Dec.{leb}
 use lib.ListN.{length, getD}
 use borrow.Author.Tests.{ne-eqb, le-leb, lt-leb}
 use Rattle.definitions.specs.Bytes.{isDigit, isSmall, upper}
-use Rattle.definitions.specs.Matching.{Qualifiers, qualifiers}
+use Rattle.definitions.specs.Matching.{Qualifiers}
 use Rattle.definitions.specs.Reader.{Cursor, Got, got, refused, andThen, placeAt, nextByte, expect, skipSpaces, number}
-use Rattle.definitions.specs.Strings.{addCount, setColumns, hasColumns, isGiven, added, letterOf, qualifierByte, readCount, readColumns, readQualifier}
+use Rattle.definitions.specs.Strings.{addCount, setColumns, hasColumns, isGiven, letterOf, qualifierByte, readCount, readColumns, readQualifier}
 use Rattle.matching.specs.declared.Quals.{Quals}
 use Rattle.matching.specs.Quals.{columnsOf, qualifiersOf}
-use Rattle.reader.specs.Places.{cursorAt}
-use Rattle.reader.specs.Answers.{answers, itself, nothing, Passed, Numbered}
-use Rattle.reader.specs.declared.Answer.{Answer}
-use Rattle.reader.proofs.AtPlace.{next-in, next-end, after-in}
+use Rattle.lexer.specs.Places.{cursorAt}
+use Rattle.lexer.specs.Answers.{answers, itself, nothing, Passed, Numbered}
+use Rattle.lexer.specs.declared.Answer.{Answer}
+use Rattle.lexer.proofs.AtPlace.{next-in, next-end, after-in}
 use Rattle.strings.specs.declared.Added.{Added}
 use Rattle.strings.specs.declared.Added.the-variants.{Now, Clash, Unknown}
 use Rattle.strings.specs.declared.Read.{Read}
-use Rattle.strings.specs.Answers.{Small, addedOf, SmallAdded, Adds, AddsAt, readOf, readAdded, noQualifier, ReadOn, Reads, secondColumn, columnsFrom}
+use Rattle.strings.specs.Answers.{Small, addedOf, SmallAdded, Adds, AddsAt, readOf, readAdded, noQualifier, ReadOn, QualifierRead, secondColumn, columnsFrom}
 
 -- ---- an answer goes on, or a refusal is passed upward
 
@@ -76,12 +76,12 @@ added-on n Clash at next h k small = tt
 added-on n Unknown at next h k small = tt
 
 -- a refusal reads nothing
-pub refusal : (s : List ℕ) (at k p : ℕ) (x : Got Qualifiers) → x ≡ refused k p → Reads s at x (Read.Refused k p)
+pub refusal : (s : List ℕ) (at k p : ℕ) (x : Got Qualifiers) → x ≡ refused k p → QualifierRead s at x (Read.Refused k p)
 unfolding readOf ReadOn
 refusal s at k p x e = record { is = sym e; on = tt }
 
 -- a refusal of a number is one of the qualifier
-upward : (s : List ℕ) (at : ℕ) (a : Answer) (k p : ℕ) (r : Read) (x : Got Qualifiers) → a ≡ Answer.Refused k p → r ≡ noQualifier a → x ≡ refused k p → Reads s at x r
+upward : (s : List ℕ) (at : ℕ) (a : Answer) (k p : ℕ) (r : Read) (x : Got Qualifiers) → a ≡ Answer.Refused k p → r ≡ noQualifier a → x ≡ refused k p → QualifierRead s at x r
 unfolding noQualifier
 upward s at a k p r x e r-is x-is = rw (r-is, e) (refusal s at k p x x-is)
 
@@ -89,7 +89,7 @@ upward s at a k p r x e r-is x-is = rw (r-is, e) (refusal s at k p x x-is)
 
 module _ (s : List ℕ) (at : ℕ) (q : Quals) (a : Answer) (is : number (cursorAt s at) ≡ answers itself s a) where
   pub count-read : (count next : ℕ) (d : Added) (r : Read) → a ≡ Answer.Is count next → Numbered at (length s) a
-      → Adds (addCount count (qualifiersOf q)) q d → r ≡ readAdded d at next → Small q → Reads s at (readCount (qualifiersOf q) (cursorAt s at)) r
+      → Adds (addCount count (qualifiersOf q)) q d → r ≡ readAdded d at next → Small q → QualifierRead s at (readCount (qualifiersOf q) (cursorAt s at)) r
   unfolding readCount placeAt Numbered
   count-read count next d r e far adds r-is small =
       let on : Numbered at (length s) (Answer.Is count next) = rw e at far in
@@ -98,7 +98,7 @@ module _ (s : List ℕ) (at : ℕ) (q : Quals) (a : Answer) (is : number (cursor
         on = added-on (length s) d at next (on .2) (on .3) (adds .small small);
       })
 
-  pub count-refused : (k p : ℕ) (r : Read) → a ≡ Answer.Refused k p → r ≡ noQualifier a → Reads s at (readCount (qualifiersOf q) (cursorAt s at)) r
+  pub count-refused : (k p : ℕ) (r : Read) → a ≡ Answer.Refused k p → r ≡ noQualifier a → QualifierRead s at (readCount (qualifiersOf q) (cursorAt s at)) r
   unfolding readCount
   count-refused k p r e r-is = upward s at a k p r _ e r-is (passed-up itself s _ _ a is k p e)
 
@@ -161,12 +161,12 @@ columns-are q zero m h = absurd (not-suc-le-zero h)
 columns-are q (suc n) m h = refl
 
 module _ (s : List ℕ) (at n : ℕ) (q : Quals) (a : Answer) (is : secondColumn n (cursorAt s at) ≡ answers itself s a) where
-  pub columns-refused : (k p : ℕ) (r : Read) → a ≡ Answer.Refused k p → r ≡ noQualifier a → Reads s at (columnsFrom n (qualifiersOf q) (cursorAt s at)) r
+  pub columns-refused : (k p : ℕ) (r : Read) → a ≡ Answer.Refused k p → r ≡ noQualifier a → QualifierRead s at (columnsFrom n (qualifiersOf q) (cursorAt s at)) r
   unfolding columnsFrom
   columns-refused k p r e r-is = upward s at a k p r _ e r-is (passed-up itself s _ _ a is k p e)
 
   pub columns-now : (m next : ℕ) → a ≡ Answer.Is m next → Numbered at (length s) a → 1 ≤ n → n ≤ 65535 → Small q
-      → Reads s at (columnsFrom n (qualifiersOf q) (cursorAt s at)) (Read.Next (set-columns q n m) next)
+      → QualifierRead s at (columnsFrom n (qualifiersOf q) (cursorAt s at)) (Read.Next (set-columns q n m) next)
   unfolding columnsFrom readOf ReadOn Numbered
   columns-now m next e far low high small =
       let on : Numbered at (length s) (Answer.Is m next) = rw e at far in
@@ -175,7 +175,7 @@ module _ (s : List ℕ) (at n : ℕ) (q : Quals) (a : Answer) (is : secondColumn
         on = (on .2, on .3, record { anchor = small .anchor; count = small .count; from = high; to = on .1 });
       }
 
-later : (s : List ℕ) (at at′ : ℕ) (x y : Got Qualifiers) (r : Read) → at ≤ at′ → x ≡ y → Reads s at′ y r → Reads s at x r
+later : (s : List ℕ) (at at′ : ℕ) (x y : Got Qualifiers) (r : Read) → at ≤ at′ → x ≡ y → QualifierRead s at′ y r → QualifierRead s at x r
 unfolding ReadOn
 later s at at′ x y r h e reads = record { is = reads .is ∙ sym e; on = go r (reads .on) }
   where
@@ -223,11 +223,11 @@ module _ (s : List ℕ) (at : ℕ) (q : Quals) (i : ℕ) (spaces : skipSpaces (c
   columns-is = rw spaces (same-then (number (cursorAt s i)) _ _ (λ n c.
       parts (λ m. setColumns n m (qualifiersOf q)) (expect 44 (skipSpaces c)) (λ c₂. number (skipSpaces c₂)) (leb n) (λ c₂. placeAt (skipSpaces c₂)) (λ c₃. expect 95 (skipSpaces c₃))))
 
-  pub first-refused : (k p : ℕ) (r : Read) → a ≡ Answer.Refused k p → r ≡ noQualifier a → Reads s at (readColumns (qualifiersOf q) (cursorAt s at)) r
+  pub first-refused : (k p : ℕ) (r : Read) → a ≡ Answer.Refused k p → r ≡ noQualifier a → QualifierRead s at (readColumns (qualifiersOf q) (cursorAt s at)) r
   first-refused k p r e r-is = upward s at a k p r _ e r-is (columns-is ∙ passed-up itself s _ _ a is k p e)
 
   pub first-read : (n after : ℕ) (r : Read) → a ≡ Answer.Is n after → Numbered i (length s) a
-      → Reads s after (columnsFrom n (qualifiersOf q) (cursorAt s after)) r → Reads s at (readColumns (qualifiersOf q) (cursorAt s at)) r
+      → QualifierRead s after (columnsFrom n (qualifiersOf q) (cursorAt s after)) r → QualifierRead s at (readColumns (qualifiersOf q) (cursorAt s at)) r
   unfolding Numbered
   first-read n after r e far reads =
       let on : Numbered i (length s) (Answer.Is n after) = rw e at far in
@@ -251,26 +251,26 @@ abbrev Here : List ℕ → ℕ → Quals → Bool → Got Qualifiers
 Here s at q i = readQualifier i (qualifiersOf q) (cursorAt s at) (qualifierByte (nextByte (cursorAt s at)))
 
 module _ (s : List ℕ) (at : ℕ) (q : Quals) (i : Bool) where
-  pub nothing-left : length s ≤ at → Reads s at (Here s at q i) (Read.Refused 3 at)
+  pub nothing-left : length s ≤ at → QualifierRead s at (Here s at q i) (Read.Refused 3 at)
   unfolding qualifierByte letterOf upper isSmall readQualifier placeAt isDigit
   nothing-left h = refusal s at 3 at _ (rw (next-end s at h))
 
   module _ (inside : at < length s) where
-    pub digit-here : (r : Read) → isDigit (getD s at 0) ≡ true → Reads s at (readCount (qualifiersOf q) (cursorAt s at)) r → Reads s at (Here s at q i) r
+    pub digit-here : (r : Read) → isDigit (getD s at 0) ≡ true → QualifierRead s at (readCount (qualifiersOf q) (cursorAt s at)) r → QualifierRead s at (Here s at q i) r
     unfolding qualifierByte readQualifier
     digit-here r e reads = later s at at _ _ r (omega arith) (rw (next-in s at inside, e)) reads
 
     module _ (no-digit : isDigit (getD s at 0) ≡ false) where
-      pub columns-twice : getD s at 0 ≡ 95 → (q .from ≡ 0 → ⊥) → Reads s at (Here s at q i) (Read.Refused 4 at)
+      pub columns-twice : getD s at 0 ≡ 95 → (q .from ≡ 0 → ⊥) → QualifierRead s at (Here s at q i) (Read.Refused 4 at)
       unfolding qualifierByte readQualifier placeAt
       columns-twice e given = refusal s at 4 at _ (rw (next-in s at inside, no-digit, e, given-twice q given))
 
-      pub columns-here : (r : Read) → getD s at 0 ≡ 95 → q .from ≡ 0 → Reads s (at + 1) (readColumns (qualifiersOf q) (cursorAt s (at + 1))) r → Reads s at (Here s at q i) r
+      pub columns-here : (r : Read) → getD s at 0 ≡ 95 → q .from ≡ 0 → QualifierRead s (at + 1) (readColumns (qualifiersOf q) (cursorAt s (at + 1))) r → QualifierRead s at (Here s at q i) r
       unfolding qualifierByte readQualifier
       columns-here r e free reads = later s at (at + 1) _ _ r (omega arith) (rw (next-in s at inside, no-digit, e, not-given q free, after-in s at inside)) reads
 
       pub letter-here : (b : ℕ) (d : Added) (r : Read) → (getD s at 0 ≡ 95 → ⊥) → b ≡ upper (getD s at 0)
-          → AddsAt (λ c. readQualifier i (qualifiersOf q) c (letterOf b)) q d → r ≡ readAdded d at (at + 1) → Small q → Reads s at (Here s at q i) r
+          → AddsAt (λ c. readQualifier i (qualifiersOf q) c (letterOf b)) q d → r ≡ readAdded d at (at + 1) → Small q → QualifierRead s at (Here s at q i) r
       unfolding qualifierByte placeAt
       letter-here b d r e u adds r-is small =
           rw (r-is, next-in s at inside, no-digit, ne-eqb (getD s at 0) 95 e) (record {

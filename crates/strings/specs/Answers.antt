@@ -6,15 +6,15 @@ use mathlib.Core.Option.{Option}
 use Prim.Native.Nat.{ℕ, suc, _+_, _≤_, _<_}
 use lib.Dec.{leb}
 use lib.ListN.{length, getD}
-use lib.Seq.{slice}
 use Rattle.definitions.specs.Bytes.{isDigit}
 use Rattle.definitions.specs.Matching.{Qualifiers, Qualified, qualified}
 use Rattle.definitions.specs.Reader.{Cursor, Got, got, refused, andThen, placeAt, afterByte, expect, skipSpaces, number, stringNext}
 use Rattle.definitions.specs.Strings.{added, setColumns, Pair, pair}
+use Rattle.text.specs.Lines.{part}
 use Rattle.matching.specs.declared.Quals.{Quals}
 use Rattle.matching.specs.Quals.{qualifiersOf}
-use Rattle.reader.specs.Places.{cursorAt}
-use Rattle.reader.specs.declared.Answer.{Answer}
+use Rattle.lexer.specs.Places.{cursorAt}
+use Rattle.lexer.specs.declared.Answer.{Answer}
 use Rattle.strings.specs.declared.Added.{Added}
 use Rattle.strings.specs.declared.Added.the-variants.{Now, Clash, Unknown}
 use Rattle.strings.specs.declared.Read.{Read}
@@ -72,7 +72,7 @@ ReadOn at n (Read.Next q next) = (suc at ≤ next) × (next ≤ n) × Small q
 ReadOn at n (Read.Refused k p) = Unit {0}
 
 -- the answer r of a reader of one qualifier at `at`
-pub record Reads (s : List ℕ) (at : ℕ) (x : Got Qualifiers) (r : Read) : Type 0 where
+pub record QualifierRead (s : List ℕ) (at : ℕ) (x : Got Qualifiers) (r : Read) : Type 0 where
   pub is : readOf s r ≡ x
   pub on : ReadOn at (length s) r
 
@@ -98,14 +98,14 @@ OpenAt s at (Read.Next q next) = Open s at q next
 OpenAt s at (Read.Refused k p) = Unit {0}
 
 -- the answer r of the reader of a string's qualifiers
-pub record Opened (s : List ℕ) (at : ℕ) (x : Got Qualifiers) (r : Read) : Type 0 where
+pub record QualifiersRead (s : List ℕ) (at : ℕ) (x : Got Qualifiers) (r : Read) : Type 0 where
   pub is : readOf s r ≡ x
   pub on : OpenAt s at r
 
 -- ---- strings
 
 unfoldable pub stringOf : List ℕ → OneString → Got Qualified
-stringOf s (OneString.Next q start end next) = got (qualified (qualifiersOf q) (slice start end s)) (cursorAt s next)
+stringOf s (OneString.Next q start end next) = got (qualified (qualifiersOf q) (part start end s)) (cursorAt s next)
 stringOf s (OneString.Refused k p) = refused k p
 
 unfoldable pub noString : Read → OneString
@@ -137,7 +137,7 @@ pub record Quoted (s : List ℕ) (at : ℕ) (x : Got Qualified) (r : OneString) 
 
 unfoldable pub pairOf : List ℕ → TwoStrings → Got Pair
 pairOf s (TwoStrings.Next q start end second secondEnd next) =
-    got (pair (qualified (qualifiersOf q) (slice start end s)) (slice second secondEnd s)) (cursorAt s next)
+    got (pair (qualified (qualifiersOf q) (part start end s)) (part second secondEnd s)) (cursorAt s next)
 pairOf s (TwoStrings.Refused k p) = refused k p
 
 unfoldable pub noPair : OneString → TwoStrings

@@ -3,17 +3,17 @@
 mod letters; // letters.rt: which qualifiers may stand together
 mod qualifiers; // qualifiers.rt: the qualifiers of a string
 
+use lexer::strings::past_delimiter;
+use lexer::strings::string_end;
 use matching::Quals;
 use qualifiers::read_qualifiers;
-use reader::strings::past_delimiter;
-use reader::strings::string_end;
 ghost use mathlib.Core.Path.{_≡_};
 ghost use Prim.Native.Nat.{ℕ, _≤_};
 ghost use lib.ListN.{length};
 ghost use Rattle.definitions.specs.Reader.{andThen};
 ghost use Rattle.definitions.specs.Strings.{wantsBytes, readString, qualifiedString, secondString, twoStrings};
 ghost use Rattle.matching.specs.Quals.{qualifiersOf};
-ghost use Rattle.reader.specs.Places.{cursorAt};
+ghost use Rattle.lexer.specs.Places.{cursorAt};
 ghost use Rattle.strings.specs.Answers.{Open, stringOf, StringOn, Quoted, noString, pairOf, PairOn, Paired, noPair};
 
 // The qualifiers with one more; or that it cannot stand with them, or that there is none such.

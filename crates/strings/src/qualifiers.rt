@@ -5,21 +5,21 @@ ghost use lib.ListN.{length};
 ghost use Rattle.definitions.specs.Reader.{nextByte};
 ghost use Rattle.definitions.specs.Strings.{noQualifiers, qualifierByte, readCount, readColumns, readQualifier, startQualifiers};
 ghost use Rattle.matching.specs.Quals.{qualifiersOf};
-ghost use Rattle.reader.specs.Places.{cursorAt};
-ghost use Rattle.reader.specs.Answers.{answers, itself, Numbered};
-ghost use Rattle.strings.specs.Answers.{Small, readAdded, noQualifier, secondColumn, columnsFrom, Reads, Opened};
+ghost use Rattle.lexer.specs.Places.{cursorAt};
+ghost use Rattle.lexer.specs.Answers.{answers, itself, Numbered};
+ghost use Rattle.strings.specs.Answers.{Small, readAdded, noQualifier, secondColumn, columnsFrom, QualifierRead, QualifiersRead};
 use crate::Added;
 use crate::Read;
 use crate::letters::add_count;
 use crate::letters::add_letter;
+use lexer::Answer;
+use lexer::bytes::expect;
+use lexer::bytes::is_delimiter;
+use lexer::bytes::is_digit;
+use lexer::bytes::next_byte;
+use lexer::numbers::number;
+use lexer::spaces::skip_spaces;
 use matching::Quals;
-use reader::Answer;
-use reader::bytes::expect;
-use reader::bytes::is_delimiter;
-use reader::bytes::is_digit;
-use reader::bytes::next_byte;
-use reader::numbers::number;
-use reader::spaces::skip_spaces;
 use text::upper;
 
 // A qualifier that stands at `at` was added or not; `next` is the place after it.
@@ -46,7 +46,7 @@ fn no_qualifier(a: Answer) -> Read
 // A count.
 fn read_count(s: &[u8], at: usize, q: Quals) -> Read
     requires { ⌜ (at ≤ length (now s)) × Small q ⌝ }
-    ensures { λ r. ⌜ Reads (now (s .entry)) at (readCount (qualifiersOf q) (cursorAt (now (s .entry)) at)) r ⌝ }
+    ensures { λ r. ⌜ QualifierRead (now (s .entry)) at (readCount (qualifiersOf q) (cursorAt (now (s .entry)) at)) r ⌝ }
 {
     let n = number(s, at);
     let Answer::Is(count, next) = n else {
@@ -83,7 +83,7 @@ fn second_column(s: &[u8], at: usize, n: usize) -> Answer
 // Columns from n, which stands before the place.
 fn columns_from(s: &[u8], at: usize, q: Quals, n: usize) -> Read
     requires { ⌜ (at ≤ length (now s)) × (1 ≤ n) × (n ≤ 65535) × Small q ⌝ }
-    ensures { λ r. ⌜ Reads (now (s .entry)) at (columnsFrom n (qualifiersOf q) (cursorAt (now (s .entry)) at)) r ⌝ }
+    ensures { λ r. ⌜ QualifierRead (now (s .entry)) at (columnsFrom n (qualifiersOf q) (cursorAt (now (s .entry)) at)) r ⌝ }
 {
     let second = second_column(s, at, n);
     let Answer::Is(m, next) = second else {
@@ -98,7 +98,7 @@ fn columns_from(s: &[u8], at: usize, q: Quals, n: usize) -> Read
 // Columns, after their first `_`.
 fn read_columns(s: &[u8], at: usize, q: Quals) -> Read
     requires { ⌜ (at ≤ length (now s)) × Small q ⌝ }
-    ensures { λ r. ⌜ Reads (now (s .entry)) at (readColumns (qualifiersOf q) (cursorAt (now (s .entry)) at)) r ⌝ }
+    ensures { λ r. ⌜ QualifierRead (now (s .entry)) at (readColumns (qualifiersOf q) (cursorAt (now (s .entry)) at)) r ⌝ }
 {
     let first = number(s, skip_spaces(s, at));
     let Answer::Is(n, after) = first else {
@@ -110,7 +110,7 @@ fn read_columns(s: &[u8], at: usize, q: Quals) -> Read
 // The qualifier at the place; it is no delimiter. 3 at a byte that is none.
 fn read_qualifier(s: &[u8], at: usize, q: Quals, in_search: bool) -> Read
     requires { ⌜ (at ≤ length (now s)) × Small q ⌝ }
-    ensures { λ r. ⌜ Reads (now (s .entry)) at (readQualifier «in_search» (qualifiersOf q) (cursorAt (now (s .entry)) at) (qualifierByte (nextByte (cursorAt (now (s .entry)) at)))) r ⌝ }
+    ensures { λ r. ⌜ QualifierRead (now (s .entry)) at (readQualifier «in_search» (qualifiersOf q) (cursorAt (now (s .entry)) at) (qualifierByte (nextByte (cursorAt (now (s .entry)) at)))) r ⌝ }
 {
     if s.len() <= at {
         return Read::Refused(3, at);
@@ -147,7 +147,7 @@ fn no_qualifiers() -> Quals
 // The qualifiers up to the opening delimiter, which stands at the place answered.
 pub fn read_qualifiers(s: &[u8], at: usize, in_search: bool) -> Read
     requires { ⌜ at ≤ length (now s) ⌝ }
-    ensures { λ r. ⌜ Opened (now (s .entry)) at (startQualifiers «in_search» (cursorAt (now (s .entry)) at)) r ⌝ }
+    ensures { λ r. ⌜ QualifiersRead (now (s .entry)) at (startQualifiers «in_search» (cursorAt (now (s .entry)) at)) r ⌝ }
 {
     let mut q = no_qualifiers();
     let mut i = skip_spaces(s, at);

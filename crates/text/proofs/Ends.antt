@@ -18,7 +18,8 @@ use Rattle.text.specs.Lines.{upToLF, cutAt, endOf, lineEnd, part}
 use Rattle.text.specs.declared.LineEnd.{LineEnd}
 use Rattle.text.specs.declared.LineEnd.the-variants.{At, Bad}
 use Rattle.text.proofs.Texts.{run-within, run-text, run-other}
-use Rattle.text.proofs.Lines.{Plain, and-true, and-false, cut-of, first-cut, text-not-lf}
+use Rattle.theorems.specs.Lines.{text-not-lf}
+use Rattle.text.proofs.Lines.{Plain, and-true, and-false, cut-of, first-cut}
 
 -- ---- how it is found: what is found from `i` on, where the LF is among the next `room` bytes at the latest
 
@@ -73,10 +74,6 @@ module _ (s : List ℕ) (room i : ℕ) where
         go zero k o = absurd (omega arith)
         go (suc n) k none = refl
         go (suc n) k (some l) = rw (f, leb·suc-suc, sub-one, add-suc, suc-add)
-
-pub is-text : (b : ℕ) → 32 ≤ b → b ≤ 126 → isText b ≡ true
-unfolding isText
-is-text b h k = rw (le-leb 32 b h, le-leb b 126 k)
 
 pub text-is : (b : ℕ) → isText b ≡ true → (32 ≤ b) × (b ≤ 126)
 unfolding isText

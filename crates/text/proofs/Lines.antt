@@ -10,6 +10,7 @@ use lib.ListN.{length, length-append}
 use lib.Dec.{eqb, leb}
 use borrow.Author.Tests.{eq-eqb, ne-eqb, eqb-true, leb-true}
 use Rattle.definitions.specs.Bytes.{Line, eqLine, isText, linesOf, before, lastByte, allText, isLine, allLines, areLines, lineBytes, linesBytes}
+use Rattle.theorems.specs.Lines.{text-not-lf, lines-other}
 use Rattle.text.specs.Lines.{upToLF, cutAt}
 
 abbrev pub Plain : List ℕ → Type 0
@@ -34,16 +35,12 @@ plain-tail b l h = go (eqb b 10) (upToLF l) refl refl h
 
 -- ---- a first line and the bytes after its LF
 
-pub other-byte : (b : ℕ) (bs : List ℕ) → eqb b 10 ≡ false → linesOf (b ∷ bs) ≡ before b (linesOf bs)
-unfolding linesOf
-other-byte b bs e = rw (e, linesOf)
-
 pub first-line : (l rest : List ℕ) → Plain l → linesOf (l ++ (10 ∷ rest)) ≡ l ∷ linesOf rest
 unfolding linesOf before
 first-line [] rest h = refl
 first-line (b ∷ l) rest h =
     let t = plain-tail b l h in
-    other-byte b (l ++ (10 ∷ rest)) (t .0) ∙ ap (before b) (first-line l rest (t .1))
+    lines-other b (l ++ (10 ∷ rest)) (t .0) ∙ ap (before b) (first-line l rest (t .1))
 
 pub first-cut : (l rest : List ℕ) → Plain l → upToLF (l ++ (10 ∷ rest)) ≡ some l
 unfolding upToLF
@@ -64,10 +61,6 @@ last-plain d [] e h = e
 last-plain d (b ∷ l) e h = last-plain b l (plain-tail b l h .0) (plain-tail b l h .1)
 
 -- ---- the bytes of a line
-
-pub text-not-lf : (b : ℕ) → isText b ≡ true → eqb b 10 ≡ false
-unfolding isText
-text-not-lf b h = ne-eqb b 10 (λ e. let f = leb-true 32 b (and-true (leb 32 b) (leb b 126) h .0) in omega arith)
 
 pub text-plain : (l : List ℕ) → allText l ≡ true → Plain l
 unfolding upToLF allText
@@ -154,7 +147,7 @@ lines-back (b ∷ c ∷ bs) h = go (eqb b 10) refl (lines-back (c ∷ bs) h)
   where
     go : (t : Bool) → eqb b 10 ≡ t → linesBytes (linesOf (c ∷ bs)) ≡ c ∷ bs → linesBytes (linesOf (b ∷ c ∷ bs)) ≡ b ∷ c ∷ bs
     go true e k = let f : b ≡ 10 = eqb-true b 10 e in rw f (ap (λ (r : List ℕ). 10 ∷ r) k)
-    go false e k = ap linesBytes (other-byte b (c ∷ bs) e) ∙ ahead b c bs (linesOf (c ∷ bs)) k
+    go false e k = ap linesBytes (lines-other b (c ∷ bs) e) ∙ ahead b c bs (linesOf (c ∷ bs)) k
 
 -- ---- equal lines
 

@@ -12,7 +12,8 @@ use lib.Bits.{bitAnd, bitOr, and-high, and-le-l, and-le-r, and-mod, or-mod, and-
 use lib.Count.{trailingZeros}
 use Rattle.definitions.specs.Bytes.{isText}
 use Rattle.text.specs.Words.{wordOf, textRun}
-use Rattle.text.proofs.Ends.{is-text, text-is, text-low, text-high}
+use Rattle.theorems.specs.Lines.{text-of}
+use Rattle.text.proofs.Ends.{text-is, text-low, text-high}
 
 -- ---- a word from the words of its parts
 
@@ -70,7 +71,7 @@ module _ (b u v : ℕ) (byte : b < 256) (less : u ≡ (b + 224) % 256) (more : v
       omega (arith, small, high-digit (bitOr u v) small)
 
   pub byte-test : bitAnd (bitOr u v) 128 ≡ cond (isText b) 0 128
-  byte-test = ⊎-elim (λ z. ⊎-elim (λ w. rw (is-text b (omega arith) (omega arith)) (byte-text (omega arith) (omega arith))) (λ w. rw (text-high b (omega arith)) (byte-other (high w))) (eq-zero-or-pos (b - 126))) (λ z. rw (text-low b (omega arith)) (byte-other (inl (omega arith)))) (eq-zero-or-pos (32 - b))
+  byte-test = ⊎-elim (λ z. ⊎-elim (λ w. rw (text-of b (omega arith) (omega arith)) (byte-text (omega arith) (omega arith))) (λ w. rw (text-high b (omega arith)) (byte-other (high w))) (eq-zero-or-pos (b - 126))) (λ z. rw (text-low b (omega arith)) (byte-other (inl (omega arith)))) (eq-zero-or-pos (32 - b))
     where
       high : 0 < b - 126 → (128 ≤ u) ⊎ (128 ≤ v)
       high w = ⊎-elim (λ z. inr (omega arith)) (λ z. inl (omega arith)) (eq-zero-or-pos (b - 254))

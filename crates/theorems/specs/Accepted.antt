@@ -3,9 +3,11 @@ use mathlib.Core.Path.{_≡_, refl, ap, _∙_}
 use mathlib.Core.Bool.{Bool, true, false, cond}
 use mathlib.Core.List.{List}
 use Prim.Native.Nat.{ℕ, _≤_}
-use lib.Dec.{T, leb, leb→le}
+use lib.Dec.{leb}
+use borrow.Author.Tests.{leb-true}
 use Rattle.definitions.specs.Bytes.{linesOf}
 use Rattle.definitions.specs.Table.{isTable, isScript}
+use Rattle.definitions.specs.Given.{given, bytes}
 use Rattle.definitions.specs.Edit.{step}
 use Rattle.definitions.specs.Control.{Item}
 use Rattle.definitions.specs.Script.{items, refusedAt, readScript}
@@ -18,17 +20,17 @@ unfolding IsAccepted
 cond-accepted true a n at h = refl
 cond-accepted false a n at h = absurd h
 
-cond-passed : (t : Bool) (a : Answer) (n at : ℕ) → IsAccepted (cond t a (refusal n at)) → T t
+cond-passed : (t : Bool) (a : Answer) (n at : ℕ) → IsAccepted (cond t a (refusal n at)) → t ≡ true
 unfolding IsAccepted
-cond-passed true a n at h = tt
+cond-passed true a n at h = refl
 cond-passed false a n at h = absurd h
 
-ran-table : (table : List ℕ) (budget size : ℕ) (is : List Item) → IsAccepted (ranTable table budget size is) → ranTable table budget size is ≡ ranItems (step size) budget is (linesOf table)
+ran-table : (table : List ℕ) (budget size : ℕ) (is : List Item) → IsAccepted (ranTable table budget size is) → ranTable table budget size is ≡ ranItems (step (given (bytes size))) budget is (linesOf table)
 unfolding ranTable
-ran-table table budget size is h = cond-accepted (leb (openingLength (linesOf table)) size) (ranItems (step size) budget is (linesOf table)) 9 0 h
+ran-table table budget size is h = cond-accepted (leb (openingLength (linesOf table)) size) (ranItems (step (given (bytes size))) budget is (linesOf table)) 9 0 h
 
 ran-script : (table : List ℕ) (budget size : ℕ) (is : List Item) → IsAccepted (ranScript table budget size (items is))
-    → ranScript table budget size (items is) ≡ ranItems (step size) budget is (linesOf table)
+    → ranScript table budget size (items is) ≡ ranItems (step (given (bytes size))) budget is (linesOf table)
 unfolding ranScript
 ran-script table budget size is h =
     let e : cond (isTable table) (ranTable table budget size is) (refusal 7 0) ≡ ranTable table budget size is = cond-accepted (isTable table) (ranTable table budget size is) 7 0 h in
@@ -45,7 +47,7 @@ ran-answer table script budget work size h =
 
 -- the answer of an accepted run is that of the script's items
 pub ran-accepted : (table script : List ℕ) (budget work size : ℕ) (is : List Item) → readScript script ≡ items is
-    → IsAccepted (runAnswer table script budget work size) → runAnswer table script budget work size ≡ ranItems (step size) budget is (linesOf table)
+    → IsAccepted (runAnswer table script budget work size) → runAnswer table script budget work size ≡ ranItems (step (given (bytes size))) budget is (linesOf table)
 ran-accepted table script budget work size is e h =
     let q : runAnswer table script budget work size ≡ ranScript table budget size (items is) = ran-answer table script budget work size h ∙ ap (ranScript table budget size) e in
     q ∙ ran-script table budget size is (rw q at h)
@@ -55,12 +57,22 @@ pub no-refusal : (table script : List ℕ) (budget work size n at : ℕ) → rea
 unfolding ranScript IsAccepted
 no-refusal table script budget work size n at e h = rw (ran-answer table script budget work size h, e) at h
 
+-- the script's items are read; then come the table's test and the buffer's
+of-script : (table script : List ℕ) (budget work size : ℕ) (is : List Item) → readScript script ≡ items is
+    → IsAccepted (runAnswer table script budget work size) → IsAccepted (cond (isTable table) (ranTable table budget size is) (refusal 7 0))
+unfolding ranScript
+of-script table script budget work size is e h = rw (ran-answer table script budget work size h ∙ ap (ranScript table budget size) e) at h
+
+-- its table is one
+pub is-table : (table script : List ℕ) (budget work size : ℕ) (is : List Item) → readScript script ≡ items is
+    → IsAccepted (runAnswer table script budget work size) → isTable table ≡ true
+is-table table script budget work size is e h = cond-passed (isTable table) (ranTable table budget size is) 7 0 (of-script table script budget work size is e h)
+
 -- its journal buffer has room for the opening journal
 pub has-room : (table script : List ℕ) (budget work size : ℕ) (is : List Item) → readScript script ≡ items is
     → IsAccepted (runAnswer table script budget work size) → openingLength (linesOf table) ≤ size
-unfolding ranScript ranTable
+unfolding ranTable
 has-room table script budget work size is e h =
-    let q : runAnswer table script budget work size ≡ ranScript table budget size (items is) = ran-answer table script budget work size h ∙ ap (ranScript table budget size) e in
-    let h₁ : IsAccepted (cond (isTable table) (ranTable table budget size is) (refusal 7 0)) = rw q at h in
+    let h₁ : IsAccepted (cond (isTable table) (ranTable table budget size is) (refusal 7 0)) = of-script table script budget work size is e h in
     let h₂ : IsAccepted (ranTable table budget size is) = rw (cond-accepted (isTable table) (ranTable table budget size is) 7 0 h₁) at h₁ in
-    leb→le (openingLength (linesOf table)) size (cond-passed (leb (openingLength (linesOf table)) size) (ranItems (step size) budget is (linesOf table)) 9 0 h₂)
+    leb-true (openingLength (linesOf table)) size (cond-passed (leb (openingLength (linesOf table)) size) (ranItems (step (given (bytes size))) budget is (linesOf table)) 9 0 h₂)

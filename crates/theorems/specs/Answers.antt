@@ -8,7 +8,9 @@ use Rattle.definitions.specs.Bytes.{Line, linesOf}
 use Rattle.definitions.specs.Table.{isTable, isScript}
 use Rattle.definitions.specs.Journal.{Record}
 use Rattle.definitions.specs.Tape.{Tape, unread, Reads}
-use Rattle.definitions.specs.Editor.{Ed, Out, journal}
+use Rattle.definitions.specs.Given.{given, bytes}
+use Rattle.definitions.specs.Editor.{journal}
+use Rattle.definitions.specs.StepProgram.{RunState, textOf, Out}
 use Rattle.definitions.specs.Edit.{Op, step}
 use Rattle.definitions.specs.Control.{Item}
 use Rattle.definitions.specs.Script.{Script, items, refusedAt, readScript}
@@ -20,27 +22,27 @@ abbrev pub Shown : (List Record → Type 0) → Answer → Type 0
 Shown P (answer n steps f at j) = P j
 Shown P (refusal n at) = Unit {0}
 
-module _ (I : Ed → Tape → Type 0) (P : List Record → Type 0) (shows : (e : Ed) (t : Tape) → I e t → P (journal e t)) where
+module _ (I : RunState → Tape → Type 0) (P : List Record → Type 0) (shows : (s : RunState) (t : Tape) → I s t → P (journal (textOf s) t)) where
   end-shown : (x : End) (t : Tape) → AtEnd I x t → Shown P (answerOf x t)
   unfolding answerOf
-  end-shown (end n steps at e) t h = shows e t h
+  end-shown (end n steps at s) t h = shows s t h
 
-  pub ran-shown : (take-step : Op → Ed → Reads Out) (budget : ℕ) (is : List Item) (ls : List Line)
+  pub ran-shown : (take-step : Op → RunState → Reads Out) (budget : ℕ) (is : List Item) (ls : List Line)
       → AtEnd I ((runItems take-step budget is (unread ls)) .0) ((runItems take-step budget is (unread ls)) .1) → Shown P (ranItems take-step budget is ls)
   unfolding ranItems
   ran-shown take-step budget is ls h = end-shown ((runItems take-step budget is (unread ls)) .0) ((runItems take-step budget is (unread ls)) .1) h
 
 -- what holds of the run over the table's lines, for the items that the script is read as, holds of the answer
 module _ (P : List Record → Type 0) (table : List ℕ) (budget size : ℕ) where
-  table-shown : (is : List Item) → Shown P (ranItems (step size) budget is (linesOf table)) → Shown P (ranTable table budget size is)
+  table-shown : (is : List Item) → Shown P (ranItems (step (given (bytes size))) budget is (linesOf table)) → Shown P (ranTable table budget size is)
   unfolding ranTable
   table-shown is h = by (leb (openingLength (linesOf table)) size)
     where
-      by : (c : Bool) → Shown P (cond c (ranItems (step size) budget is (linesOf table)) (refusal 9 0))
+      by : (c : Bool) → Shown P (cond c (ranItems (step (given (bytes size))) budget is (linesOf table)) (refusal 9 0))
       by true = h
       by false = tt
 
-  script-shown : (s : Script) → ((is : List Item) → s ≡ items is → isTable table ≡ true → Shown P (ranItems (step size) budget is (linesOf table)))
+  script-shown : (s : Script) → ((is : List Item) → s ≡ items is → isTable table ≡ true → Shown P (ranItems (step (given (bytes size))) budget is (linesOf table)))
       → Shown P (ranScript table budget size s)
   unfolding ranScript
   script-shown (items is) h = by (isTable table) refl
@@ -51,7 +53,7 @@ module _ (P : List Record → Type 0) (table : List ℕ) (budget size : ℕ) whe
   script-shown (refusedAt n at) h = tt
 
   pub run-shown : (script : List ℕ) (work : ℕ)
-      → (isScript script ≡ true → (is : List Item) → readScript script ≡ items is → isTable table ≡ true → Shown P (ranItems (step size) budget is (linesOf table)))
+      → (isScript script ≡ true → (is : List Item) → readScript script ≡ items is → isTable table ≡ true → Shown P (ranItems (step (given (bytes size))) budget is (linesOf table)))
       → Shown P (runAnswer table script budget work size)
   unfolding runAnswer
   run-shown script work h = by (isScript script) (leb (workLength script) work) refl

@@ -8,31 +8,33 @@ use native.Mathlib.Nat.{add-zero, add-suc}
 use lib.Dec.{T, eqb, leb}
 use Rattle.definitions.specs.Bytes.{Line, linesOf}
 use Rattle.definitions.specs.Table.{isTable, isScript}
-use Rattle.definitions.specs.Journal.{Record, journalLength}
-use Rattle.definitions.specs.Tape.{Tape, unread, Reads, bind, readNeed}
-use Rattle.definitions.specs.Editor.{Ed, Out, on, edited, halt, records, journal, seen, opening}
-use Rattle.definitions.specs.Edit.{Op, need, act, within, step}
+use Rattle.definitions.specs.Tape.{Tape, unread, Reads, bind}
+use Rattle.definitions.specs.Given.{Given, given, bytes, Carried, carried}
+use Rattle.definitions.specs.Editor.{Ed, Stop, n20, n21, n22, n23, n24, n25, n26, n27, n28, stopNumber, edits}
+use Rattle.definitions.specs.Reading.{Ran, gave, stopped, opening}
+use Rattle.definitions.specs.StepProgram.{runs, RunState, state, Did, answers, changes, quits, Out, on, edited, halt, finish, perform}
+use Rattle.definitions.specs.Edit.{Op, program, step}
 use Rattle.definitions.specs.Control.{Item, Ctl, running, Pull, finished, want, pull}
 use Rattle.definitions.specs.Script.{Script, items, refusedAt, readScript}
 use Rattle.definitions.specs.Run.{End, end, choose, spent, stepped, stepping, run, runItems, Answer, refusal, answerOf, ranItems, openingLength, workLength}
 use Rattle.definitions.specs.Run.{ranTable, ranScript, runAnswer, answerNumber, answerSteps}
-use Rattle.theorems.specs.OldSide.{Keeps, act-keeps}
+use Rattle.theorems.specs.ComesTo.{within-comes}
 use Rattle.theorems.specs.Demand3.{IsAccepted}
 use Rattle.theorems.specs.Accepted.{ran-accepted, no-refusal}
 
 unfoldable endNumber : End → ℕ
-endNumber (end n steps at e) = n
+endNumber (end n steps at s) = n
 
 unfoldable endSteps : End → ℕ
-endSteps (end n steps at e) = steps
+endSteps (end n steps at s) = steps
 
-answer-number : (s : End) (t : Tape) → answerNumber (answerOf s t) ≡ endNumber s
+answer-number : (x : End) (t : Tape) → answerNumber (answerOf x t) ≡ endNumber x
 unfolding answerNumber answerOf endNumber
-answer-number (end n steps at e) t = refl
+answer-number (end n steps at s) t = refl
 
-answer-steps : (s : End) (t : Tape) → answerSteps (answerOf s t) ≡ endSteps s
+answer-steps : (x : End) (t : Tape) → answerSteps (answerOf x t) ≡ endSteps x
 unfolding answerSteps answerOf endSteps
-answer-steps (end n steps at e) t = refl
+answer-steps (end n steps at s) t = refl
 
 -- ---- larger budgets
 
@@ -40,40 +42,40 @@ answer-steps (end n steps at e) t = refl
 abbrev Settled : End × Tape → End × Tape → Type 0
 Settled x y = (endNumber (x .0) ≡ 29 → ⊥) → y ≡ x
 
-module _ (take-step : Op → Ed → Reads Out) (go more : Ctl → Ed → Reads End) (h : (c : Ctl) (e : Ed) (t : Tape) → Settled (go c e t) (more c e t)) where
+module _ (take-step : Op → RunState → Reads Out) (go more : Ctl → RunState → Reads End) (h : (c : Ctl) (s : RunState) (t : Tape) → Settled (go c s t) (more c s t)) where
   stepped-settled : (steps at : ℕ) (c₁ c₀ : Ctl) (o : Out) (t : Tape) → Settled (stepped go steps at c₁ c₀ o t) (stepped more steps at c₁ c₀ o t)
   unfolding stepped
-  stepped-settled steps at c₁ c₀ (on b e) t = h (choose b c₁ c₀) e t
-  stepped-settled steps at c₁ c₀ (edited e) t = h c₁ e t
-  stepped-settled steps at c₁ c₀ (halt n e) t = λ x. refl
+  stepped-settled steps at c₁ c₀ (on b s) t = h (choose b c₁ c₀) s t
+  stepped-settled steps at c₁ c₀ (edited s) t = h c₁ s t
+  stepped-settled steps at c₁ c₀ (halt n s) t = λ x. refl
 
-  stepping-settled : (steps : ℕ) (e : Ed) (x : Pull) (t : Tape) → Settled (stepping take-step go steps e x t) (stepping take-step more steps e x t)
+  stepping-settled : (steps : ℕ) (s : RunState) (x : Pull) (t : Tape) → Settled (stepping take-step go steps s x t) (stepping take-step more steps s x t)
   unfolding stepping bind
-  stepping-settled steps e finished t = λ x. refl
-  stepping-settled steps e (want at op c₁ c₀) t = stepped-settled (suc steps) at c₁ c₀ ((take-step op e t) .0) ((take-step op e t) .1)
+  stepping-settled steps s finished t = λ x. refl
+  stepping-settled steps s (want at op c₁ c₀) t = stepped-settled (suc steps) at c₁ c₀ ((take-step op s t) .0) ((take-step op s t) .1)
 
-spent-settled : (take-step : Op → Ed → Reads Out) (go : Ctl → Ed → Reads End) (steps : ℕ) (e : Ed) (x : Pull) (t : Tape) → Settled (spent steps e x, t) (stepping take-step go steps e x t)
+spent-settled : (take-step : Op → RunState → Reads Out) (go : Ctl → RunState → Reads End) (steps : ℕ) (s : RunState) (x : Pull) (t : Tape) → Settled (spent steps s x, t) (stepping take-step go steps s x t)
 unfolding spent stepping endNumber
-spent-settled take-step go steps e finished t = λ x. refl
-spent-settled take-step go steps e (want at op c₁ c₀) t = λ x. absurd (x refl)
+spent-settled take-step go steps s finished t = λ x. refl
+spent-settled take-step go steps s (want at op c₁ c₀) t = λ x. absurd (x refl)
 
-run-settled : (take-step : Op → Ed → Reads Out) (budget steps : ℕ) (c : Ctl) (e : Ed) (t : Tape) → Settled (run take-step budget steps c e t) (run take-step (suc budget) steps c e t)
+run-settled : (take-step : Op → RunState → Reads Out) (budget steps : ℕ) (c : Ctl) (s : RunState) (t : Tape) → Settled (run take-step budget steps c s t) (run take-step (suc budget) steps c s t)
 unfolding run
-run-settled take-step zero steps c e t = spent-settled take-step (λ c′ e′. run take-step zero (suc steps) c′ e′) steps e (pull c) t
-run-settled take-step (suc budget) steps c e t =
-    stepping-settled take-step (λ c′ e′. run take-step budget (suc steps) c′ e′) (λ c′ e′. run take-step (suc budget) (suc steps) c′ e′)
-    (λ c′ e′ t′. run-settled take-step budget (suc steps) c′ e′ t′) steps e (pull c) t
+run-settled take-step zero steps c s t = spent-settled take-step (λ c′ s′. run take-step zero (suc steps) c′ s′) steps s (pull c) t
+run-settled take-step (suc budget) steps c s t =
+    stepping-settled take-step (λ c′ s′. run take-step budget (suc steps) c′ s′) (λ c′ s′. run take-step (suc budget) (suc steps) c′ s′)
+    (λ c′ s′ t′. run-settled take-step budget (suc steps) c′ s′ t′) steps s (pull c) t
 
 -- `b` is `a` unless the number of `a` is 29
 abbrev SameUnless29 : Answer → Answer → Type 0
 SameUnless29 a b = (answerNumber a ≡ 29 → ⊥) → b ≡ a
 
-items-settled : (take-step : Op → Ed → Reads Out) (budget : ℕ) (is : List Item) (ls : List Line) → SameUnless29 (ranItems take-step budget is ls) (ranItems take-step (suc budget) is ls)
+items-settled : (take-step : Op → RunState → Reads Out) (budget : ℕ) (is : List Item) (ls : List Line) → SameUnless29 (ranItems take-step budget is ls) (ranItems take-step (suc budget) is ls)
 unfolding ranItems runItems bind
 items-settled take-step budget is ls h =
     let o : Ed × Tape = opening (unread ls) in
-    let x : End × Tape = run take-step budget 0 (running is []) (o .0) (o .1) in
-    ap (λ (y : End × Tape). answerOf (y .0) (y .1)) (run-settled take-step budget 0 (running is []) (o .0) (o .1) (λ q. h (answer-number (x .0) (x .1) ∙ q)))
+    let x : End × Tape = run take-step budget 0 (running is []) (state (o .0) carried) (o .1) in
+    ap (λ (y : End × Tape). answerOf (y .0) (y .1)) (run-settled take-step budget 0 (running is []) (state (o .0) carried) (o .1) (λ q. h (answer-number (x .0) (x .1) ∙ q)))
 
 cond-settled : (t : Bool) (a b r : Answer) → SameUnless29 a b → SameUnless29 (cond t a r) (cond t b r)
 cond-settled true a b r h = h
@@ -84,7 +86,7 @@ unfolding ranScript ranTable
 script-settled table budget size (refusedAt n at) = λ x. refl
 script-settled table budget size (items is) =
     cond-settled (isTable table) _ _ (refusal 7 0)
-    (cond-settled (leb (openingLength (linesOf table)) size) _ _ (refusal 9 0) (items-settled (step size) budget is (linesOf table)))
+    (cond-settled (leb (openingLength (linesOf table)) size) _ _ (refusal 9 0) (items-settled (step (given (bytes size))) budget is (linesOf table)))
 
 answer-settled : (table script : List ℕ) (budget work size : ℕ) → SameUnless29 (runAnswer table script budget work size) (runAnswer table script (suc budget) work size)
 unfolding runAnswer
@@ -104,65 +106,74 @@ larger-budget table script budget work size (suc k) h =
 
 -- a step that stops with a number of its own, not with 29
 unfoldable pub NotSpent : Out → Type 0
-NotSpent (on b e) = Unit {0}
-NotSpent (edited e) = Unit {0}
-NotSpent (halt n e) = T (not (eqb n 29))
+NotSpent (on b s) = Unit {0}
+NotSpent (edited s) = Unit {0}
+NotSpent (halt n s) = T (not (eqb n 29))
 
-within-not-spent : (size : ℕ) (e : Ed) (o : Out) (rs : List Record) → Keeps rs o → (t : Tape) → NotSpent ((within size e o t) .0)
-unfolding within NotSpent Keeps
-within-not-spent size e (on b e′) rs h t = tt
-within-not-spent size e (halt n e′) rs h t = h .1
-within-not-spent size e (edited e′) rs h t = by (leb (journalLength (journal e′ t)) size)
-  where
-    by : (x : Bool) → NotSpent ((cond {A = Out × Tape} x (edited e′, t) (halt 26 e, t)) .0)
-    by true = tt
-    by false = tt
+-- no stop of a command is 29
+stop-not-spent : (n : Stop) (s : RunState) → NotSpent (halt (stopNumber n) s)
+unfolding NotSpent stopNumber
+stop-not-spent n20 s = tt
+stop-not-spent n21 s = tt
+stop-not-spent n22 s = tt
+stop-not-spent n23 s = tt
+stop-not-spent n24 s = tt
+stop-not-spent n25 s = tt
+stop-not-spent n26 s = tt
+stop-not-spent n27 s = tt
+stop-not-spent n28 s = tt
 
-pub step-not-spent : (size : ℕ) (op : Op) (e : Ed) (t : Tape) → NotSpent ((step size op e t) .0)
-unfolding step bind
-step-not-spent size op e t =
-    let s : Ed = seen e ((readNeed (need op e) t) .0) in
-    within-not-spent size s (act op s) (records s) (act-keeps op s) ((readNeed (need op e) t) .1)
+finish-not-spent : (g : Given) (c : Carried) (r : Ran Did) (t : Tape) → NotSpent ((finish g c r t) .0)
+unfolding finish
+finish-not-spent g c (gave (answers b) e) t = unfold NotSpent in tt
+finish-not-spent g c (gave (changes xs) e) t =
+    within-comes (λ o t′. NotSpent o) g c e (edits xs e) t (λ x. unfold NotSpent in tt) (stop-not-spent n26 (state e c))
+finish-not-spent g c (gave quits e) t = unfold NotSpent in tt
+finish-not-spent g c (stopped n e) t = stop-not-spent n (state e c)
+
+pub step-not-spent : (g : Given) (op : Op) (s : RunState) (t : Tape) → NotSpent ((step g op s t) .0)
+unfolding step perform bind
+step-not-spent g op (state e c) t = finish-not-spent g c ((runs g c (program op) e t) .0) ((runs g c (program op) e t) .1)
 
 -- at most `total` steps are made, and just as many where the run ends with 29
 abbrev InBudget : ℕ → End → Type 0
-InBudget total s = (endSteps s ≤ total) × (endNumber s ≡ 29 → endSteps s ≡ total)
+InBudget total x = (endSteps x ≤ total) × (endNumber x ≡ 29 → endSteps x ≡ total)
 
 not-29 : (n : ℕ) → T (not (eqb n 29)) → n ≡ 29 → ⊥
 not-29 n h e = rw e at h
 
-module _ (size total : ℕ) (go : Ctl → Ed → Reads End) (h : (c : Ctl) (e : Ed) (t : Tape) → InBudget total ((go c e t) .0)) where
+module _ (size total : ℕ) (go : Ctl → RunState → Reads End) (h : (c : Ctl) (s : RunState) (t : Tape) → InBudget total ((go c s t) .0)) where
   stepped-in-budget : (steps at : ℕ) (c₁ c₀ : Ctl) (o : Out) (t : Tape) → steps ≤ total → NotSpent o → InBudget total ((stepped go steps at c₁ c₀ o t) .0)
   unfolding stepped NotSpent endNumber endSteps
-  stepped-in-budget steps at c₁ c₀ (on b e) t le x = h (choose b c₁ c₀) e t
-  stepped-in-budget steps at c₁ c₀ (edited e) t le x = h c₁ e t
-  stepped-in-budget steps at c₁ c₀ (halt n e) t le x = (le, λ q. absurd (not-29 n x q))
+  stepped-in-budget steps at c₁ c₀ (on b s) t le x = h (choose b c₁ c₀) s t
+  stepped-in-budget steps at c₁ c₀ (edited s) t le x = h c₁ s t
+  stepped-in-budget steps at c₁ c₀ (halt n s) t le x = (le, λ q. absurd (not-29 n x q))
 
-  stepping-in-budget : (steps : ℕ) (e : Ed) (x : Pull) (t : Tape) → suc steps ≤ total → InBudget total ((stepping (step size) go steps e x t) .0)
+  stepping-in-budget : (steps : ℕ) (s : RunState) (x : Pull) (t : Tape) → suc steps ≤ total → InBudget total ((stepping (step (given (bytes size))) go steps s x t) .0)
   unfolding stepping bind endNumber endSteps
-  stepping-in-budget steps e finished t le = (omega (arith, le), λ q. absurd (omega (arith, q)))
-  stepping-in-budget steps e (want at op c₁ c₀) t le =
-      stepped-in-budget (suc steps) at c₁ c₀ ((step size op e t) .0) ((step size op e t) .1) le (step-not-spent size op e t)
+  stepping-in-budget steps s finished t le = (omega (arith, le), λ q. absurd (omega (arith, q)))
+  stepping-in-budget steps s (want at op c₁ c₀) t le =
+      stepped-in-budget (suc steps) at c₁ c₀ ((step (given (bytes size)) op s t) .0) ((step (given (bytes size)) op s t) .1) le (step-not-spent (given (bytes size)) op s t)
 
-spent-in-budget : (total steps : ℕ) → steps ≡ total → (e : Ed) (x : Pull) → InBudget total (spent steps e x)
+spent-in-budget : (total steps : ℕ) → steps ≡ total → (s : RunState) (x : Pull) → InBudget total (spent steps s x)
 unfolding spent endNumber endSteps
-spent-in-budget total steps h e finished = (omega (arith, h), λ q. h)
-spent-in-budget total steps h e (want at op c₁ c₀) = (omega (arith, h), λ q. h)
+spent-in-budget total steps h s finished = (omega (arith, h), λ q. h)
+spent-in-budget total steps h s (want at op c₁ c₀) = (omega (arith, h), λ q. h)
 
-run-in-budget : (size budget steps total : ℕ) → steps + budget ≡ total → (c : Ctl) (e : Ed) (t : Tape) → InBudget total ((run (step size) budget steps c e t) .0)
+run-in-budget : (size budget steps total : ℕ) → steps + budget ≡ total → (c : Ctl) (s : RunState) (t : Tape) → InBudget total ((run (step (given (bytes size))) budget steps c s t) .0)
 unfolding run
-run-in-budget size zero steps total h c e t = spent-in-budget total steps (omega (arith, h)) e (pull c)
-run-in-budget size (suc budget) steps total h c e t =
-    stepping-in-budget size total (λ c′ e′. run (step size) budget (suc steps) c′ e′)
-    (λ c′ e′ t′. run-in-budget size budget (suc steps) total (omega (arith, h)) c′ e′ t′) steps e (pull c) t (omega (arith, h))
+run-in-budget size zero steps total h c s t = spent-in-budget total steps (omega (arith, h)) s (pull c)
+run-in-budget size (suc budget) steps total h c s t =
+    stepping-in-budget size total (λ c′ s′. run (step (given (bytes size))) budget (suc steps) c′ s′)
+    (λ c′ s′ t′. run-in-budget size budget (suc steps) total (omega (arith, h)) c′ s′ t′) steps s (pull c) t (omega (arith, h))
 
 items-in-budget : (size budget : ℕ) (is : List Item) (ls : List Line)
-    → (answerSteps (ranItems (step size) budget is ls) ≤ budget) × (answerNumber (ranItems (step size) budget is ls) ≡ 29 → answerSteps (ranItems (step size) budget is ls) ≡ budget)
+    → (answerSteps (ranItems (step (given (bytes size))) budget is ls) ≤ budget) × (answerNumber (ranItems (step (given (bytes size))) budget is ls) ≡ 29 → answerSteps (ranItems (step (given (bytes size))) budget is ls) ≡ budget)
 unfolding ranItems runItems bind
 items-in-budget size budget is ls =
     let o : Ed × Tape = opening (unread ls) in
-    let x : End × Tape = run (step size) budget 0 (running is []) (o .0) (o .1) in
-    rw (answer-number (x .0) (x .1), answer-steps (x .0) (x .1)) (run-in-budget size budget 0 budget (omega arith) (running is []) (o .0) (o .1))
+    let x : End × Tape = run (step (given (bytes size))) budget 0 (running is []) (state (o .0) carried) (o .1) in
+    rw (answer-number (x .0) (x .1), answer-steps (x .0) (x .1)) (run-in-budget size budget 0 budget (omega arith) (running is []) (state (o .0) carried) (o .1))
 
 -- an accepted run makes at most as many steps as its budget, and just as many where it is stopped with 29
 pub spent-budget : (table script : List ℕ) (budget work size : ℕ) → IsAccepted (runAnswer table script budget work size)

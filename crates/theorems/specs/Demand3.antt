@@ -4,7 +4,7 @@ use mathlib.Core.Option.{some}
 use mathlib.Core.List.{List, _++_, map}
 use Prim.Native.Nat.{ℕ, _-_, _≤_}
 use lib.ListN.{length, take, drop, replicate}
-use Rattle.definitions.specs.Bytes.{Line, linesOf}
+use Rattle.definitions.specs.Bytes.{Line, linesOf, linesBytes}
 use Rattle.definitions.specs.Journal.{kept, oldSide, upToLine, afterLine, journalBytes, recordsOf}
 use Rattle.definitions.specs.Run.{Answer, answer, refusal, runAnswer, answerNumber, answerSteps, answerFurthest, answerPlace, answerRecords, bufferAfter}
 
@@ -52,6 +52,7 @@ module _ (table script : List ℕ) (budget work size : ℕ) where
   pub record Demand3 : Type 0 where
     -- the old side of the journal is exactly the table
     pub old : oldSide (answerRecords ran) ≡ linesOf table
+    pub old-bytes : linesBytes (oldSide (answerRecords ran)) ≡ table
     -- no source line beyond the furthest line read is marked other than kept
     pub after : KeptAfter reach table ran
     -- Lines that are not read change nothing: an accepted table that agrees with this one up to the furthest line read has the same end and
@@ -70,3 +71,7 @@ module _ (table script : List ℕ) (budget work size : ℕ) where
     -- the buffer afterwards is the journal's bytes, then zeros
     pub bytes : (buffer : List ℕ) → length buffer ≡ size
         → bufferAfter buffer ran ≡ journalBytes (answerRecords ran) ++ replicate (size - length (journalBytes (answerRecords ran))) 0
+
+-- DEMAND 3: all this of every run that is not refused
+abbrev pub DemandThree : Type 0
+DemandThree = (table script : List ℕ) (budget work size : ℕ) → IsAccepted (runAnswer table script budget work size) → Demand3 table script budget work size

@@ -9,61 +9,64 @@ use lib.Seq.{take-append-seam, drop-append-seam}
 use Rattle.definitions.specs.Bytes.{Line}
 use Rattle.definitions.specs.Journal.{Record, kept, changed, deleted, inserted, oldOf, oldSide, upToLine, afterLine}
 use Rattle.definitions.specs.Tape.{Tape, unread, ended, restLines, Reads}
-use Rattle.definitions.specs.Editor.{Ed, Out, on, edited, halt, opening, journal, furthest, sources, records}
-use Rattle.definitions.specs.Edit.{step, stepFree}
+use Rattle.definitions.specs.Given.{given, bytes, carried}
+use Rattle.definitions.specs.Editor.{Ed, journal, furthest, sources, records}
+use Rattle.definitions.specs.Reading.{opening}
+use Rattle.definitions.specs.StepProgram.{RunState, state, textOf, Out, on, edited, halt}
+use Rattle.definitions.specs.Edit.{step}
 use Rattle.definitions.specs.Control.{Item, Ctl, running, Pull, finished, want, pull}
 use Rattle.definitions.specs.Run.{End, end, choose, endPlace, spent, stepped, stepping, run, runItems, Answer, answerOf, ranItems}
 use Rattle.definitions.specs.Run.{answerNumber, answerSteps, answerFurthest, answerPlace, answerRecords}
 use Rattle.theorems.specs.Reading.{Local, metEof, readOnly, Faithful, never, ret-faithful, bind-faithful}
-use Rattle.theorems.specs.RecordLaws.{old-append, old-kept}
-use Rattle.theorems.specs.Step.{oldEd, oldOut, fullOut, step-faithful, opening-faithful}
+use Rattle.theorems.specs.OldSide.{journal-old}
+use Rattle.theorems.specs.Step.{oldEd, oldState, oldOut, fullOut, stepFree, step-faithful, opening-faithful}
 use Rattle.theorems.specs.Demand3.{IsNotFull, Agree, agreeUpTo, areEqual, SameUpTo}
 
 -- ---- the induction over the budget: control and the script's reader are not opened
 
 unfoldable oldEnd : End → List Line
-oldEnd (end n steps at e) = oldEd e
+oldEnd (end n steps at s) = oldState s
 
 unfoldable fullEnd : End → Type 0
-fullEnd (end n steps at e) = n ≡ 26
+fullEnd (end n steps at s) = n ≡ 26
 
-spent-old : (steps : ℕ) (e : Ed) (x : Pull) → oldEnd (spent steps e x) ≡ oldEd e
+spent-old : (steps : ℕ) (s : RunState) (x : Pull) → oldEnd (spent steps s x) ≡ oldState s
 unfolding oldEnd spent
-spent-old steps e finished = refl
-spent-old steps e (want at op c₁ c₀) = refl
+spent-old steps s finished = refl
+spent-old steps s (want at op c₁ c₀) = refl
 
-module _ (size : ℕ) (go free : Ctl → Ed → Reads End) (h : (c : Ctl) (e : Ed) → Faithful (go c e) (free c e) oldEnd fullEnd (oldEd e)) where
+module _ (size : ℕ) (go free : Ctl → RunState → Reads End) (h : (c : Ctl) (s : RunState) → Faithful (go c s) (free c s) oldEnd fullEnd (oldState s)) where
   stepped-faithful : (steps at : ℕ) (c₁ c₀ : Ctl) (o : Out) → Faithful (stepped go steps at c₁ c₀ o) (stepped free steps at c₁ c₀ o) oldEnd fullEnd (oldOut o)
   unfolding stepped oldOut oldEnd
-  stepped-faithful steps at c₁ c₀ (on b e) = h (choose b c₁ c₀) e
-  stepped-faithful steps at c₁ c₀ (edited e) = h c₁ e
-  stepped-faithful steps at c₁ c₀ (halt n e) = ret-faithful (end n steps (endPlace n at) e) oldEnd fullEnd (oldEd e) refl
+  stepped-faithful steps at c₁ c₀ (on b s) = h (choose b c₁ c₀) s
+  stepped-faithful steps at c₁ c₀ (edited s) = h c₁ s
+  stepped-faithful steps at c₁ c₀ (halt n s) = ret-faithful (end n steps (endPlace n at) s) oldEnd fullEnd (oldState s) refl
 
   stepped-full : (steps at : ℕ) (c₁ c₀ : Ctl) (o : Out) (t : Tape) → fullOut o → fullEnd ((stepped go steps at c₁ c₀ o t) .0)
   unfolding stepped fullOut fullEnd
-  stepped-full steps at c₁ c₀ (on b e) t x = absurd x
-  stepped-full steps at c₁ c₀ (edited e) t x = absurd x
-  stepped-full steps at c₁ c₀ (halt n e) t x = x
+  stepped-full steps at c₁ c₀ (on b s) t x = absurd x
+  stepped-full steps at c₁ c₀ (edited s) t x = absurd x
+  stepped-full steps at c₁ c₀ (halt n s) t x = x
 
-  stepping-faithful : (steps : ℕ) (e : Ed) (x : Pull) → Faithful (stepping (step size) go steps e x) (stepping stepFree free steps e x) oldEnd fullEnd (oldEd e)
+  stepping-faithful : (steps : ℕ) (s : RunState) (x : Pull) → Faithful (stepping (step (given (bytes size))) go steps s x) (stepping stepFree free steps s x) oldEnd fullEnd (oldState s)
   unfolding stepping oldEnd
-  stepping-faithful steps e finished = ret-faithful (end 0 steps 0 e) oldEnd fullEnd (oldEd e) refl
-  stepping-faithful steps e (want at op c₁ c₀) =
-      bind-faithful (step size op e) (stepFree op e) (stepped go (suc steps) at c₁ c₀) (stepped free (suc steps) at c₁ c₀) oldOut fullOut oldEnd fullEnd (oldEd e)
-      (stepped-full (suc steps) at c₁ c₀) (step-faithful size op e) (stepped-faithful (suc steps) at c₁ c₀)
+  stepping-faithful steps s finished = ret-faithful (end 0 steps 0 s) oldEnd fullEnd (oldState s) refl
+  stepping-faithful steps s (want at op c₁ c₀) =
+      bind-faithful (step (given (bytes size)) op s) (stepFree op s) (stepped go (suc steps) at c₁ c₀) (stepped free (suc steps) at c₁ c₀) oldOut fullOut oldEnd fullEnd (oldState s)
+      (stepped-full (suc steps) at c₁ c₀) (step-faithful size op s) (stepped-faithful (suc steps) at c₁ c₀)
 
-run-faithful : (size budget steps : ℕ) (c : Ctl) (e : Ed) → Faithful (run (step size) budget steps c e) (run stepFree budget steps c e) oldEnd fullEnd (oldEd e)
+run-faithful : (size budget steps : ℕ) (c : Ctl) (s : RunState) → Faithful (run (step (given (bytes size))) budget steps c s) (run stepFree budget steps c s) oldEnd fullEnd (oldState s)
 unfolding run
-run-faithful size zero steps c e = ret-faithful (spent steps e (pull c)) oldEnd fullEnd (oldEd e) (spent-old steps e (pull c))
-run-faithful size (suc budget) steps c e =
-    stepping-faithful size (λ c′ e′. run (step size) budget (suc steps) c′ e′) (λ c′ e′. run stepFree budget (suc steps) c′ e′)
-    (λ c′ e′. run-faithful size budget (suc steps) c′ e′) steps e (pull c)
+run-faithful size zero steps c s = ret-faithful (spent steps s (pull c)) oldEnd fullEnd (oldState s) (spent-old steps s (pull c))
+run-faithful size (suc budget) steps c s =
+    stepping-faithful size (λ c′ s′. run (step (given (bytes size))) budget (suc steps) c′ s′) (λ c′ s′. run stepFree budget (suc steps) c′ s′)
+    (λ c′ s′. run-faithful size budget (suc steps) c′ s′) steps s (pull c)
 
-runItems-faithful : (size budget : ℕ) (is : List Item) → Faithful (runItems (step size) budget is) (runItems stepFree budget is) oldEnd fullEnd []
-unfolding runItems
+runItems-faithful : (size budget : ℕ) (is : List Item) → Faithful (runItems (step (given (bytes size))) budget is) (runItems stepFree budget is) oldEnd fullEnd []
+unfolding runItems oldState
 runItems-faithful size budget is =
-    bind-faithful opening opening (λ e. run (step size) budget 0 (running is []) e) (λ e. run stepFree budget 0 (running is []) e) oldEd never oldEnd fullEnd []
-    (λ s t x. absurd x) opening-faithful (λ e. run-faithful size budget 0 (running is []) e)
+    bind-faithful opening opening (λ e. run (step (given (bytes size))) budget 0 (running is []) (state e carried)) (λ e. run stepFree budget 0 (running is []) (state e carried)) oldEd never oldEnd fullEnd []
+    (λ s t x. absurd x) opening-faithful (λ e. run-faithful size budget 0 (running is []) (state e carried))
 
 -- ---- the journal up to the furthest line and after it
 
@@ -112,40 +115,35 @@ drop-over (l ∷ ls) = drop-over ls
 
 -- ---- the answer from the run's last state: `e` and what is unread
 
-module _ (e : Ed) where
-  last-old : (t : Tape) → oldSide (journal e t) ≡ oldEd e ++ restLines t
-  unfolding journal oldEd
-  last-old t = old-append (records e) (map kept (restLines t)) ∙ ap (λ (x : List Line). oldSide (records e) ++ x) (old-kept (restLines t))
-
-  last-after : (t : Tape) → afterLine (furthest e t) (journal e t) ≡ map kept (drop (furthest e t) (oldEd e ++ restLines t))
-  unfolding journal furthest sources restLines oldEd
-  last-after (unread v) = after-records (records e) v ∙ ap (map kept) (sym (drop-append-seam (oldSide (records e)) v))
-  last-after ended = rw (append-nil (records e), append-nil (oldSide (records e))) (after-all (records e) ∙ ap (map kept) (sym (drop-over (oldSide (records e)))))
+journal-after : (e : Ed) (t : Tape) → afterLine (furthest e t) (journal e t) ≡ map kept (drop (furthest e t) (oldEd e ++ restLines t))
+unfolding journal furthest sources restLines oldEd
+journal-after e (unread v) = after-records (records e) v ∙ ap (map kept) (sym (drop-append-seam (oldSide (records e)) v))
+journal-after e ended = rw (append-nil (records e), append-nil (oldSide (records e))) (after-all (records e) ∙ ap (map kept) (sym (drop-over (oldSide (records e)))))
 
 answer-old : (s : End) (t : Tape) → oldSide (answerRecords (answerOf s t)) ≡ oldEnd s ++ restLines t
-unfolding answerOf answerRecords oldEnd
-answer-old (end n st at e) t = last-old e t
+unfolding answerOf answerRecords oldEnd oldState textOf
+answer-old (end n st at (state e c)) t = journal-old e t
 
 answer-after : (s : End) (t : Tape) → afterLine (answerFurthest (answerOf s t)) (answerRecords (answerOf s t)) ≡ map kept (drop (answerFurthest (answerOf s t)) (oldEnd s ++ restLines t))
-unfolding answerOf answerRecords answerFurthest oldEnd
-answer-after (end n st at e) t = last-after e t
+unfolding answerOf answerRecords answerFurthest oldEnd oldState textOf
+answer-after (end n st at (state e c)) t = journal-after e t
 
 answer-number : (s : End) (t : Tape) → fullEnd s → answerNumber (answerOf s t) ≡ 26
 unfolding answerOf answerNumber fullEnd
-answer-number (end n st at e) t x = x
+answer-number (end n st at s) t x = x
 
 answer-furthest : (s : End) (v : List Line) → answerFurthest (answerOf s (unread v)) ≡ length (oldEnd s)
-unfolding answerOf answerFurthest furthest sources oldEnd oldEd
-answer-furthest (end n st at e) v = refl
+unfolding answerOf answerFurthest furthest sources oldEnd oldEd oldState textOf
+answer-furthest (end n st at (state e c)) v = refl
 
 answer-ended : (s : End) → answerFurthest (answerOf s ended) ≡ suc (length (oldEnd s))
-unfolding answerOf answerFurthest furthest sources oldEnd oldEd
-answer-ended (end n st at e) = refl
+unfolding answerOf answerFurthest furthest sources oldEnd oldEd oldState textOf
+answer-ended (end n st at (state e c)) = refl
 
 -- the same last state, with other lines unread
 answer-same : (s : End) (v w : List Line) → SameUpTo (length (oldEnd s)) (answerOf s (unread v)) (answerOf s (unread w))
-unfolding answerOf answerNumber answerSteps answerFurthest answerPlace answerRecords furthest sources journal restLines oldEnd oldEd
-answer-same (end n st at e) v w = record {
+unfolding answerOf answerNumber answerSteps answerFurthest answerPlace answerRecords furthest sources journal restLines oldEnd oldEd oldState textOf
+answer-same (end n st at (state e c)) v w = record {
   number = refl;
   place = refl;
   steps = refl;
@@ -186,13 +184,13 @@ agreed used v ms h =
 module _ (budget : ℕ) (is : List Item) where
   -- the run's last state, in a buffer of `size` bytes and in one without bounds
   abbrev lim : ℕ → List Line → End × Tape
-  lim size ls = runItems (step size) budget is (unread ls)
+  lim size ls = runItems (step (given (bytes size))) budget is (unread ls)
 
   abbrev free : List Line → End × Tape
   free ls = runItems stepFree budget is (unread ls)
 
   abbrev ran : ℕ → List Line → Answer
-  ran size ls = ranItems (step size) budget is ls
+  ran size ls = ranItems (step (given (bytes size))) budget is ls
 
   -- a run that does not stop on a full buffer is the run without bounds
   not-full : (size : ℕ) (ls : List Line) → IsNotFull (ran size ls) → lim size ls ≡ free ls

@@ -3,17 +3,18 @@ use mathlib.Core.Path.{_≡_, refl, sym, ap, _∙_}
 use mathlib.Core.List.{List, _++_, map}
 use Prim.Native.Nat.{ℕ, _-_, _≤_}
 use lib.ListN.{length, drop, replicate}
-use Rattle.definitions.specs.Bytes.{linesOf}
+use Rattle.definitions.specs.Bytes.{linesOf, linesBytes}
 use Rattle.definitions.specs.Journal.{kept, oldSide, upToLine, journalBytes}
+use Rattle.definitions.specs.Given.{given, bytes}
 use Rattle.definitions.specs.Edit.{step}
 use Rattle.definitions.specs.Control.{Item}
 use Rattle.definitions.specs.Script.{Script, items, refusedAt, readScript}
 use Rattle.definitions.specs.Run.{Answer, answer, refusal, ranItems, runAnswer, answerFurthest, answerRecords, bufferAfter}
-use Rattle.theorems.specs.Demand3.{IsAccepted, IsNotFull, Agree, SameUpTo, KeptAfter, Demand3}
-use Rattle.theorems.specs.Accepted.{ran-accepted, no-refusal, has-room}
+use Rattle.theorems.specs.Demand3.{IsAccepted, IsNotFull, Agree, SameUpTo, KeptAfter, Demand3, DemandThree}
+use Rattle.theorems.specs.Accepted.{ran-accepted, no-refusal, is-table, has-room}
 use Rattle.theorems.specs.Demand3Items.{upTo-after, items-old, items-after, items-same}
 use Rattle.theorems.specs.Fits.{journal-append, items-fit}
-use Rattle.theorems.specs.JournalBytes.{journal-length}
+use Rattle.theorems.specs.JournalBytes.{journal-length, table-reads-back}
 use Rattle.theorems.specs.Answers.{Shown}
 use Rattle.theorems.specs.RunReadsBack.{ReadsBack, run-reads-back}
 
@@ -38,7 +39,7 @@ answer-back (refusal n at) h k = absurd h
 
 module _ (script : List ℕ) (budget : ℕ) (is : List Item) (e : readScript script ≡ items is) where
   of-items : (table : List ℕ) (work size : ℕ) → IsAccepted (runAnswer table script budget work size)
-      → runAnswer table script budget work size ≡ ranItems (step size) budget is (linesOf table)
+      → runAnswer table script budget work size ≡ ranItems (step (given (bytes size))) budget is (linesOf table)
   of-items table work size h = ran-accepted table script budget work size is e h
 
   old-of : (table : List ℕ) (work size : ℕ) → IsAccepted (runAnswer table script budget work size)
@@ -63,14 +64,15 @@ module _ (script : List ℕ) (budget : ℕ) (is : List Item) (e : readScript scr
       rw (journal-length (answerRecords (runAnswer table script budget work size)), of-items table work size h)
       (items-fit size budget is (linesOf table) (has-room table script budget work size is e h))
 
--- demand 3
-pub demand3 : (table script : List ℕ) (budget work size : ℕ) → IsAccepted (runAnswer table script budget work size) → Demand3 table script budget work size
+-- DEMAND 3
+pub demand3 : DemandThree
 demand3 table script budget work size h = by (readScript script) refl
   where
     by : (r : Script) → readScript script ≡ r → Demand3 table script budget work size
     by (refusedAt n at) e = absurd (no-refusal table script budget work size n at e h)
     by (items is) e = record {
       old = old-of script budget is e table work size h;
+      old-bytes = ap linesBytes (old-of script budget is e table work size h) ∙ table-reads-back table (is-table table script budget work size is e h);
       after = after-of script budget is e table work size h;
       agreeing = λ table₂ work₂ size₂ h₂ agree full full₂.
           let ran : Answer = runAnswer table script budget work size in

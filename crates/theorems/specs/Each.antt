@@ -17,15 +17,6 @@ module _ {A : Type 0} (P : A → Type 0) where
   each-append [] ys h k = k
   each-append (x ∷ xs) ys h k = (h .0, each-append xs ys (h .1) k)
 
-  -- the second part of an append
-  pub each-right : (xs ys : List A) → Each P (xs ++ ys) → Each P ys
-  each-right [] ys h = h
-  each-right (x ∷ xs) ys h = each-right xs ys (h .1)
-
-  pub each-left : (xs ys : List A) → Each P (xs ++ ys) → Each P xs
-  each-left [] ys h = tt
-  each-left (x ∷ xs) ys h = (h .0, each-left xs ys (h .1))
-
   pub each-reverse : (xs ys : List A) → Each P xs → Each P ys → Each P (reverseAux xs ys)
   each-reverse [] ys h k = k
   each-reverse (x ∷ xs) ys h k = each-reverse xs (x ∷ ys) (h .1) (h .0, k)

@@ -1,18 +1,22 @@
 -- The journal never exceeds its buffer, and a step that changes no record or stops leaves the journal as it was.
-use mathlib.Core.Path.{_≡_, refl, sym, ap, _∙_}
-use mathlib.Core.Bool.{Bool, true, false, cond}
-use mathlib.Core.List.{List, [], _∷_, _++_, map, map-append, append-assoc}
-use Prim.Native.Nat.{ℕ, zero, suc, _≤_}
-use lib.Dec.{T, leb, leb→le}
+use mathlib.Core.Path.{_≡_, refl, ap, _∙_}
+use mathlib.Core.List.{List, [], _∷_, _++_, map, append-assoc}
+use Prim.Native.Nat.{ℕ, _≤_}
+use borrow.Author.Tests.{leb-true}
 use Rattle.definitions.specs.Bytes.{Line}
 use Rattle.definitions.specs.Journal.{Record, kept, journalBytes, journalLength}
-use Rattle.definitions.specs.Tape.{Tape, unread, restLines, Reads, bind, Need, readNeed}
-use Rattle.definitions.specs.Editor.{Ed, Out, on, edited, halt, records, journal, seen, opening}
-use Rattle.definitions.specs.Edit.{Op, need, act, within, step}
-use Rattle.definitions.specs.Control.{Item, Ctl, running, Pull, finished, want, pull}
-use Rattle.definitions.specs.Run.{End, choose, spent, stepped, stepping, run, runItems, answerOf, ranItems, openingLength, answerRecords}
-use Rattle.theorems.specs.Reading.{readNeed-faithful}
-use Rattle.theorems.specs.OldSide.{Keeps, act-keeps, seen-records}
+use Rattle.definitions.specs.Tape.{Tape, unread, ended, restLines, bind}
+use Rattle.definitions.specs.Given.{Given, given, bytes, Carried}
+use Rattle.definitions.specs.Editor.{Ed, records, journal, Got, got, stop, Move, moved, edits}
+use Rattle.definitions.specs.Reading.{Ran, gave, stopped, seen, readLine, opening}
+use Rattle.definitions.specs.StepProgram.{Program, RunState, state, textOf, Did, answers, changes, quits, Out, on, edited, halt, hasRoom, finish, perform}
+use Rattle.definitions.specs.Edit.{Op, program, step}
+use Rattle.definitions.specs.Control.{Item}
+use Rattle.definitions.specs.Run.{End, end, runItems, answerOf, ranItems, openingLength, answerRecords}
+use Rattle.theorems.specs.OldSide.{seen-records, Left, moved-left}
+use Rattle.theorems.specs.ComesTo.{Keeping, OnGot, ComesTo, runs-keep, within-comes}
+use Rattle.theorems.specs.Reading.{At}
+use Rattle.theorems.specs.Runs.{AfterStep, AtEnd, inner-all, items-all, runItems-keeps}
 
 -- ---- a journal in two parts
 
@@ -21,110 +25,108 @@ unfolding journalBytes
 journal-append [] ys = refl
 journal-append (x ∷ xs) ys = rw (journal-append xs ys, append-assoc)
 
--- ---- a step
-
--- the journal `j` stays, unless the step has changed records
-unfoldable pub Stays : List Record → Out → Tape → Type 0
-Stays j (on b e) t = journal e t ≡ j
-Stays j (edited e) t = Unit {0}
-Stays j (halt n e) t = journal e t ≡ j
-
--- reading leaves the journal
-read-journal : (n : Need) (e : Ed) (t : Tape) → journal (seen e ((readNeed n t) .0)) ((readNeed n t) .1) ≡ journal e t
-unfolding journal
-read-journal n e t =
-    let ls : List Line = (readNeed n t) .0 in
-    let rest : List Line = restLines ((readNeed n t) .1) in
-    ap (λ (x : List Record). x ++ map kept rest) (seen-records e ls)
-    ∙ append-assoc (records e) (map kept ls) (map kept rest)
-    ∙ ap (λ (x : List Record). records e ++ x) (sym (map-append kept ls rest) ∙ ap (map kept) ((readNeed-faithful n []) .keeps t))
+-- ---- every program leaves the journal
 
 left-journal : (e e′ : Ed) (t : Tape) → records e′ ≡ records e → journal e′ t ≡ journal e t
 unfolding journal
 left-journal e e′ t h = ap (λ (x : List Record). x ++ map kept (restLines t)) h
 
--- a step in a journal buffer of `size` bytes leaves there what fits
-unfoldable Fits : ℕ → Out → Tape → Type 0
-Fits size (on b e) t = journalLength (journal e t) ≤ size
-Fits size (edited e) t = journalLength (journal e t) ≤ size
-Fits size (halt n e) t = journalLength (journal e t) ≤ size
+seen-journal : (l : Line) (ls : List Line) (e : Ed) → journal (seen (kept l) e) (unread ls) ≡ journal e (unread (l ∷ ls))
+unfolding journal restLines
+seen-journal l ls e = rw (seen-records (kept l) e, append-assoc)
 
-module _ (size : ℕ) (e : Ed) (t : Tape) (j : List Record) (h : journal e t ≡ j) where
-  within-stays : (o : Out) → Keeps (records e) o → Stays j ((within size e o t) .0) ((within size e o t) .1)
-  unfolding within Stays Keeps
-  within-stays (on b e′) k = left-journal e e′ t k ∙ h
-  within-stays (halt n e′) k = left-journal e e′ t (k .0) ∙ h
-  within-stays (edited e′) k = by (leb (journalLength (journal e′ t)) size)
-    where
-      by : (x : Bool) → Stays j ((cond {A = Out × Tape} x (edited e′, t) (halt 26 e, t)) .0) ((cond {A = Out × Tape} x (edited e′, t) (halt 26 e, t)) .1)
-      by true = tt
-      by false = h
+end-journal : (e : Ed) → journal e ended ≡ journal e (unread [])
+unfolding journal restLines
+end-journal e = refl
 
-  within-fits : journalLength j ≤ size → (o : Out) → Keeps (records e) o → Fits size ((within size e o t) .0) ((within size e o t) .1)
-  unfolding within Fits Keeps
-  within-fits le (on b e′) k = rw (left-journal e e′ t k ∙ h) le
-  within-fits le (halt n e′) k = rw (left-journal e e′ t (k .0) ∙ h) le
-  within-fits le (edited e′) k = by (leb (journalLength (journal e′ t)) size) (leb→le (journalLength (journal e′ t)) size)
+-- the journal is `j`
+abbrev JournalIs : List Record → Ed → Tape → Type 0
+JournalIs j e t = journal e t ≡ j
+
+module _ (g : Given) (c : Carried) (j : List Record) where
+  line-journal : (e : Ed) (t : Tape) → JournalIs j e t → At (Keeping (JournalIs j)) (readLine g c e t)
+  unfolding readLine
+  line-journal e (unread (l ∷ ls)) h = seen-journal l ls e ∙ h
+  line-journal e (unread []) h = end-journal e ∙ h
+  line-journal e ended h = h
+
+  move-journal : (x : Move) (e : Ed) (t : Tape) → JournalIs j e t → OnGot (λ e′. JournalIs j e′ t) (λ n. Unit {0}) (moved x e)
+  move-journal x e t h = by (moved x e) (moved-left x e)
     where
-      by : (x : Bool) → (T x → journalLength (journal e′ t) ≤ size)
-          → Fits size ((cond {A = Out × Tape} x (edited e′, t) (halt 26 e, t)) .0) ((cond {A = Out × Tape} x (edited e′, t) (halt 26 e, t)) .1)
-      by true f = f tt
-      by false f = rw h le
+      by : (y : Got Ed) → Left (records e) y → OnGot (λ e′. JournalIs j e′ t) (λ n. Unit {0}) y
+      by (got e′) k = left-journal e e′ t (unfold Left in k) ∙ h
+      by (stop n) k = tt
+
+  pub runs-journal : {A : Type 0} (m : Program A) (e : Ed) (t : Tape) → JournalIs j e t → ComesTo g c {A = A} (λ a. JournalIs j) (λ n. JournalIs j) m e t
+  runs-journal m e t h = runs-keep g c (JournalIs j) line-journal move-journal m e t h
+
+-- ---- a step
+
+-- the journal of a run's state
+abbrev pub journalOf : RunState → Tape → List Record
+journalOf s t = journal (textOf s) t
+
+-- the journal `j` stays, unless the step has changed records
+unfoldable pub Stays : List Record → Out → Tape → Type 0
+Stays j (on b s) t = journalOf s t ≡ j
+Stays j (edited s) t = Unit {0}
+Stays j (halt n s) t = journalOf s t ≡ j
+
+-- and what it has changed fits a buffer of `size` bytes
+unfoldable StaysIn : ℕ → List Record → Out → Tape → Type 0
+StaysIn size j (on b s) t = journalOf s t ≡ j
+StaysIn size j (edited s) t = journalLength (journalOf s t) ≤ size
+StaysIn size j (halt n s) t = journalOf s t ≡ j
+
+finish-stays : (size : ℕ) (c : Carried) (j : List Record) (r : Ran Did) (t : Tape) → Keeping (JournalIs j) r t → At (StaysIn size j) (finish (given (bytes size)) c r t)
+unfolding finish StaysIn textOf
+finish-stays size c j (gave (answers b) e) t h = h
+finish-stays size c j (gave (changes xs) e) t h =
+    unfold StaysIn textOf in (within-comes (StaysIn size j) (given (bytes size)) c e (edits xs e) t (λ x. unfold hasRoom in (leb-true (journalLength (journal (edits xs e) t)) size x)) h)
+finish-stays size c j (gave quits e) t h = h
+finish-stays size c j (stopped n e) t h = h
+
+step-stays-in : (size : ℕ) (op : Op) (s : RunState) (t : Tape) → At (StaysIn size (journalOf s t)) (step (given (bytes size)) op s t)
+unfolding step perform bind textOf
+step-stays-in size op (state e c) t = finish-stays size c (journal e t) _ _ (runs-journal (given (bytes size)) c (journal e t) (program op) e t refl)
 
 -- "the stopping command changes no record, its reading counts"; nor does one that goes on without a change
-pub step-stays : (size : ℕ) (op : Op) (e : Ed) (t : Tape) → Stays (journal e t) ((step size op e t) .0) ((step size op e t) .1)
-unfolding step bind
-step-stays size op e t =
-    let r : List Line × Tape = readNeed (need op e) t in
-    let s : Ed = seen e (r .0) in
-    within-stays size s (r .1) (journal e t) (read-journal (need op e) e t) (act op s) (act-keeps op s)
-
-step-fits : (size : ℕ) (op : Op) (e : Ed) (t : Tape) → journalLength (journal e t) ≤ size → Fits size ((step size op e t) .0) ((step size op e t) .1)
-unfolding step bind
-step-fits size op e t le =
-    let r : List Line × Tape = readNeed (need op e) t in
-    let s : Ed = seen e (r .0) in
-    within-fits size s (r .1) (journal e t) (read-journal (need op e) e t) le (act op s) (act-keeps op s)
+pub step-stays : (size : ℕ) (op : Op) (s : RunState) (t : Tape) → At (Stays (journalOf s t)) (step (given (bytes size)) op s t)
+step-stays size op s t = by ((step (given (bytes size)) op s t) .0) ((step (given (bytes size)) op s t) .1) (step-stays-in size op s t)
+  where
+    by : (o : Out) (t′ : Tape) → StaysIn size (journalOf s t) o t′ → Stays (journalOf s t) o t′
+    by (on b s′) t′ h = unfold Stays StaysIn in h
+    by (edited s′) t′ h = unfold Stays in tt
+    by (halt n s′) t′ h = unfold Stays StaysIn in h
 
 -- ---- the run
 
--- the journal at a run's end
-abbrev endJournal : End × Tape → List Record
-endJournal x = answerRecords (answerOf (x .0) (x .1))
+-- a journal buffer of `size` bytes has room
+abbrev FitsIn : ℕ → RunState → Tape → Type 0
+FitsIn size s t = journalLength (journalOf s t) ≤ size
 
-module _ (size : ℕ) (go : Ctl → Ed → Reads End) (h : (c : Ctl) (e : Ed) (t : Tape) → journalLength (journal e t) ≤ size → journalLength (endJournal (go c e t)) ≤ size) where
-  stepped-fits : (steps at : ℕ) (c₁ c₀ : Ctl) (o : Out) (t : Tape) → Fits size o t → journalLength (endJournal (stepped go steps at c₁ c₀ o t)) ≤ size
-  unfolding stepped Fits answerRecords answerOf
-  stepped-fits steps at c₁ c₀ (on b e) t le = h (choose b c₁ c₀) e t le
-  stepped-fits steps at c₁ c₀ (edited e) t le = h c₁ e t le
-  stepped-fits steps at c₁ c₀ (halt n e) t le = le
+after-fits : (size : ℕ) (j : List Record) → journalLength j ≤ size → (o : Out) (t : Tape) → StaysIn size j o t → AfterStep (FitsIn size) o t
+unfolding StaysIn
+after-fits size j le (on b s) t h = rw h le
+after-fits size j le (edited s) t h = h
+after-fits size j le (halt n s) t h = rw h le
 
-  stepping-fits : (steps : ℕ) (e : Ed) (x : Pull) (t : Tape) → journalLength (journal e t) ≤ size → journalLength (endJournal (stepping (step size) go steps e x t)) ≤ size
-  unfolding stepping bind answerRecords answerOf
-  stepping-fits steps e finished t le = le
-  stepping-fits steps e (want at op c₁ c₀) t le =
-      stepped-fits (suc steps) at c₁ c₀ ((step size op e t) .0) ((step size op e t) .1) (step-fits size op e t le)
+step-fits : (size : ℕ) (op : Op) (s : RunState) (t : Tape) → FitsIn size s t → At (AfterStep (FitsIn size)) (step (given (bytes size)) op s t)
+step-fits size op s t le = after-fits size (journalOf s t) le _ _ (step-stays-in size op s t)
 
-spent-fits : (size steps : ℕ) (e : Ed) (x : Pull) (t : Tape) → journalLength (journal e t) ≤ size → journalLength (endJournal (spent steps e x, t)) ≤ size
-unfolding spent answerRecords answerOf
-spent-fits size steps e finished t le = le
-spent-fits size steps e (want at op c₁ c₀) t le = le
+pub opening-journal : (ls : List Line) → journal ((opening (unread ls)) .0) ((opening (unread ls)) .1) ≡ map kept ls
+unfolding opening journal records restLines
+opening-journal [] = refl
+opening-journal (l ∷ ls) = refl
 
-run-fits : (size budget steps : ℕ) (c : Ctl) (e : Ed) (t : Tape) → journalLength (journal e t) ≤ size → journalLength (endJournal (run (step size) budget steps c e t)) ≤ size
-unfolding run
-run-fits size zero steps c e t le = spent-fits size steps e (pull c) t le
-run-fits size (suc budget) steps c e t le =
-    stepping-fits size (λ c′ e′. run (step size) budget (suc steps) c′ e′) (λ c′ e′ t′ le′. run-fits size budget (suc steps) c′ e′ t′ le′) steps e (pull c) t le
-
-opening-journal : (ls : List Line) → journal ((opening (unread ls)) .0) ((opening (unread ls)) .1) ≡ map kept ls
-unfolding opening bind journal records restLines
-opening-journal ls =
-    let r : List Line × Tape = readNeed (Need.next 1) (unread ls) in
-    sym (map-append kept (r .0) (restLines (r .1))) ∙ ap (map kept) ((readNeed-faithful (Need.next 1) []) .keeps (unread ls))
+end-fits : (size : ℕ) (x : End) (t : Tape) → AtEnd (FitsIn size) x t → journalLength (answerRecords (answerOf x t)) ≤ size
+unfolding answerRecords answerOf
+end-fits size (end n steps at s) t h = h
 
 -- a run in a buffer for the opening journal leaves a journal that fits
-pub items-fit : (size budget : ℕ) (is : List Item) (ls : List Line) → openingLength ls ≤ size → journalLength (answerRecords (ranItems (step size) budget is ls)) ≤ size
-unfolding ranItems runItems bind openingLength
+pub items-fit : (size budget : ℕ) (is : List Item) (ls : List Line) → openingLength ls ≤ size → journalLength (answerRecords (ranItems (step (given (bytes size))) budget is ls)) ≤ size
+unfolding ranItems openingLength
 items-fit size budget is ls le =
-    let o : Ed × Tape = opening (unread ls) in
-    run-fits size budget 0 (running is []) (o .0) (o .1) (rw (opening-journal ls) le)
+    end-fits size ((runItems (step (given (bytes size))) budget is (unread ls)) .0) ((runItems (step (given (bytes size))) budget is (unread ls)) .1)
+    (runItems-keeps (λ op. Unit {0}) (inner-all (λ op. Unit {0}) (λ op. tt)) (FitsIn size) (step (given (bytes size))) (λ op s t u. step-fits size op s t)
+    budget is (unread ls) (items-all (λ op. Unit {0}) (λ op. tt) is) (unfold textOf in (rw (opening-journal ls) le)))

@@ -1,4 +1,4 @@
--- Changes of a line keep it a line, and changes of a record keep it good; what a good step writes are lines.
+-- Changes of a line keep it text, and changes of a record keep it good.
 use mathlib.Core.Path.{_≡_, refl}
 use mathlib.Core.Bool.{Bool, true, false, cond, and-eq-true-iff}
 use mathlib.Core.List.{[], _∷_, _++_}
@@ -6,17 +6,14 @@ use Prim.Native.Nat.{ℕ, _+_, _-_, _≤_, _<_}
 use native.Mathlib.Omega.{arith}
 use lib.ListN.{length, getD, take, drop}
 use lib.Dec.{leb}
-use borrow.Author.Tests.{leb-true, le-leb}
+use borrow.Author.Tests.{leb-true}
 use Rattle.definitions.specs.Bytes.{Line, isText, isCapital, isSmall, upper, lower, eqLine, allText}
 use Rattle.definitions.specs.Journal.{Record, kept, changed, deleted, inserted, change, rewrite, erase}
 use Rattle.definitions.specs.Editor.{current}
-use Rattle.definitions.specs.Matching.{stringIn}
-use Rattle.definitions.specs.Edit.{Op, round, quit, test, begin, beginBack, find, findBack, findDelete, move, next, previous, delete, replace, insert, copy, alter, point, pointStart, right, left, cutByte, recase}
 use Rattle.definitions.specs.Edit.{Change, afterIt, beforeIt, exchange, splice, altered, cased, recased}
 use Rattle.theorems.specs.Each.{Each, each-append, each-take, each-drop, each-getD}
-use Rattle.theorems.specs.Writes.{Writes}
-use Rattle.theorems.specs.GoodOps.{GoodOp}
-use Rattle.theorems.specs.JournalBytes.{IsLine, GoodRecord, line-text, line-of, all-lines}
+use Rattle.theorems.specs.Lines.{text-upTo, text-of}
+use Rattle.theorems.specs.JournalBytes.{IsLine, GoodRecord, line-text}
 
 -- ---- text
 
@@ -34,18 +31,6 @@ each-text : (l : Line) → Each IsText l → allText l ≡ true
 unfolding allText
 each-text [] h = refl
 each-text (b ∷ l) h = and-eq-true-iff (isText b) (allText l) .1 (h .0, each-text l (h .1))
-
-text-from : (b : ℕ) → isText b ≡ true → 32 ≤ b
-unfolding isText
-text-from b h = leb-true 32 b ((and-eq-true-iff (leb 32 b) (leb b 126) .0 h) .0)
-
-text-upTo : (b : ℕ) → isText b ≡ true → b ≤ 126
-unfolding isText
-text-upTo b h = leb-true b 126 ((and-eq-true-iff (leb 32 b) (leb b 126) .0 h) .1)
-
-text-of : (b : ℕ) → 32 ≤ b → b ≤ 126 → isText b ≡ true
-unfolding isText
-text-of b h k = and-eq-true-iff (leb 32 b) (leb b 126) .1 (le-leb 32 b h, le-leb b 126 k)
 
 upper-text : (b : ℕ) → IsText b → IsText (upper b)
 unfolding upper
@@ -76,20 +61,20 @@ cased-text false b h = lower-text b h
 
 -- ---- the texts that a line is given
 
-splice-text : (l : Line) (i n : ℕ) (new : Line) → allText l ≡ true → allText new ≡ true → allText (splice l i n new) ≡ true
+pub splice-text : (l : Line) (i n : ℕ) (new : Line) → allText l ≡ true → allText new ≡ true → allText (splice l i n new) ≡ true
 unfolding splice
 splice-text l i n new h k =
     each-text (take i l ++ (new ++ drop (i + n) l))
     (each-append IsText (take i l) (new ++ drop (i + n) l) (each-take IsText i l (text-each l h))
     (each-append IsText new (drop (i + n) l) (text-each new k) (each-drop IsText (i + n) l (text-each l h))))
 
-altered-text : (c : Change) (l : Line) (i n : ℕ) (new : Line) → allText l ≡ true → allText new ≡ true → allText (altered c l i n new) ≡ true
+pub altered-text : (c : Change) (l : Line) (i n : ℕ) (new : Line) → allText l ≡ true → allText new ≡ true → allText (altered c l i n new) ≡ true
 unfolding altered
 altered-text afterIt l i n new h k = splice-text l (i + n) 0 new h k
 altered-text beforeIt l i n new h k = splice-text l i 0 new h k
 altered-text exchange l i n new h k = splice-text l i n new h k
 
-recased-text : (up : Bool) (l : Line) (p : ℕ) → p < length l → allText l ≡ true → allText (recased up l p) ≡ true
+pub recased-text : (up : Bool) (l : Line) (p : ℕ) → p < length l → allText l ≡ true → allText (recased up l p) ≡ true
 unfolding recased
 recased-text up l p m h =
     splice-text l p 1 (cased up (getD l p 0) ∷ []) h (each-text (cased up (getD l p 0) ∷ []) (cased-text up (getD l p 0) (each-getD IsText l p 0 m (text-each l h)), tt))
@@ -127,33 +112,3 @@ erase-good (kept l) h = (h, tt)
 erase-good (changed o n) h = (h .0, tt)
 erase-good (deleted l) h = (h, tt)
 erase-good (inserted l) h = tt
-
--- ---- steps
-
--- the text put in place of a line is a line, if that line is text
-abbrev pub IsLineAfter : Line → Line → Type 0
-IsLineAfter old new = allText old ≡ true → IsLine new
-
-pub good-writes : (op : Op) → GoodOp op → Writes IsLine IsLineAfter op
-good-writes round g = tt
-good-writes quit g = tt
-good-writes (test d) g = tt
-good-writes begin g = tt
-good-writes beginBack g = tt
-good-writes (find se) g = tt
-good-writes (findBack se) g = tt
-good-writes (findDelete se k) g = tt
-good-writes (move a) g = tt
-good-writes next g = tt
-good-writes previous g = tt
-good-writes (delete a b) g = tt
-good-writes (replace a b ls) g = all-lines ls g
-good-writes (insert a ls) g = all-lines ls g
-good-writes copy g = tt
-good-writes (alter d pointing q new) g = λ l i m h. line-of (altered d l i (length (stringIn q)) new) (altered-text d l i (length (stringIn q)) new h g) m
-good-writes (point b q) g = tt
-good-writes pointStart g = tt
-good-writes right g = tt
-good-writes left g = tt
-good-writes cutByte g = λ l p m h. line-of (splice l p 1 []) (splice-text l p 1 [] h (unfold allText in refl)) m
-good-writes (recase up) g = λ l p k m h. line-of (recased up l p) (recased-text up l p k h) m

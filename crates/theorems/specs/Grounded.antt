@@ -1,108 +1,34 @@
 -- No command reads too little: where EOF is current, or a line is not found (21), EOF has been read, and a current line is not deleted. This
 -- holds at the start, is kept by every step, and so holds at the end of every run.
 use mathlib.Core.Path.{refl}
-use mathlib.Core.Bool.{Bool, true, false, cond}
-use mathlib.Core.Option.{Option, none, some}
-use mathlib.Core.List.{List, [], _∷_, _++_, map}
-use Prim.Native.Nat.{ℕ, zero, suc}
+use mathlib.Core.Bool.{Bool, true, false, cond, not}
+use mathlib.Core.Option.{none, some}
+use mathlib.Core.List.{List, [], _∷_}
+use Prim.Native.Nat.{ℕ}
 use native.Mathlib.Omega.{arith}
-use lib.ListN.{length}
-use lib.Dec.{leb, ltb}
+use lib.Dec.{T, eqb}
 use Rattle.definitions.specs.Bytes.{Line, eqLine}
-use Rattle.definitions.specs.Journal.{Record, kept, changed, deleted, inserted, oldOf, oldSide, change, rewrite, journalLength}
-use Rattle.definitions.specs.Matching.{placeOf, stringIn}
+use Rattle.definitions.specs.Journal.{Record, kept, changed, deleted, inserted, oldOf, oldSide, change, rewrite}
+use Rattle.definitions.specs.Matching.{Qualified, placeOf}
 use Rattle.definitions.specs.Search.{Search, holds}
-use Rattle.definitions.specs.Tape.{Tape, unread, ended, bind, Need, readNext, readNeed}
-use Rattle.definitions.specs.Editor.{Ed, ed, Out, on, edited, halt, journal, sources, current, seen, opening, land, landNeed}
-use Rattle.definitions.specs.Edit.{Change, Op, round, quit, test, begin, beginBack, find, findBack, findDelete, move, next, previous, delete, replace, insert, copy, alter, point, pointStart, right, left, cutByte, recase}
-use Rattle.definitions.specs.Edit.{findNeed, nextNeed, need, reached, looked, lookedDelete, notYet, lookedBack, withLine, retext, alterAt, pointAt, unlessEnd, stepLeft, insertLines, act, within, step}
+use Rattle.definitions.specs.Tape.{Tape, unread, ended, bind}
+use Rattle.definitions.specs.Given.{Given, given, bytes, Carried, carried}
+use Rattle.definitions.specs.Editor.{Ed, ed, sources, Stop, n20, n21, n22, n24, n25, n27, stopNumber, back, pointTo, Edit, strike, strikeBack, put, retext, edit, edits}
+use Rattle.definitions.specs.Reading.{Ran, gave, stopped, opening}
+use Rattle.definitions.specs.StepProgram.{Program, gives, _>>=_, _>>_, runs, RunState, state, Did, answers, changes, quits, Out, on, edited, halt, finish, perform}
+use Rattle.definitions.specs.Edit.{Op, round, quit, test, begin, beginBack, find, findBack, findDelete, move, next, previous, delete, replace, insert, copy, alter, point, pointStart, right, left, cutByte, recase}
+use Rattle.definitions.specs.Edit.{stopIf, either, see, go, goesOn, goAhead, goTo, lineOr, isAtEof, lookOn, lookBack, write, placeOr24, byteHere, span, program, step}
 use Rattle.definitions.specs.Control.{Item}
 use Rattle.definitions.specs.Run.{runItems}
+use Rattle.theorems.specs.Reading.{At}
+use Rattle.theorems.specs.ComesTo.{Gives, Ended, then-comes, and-comes, either-comes, test-comes, some-comes, byte-comes, within-comes}
 use Rattle.theorems.specs.Runs.{StepOr, EndOf, inner-all, items-all, runItems-ends}
-use Rattle.theorems.specs.Writes.{AnyLine, AnyText, writes-any}
-use Rattle.theorems.specs.Changes.{HoldsEd, HoldsOut, step-keeps}
-use Rattle.theorems.specs.ReadFar.{Sourced, sourced-closed}
-use Rattle.theorems.specs.Reaching.{Live, Grounded, Stopped, GroundedOut, stop, seen-grounded, seen-stop, land-grounded, landNeed-reaches, goBack-grounded}
-use Rattle.theorems.specs.GroundedMoves.{thenDo-grounded, insertLines-grounded, move-grounded, delete-grounded}
+use Rattle.theorems.specs.Changes.{HoldsEd, HoldsState, HoldsOut, step-keeps}
+use Rattle.theorems.specs.ReadFar.{AnyLine, AnyText, Sourced, sourced-closed, sourced-keeps}
+use Rattle.theorems.specs.Reaching.{Live, Grounded, GroundedState, StoppedState, GroundedOut, not-21, Halts, ComesGrounded, struck-grounded}
+use Rattle.theorems.specs.GroundedMoves.{Ground, OnLine, Spans, line-grounded, spans-grounded, back-comes, point-comes, lineOr-comes, goAhead-comes, goTo-comes, span-comes}
 
--- ---- searches
-
-reached-grounded : (e : Ed) (t : Tape) → Grounded e t → GroundedOut (reached e) t
-unfolding reached
-reached-grounded (ed before [] p) t h = (h, λ x. h)
-reached-grounded (ed before (r ∷ after) p) t h = h
-
-notYet-grounded : (o : Out) (t : Tape) → GroundedOut o t → GroundedOut (notYet o) t
-unfolding notYet
-notYet-grounded (on b e) t h = h
-notYet-grounded (edited e) t h = h
-notYet-grounded (halt n e) t h = h
-
--- on to the next live line from a record that does not match
-passed-grounded : (before after : List Record) (r : Record) (t : Tape)
-    → GroundedOut (reached (land (r ∷ before) (after ++ map kept ((readNeed (landNeed after) t) .0)))) ((readNeed (landNeed after) t) .1)
-passed-grounded before after r t = reached-grounded (land (r ∷ before) _) _ (land-grounded (r ∷ before) _ _ (landNeed-reaches after t))
-
-find-grounded : (se : Search) (e : Ed) (t : Tape) → Grounded e t → GroundedOut (act (find se) (seen e ((readNeed (findNeed se e) t) .0))) ((readNeed (findNeed se e) t) .1)
-unfolding act findNeed seen readNeed readNext
-find-grounded se (ed before [] p) t h = (h, λ x. h)
-find-grounded se (ed before (r ∷ after) p) t h = by (holds se p (current r))
-  where
-    readFor : Bool → Need
-    readFor c = cond c (Need.next 0) (landNeed after)
-
-    by : (c : Bool) → GroundedOut (looked c before r (after ++ map kept ((readNeed (readFor c) t) .0)) p) ((readNeed (readFor c) t) .1)
-    by true = unfold looked in h
-    by false = unfold looked in (passed-grounded before after r t)
-
-findDelete-grounded : (se : Search) (k : ℕ) (e : Ed) (t : Tape) → Grounded e t
-    → GroundedOut (act (findDelete se k) (seen e ((readNeed (findNeed se e) t) .0))) ((readNeed (findNeed se e) t) .1)
-unfolding act findNeed seen readNeed readNext
-findDelete-grounded se k (ed before [] p) t h = (h, λ x. h)
-findDelete-grounded se k (ed before (r ∷ after) p) t h = by (holds se p (current r))
-  where
-    readFor : Bool → Need
-    readFor c = cond c (Need.next 0) (landNeed after)
-
-    by : (c : Bool) → GroundedOut (lookedDelete c k before r (after ++ map kept ((readNeed (readFor c) t) .0)) p) ((readNeed (readFor c) t) .1)
-    by true = unfold lookedDelete in h
-    by false = unfold lookedDelete in (passed-grounded before after r t)
-
-next-grounded : (e : Ed) (t : Tape) → Grounded e t → GroundedOut (act next (seen e ((readNeed (nextNeed e) t) .0))) ((readNeed (nextNeed e) t) .1)
-unfolding act nextNeed seen readNeed readNext withLine
-next-grounded (ed before [] p) t h = stop 20 (ed before [] p) t tt h
-next-grounded (ed before (r ∷ after) p) t h = land-grounded (r ∷ before) _ _ (landNeed-reaches after t)
-
-findBack-grounded : (se : Search) (e : Ed) (t : Tape) → Grounded e t → GroundedOut (act (findBack se) e) t
-unfolding act
-findBack-grounded se (ed before [] p) t h = stop 22 (ed before [] p) t tt h
-findBack-grounded se (ed before (r ∷ after) p) t h = by (holds se p (current r))
-  where
-    by : (c : Bool) → GroundedOut (lookedBack c before r after p) t
-    by true = unfold lookedBack in h
-    by false = unfold lookedBack in (notYet-grounded _ t (goBack-grounded (ed before (r ∷ after) p) before (r ∷ after) t h))
-
-begin-grounded : (e : Ed) (t : Tape) → Grounded e t → GroundedOut (act begin e) t
-unfolding act
-begin-grounded (ed before [] p) t h = (h, λ x. h)
-begin-grounded (ed before (r ∷ after) p) t h = h
-
-beginBack-grounded : (e : Ed) (t : Tape) → Grounded e t → GroundedOut (act beginBack e) t
-unfolding act
-beginBack-grounded (ed before [] p) t h = goBack-grounded (ed before [] p) before [] t h
-beginBack-grounded (ed before (r ∷ after) p) t h = h
-
-previous-grounded : (e : Ed) (t : Tape) → Grounded e t → GroundedOut (act previous e) t
-unfolding act
-previous-grounded (ed before after p) t h = goBack-grounded (ed before after p) before after t h
-
--- ---- changes of the current line
-
-withLine-grounded : (f : List Record → Record → List Record → ℕ → Out) (e : Ed) (t : Tape) → Grounded e t
-    → ((before : List Record) (r : Record) (after : List Record) (p : ℕ) → Live r → GroundedOut (f before r after p) t) → GroundedOut (withLine f e) t
-unfolding withLine
-withLine-grounded f (ed before [] p) t h g = stop 20 (ed before [] p) t tt h
-withLine-grounded f (ed before (r ∷ after) p) t h g = g before r after p h
+-- ---- changes of records
 
 change-live : (old new : Line) → Live (change old new)
 unfolding change
@@ -119,122 +45,197 @@ rewrite-live (changed o n) new h = change-live o new
 rewrite-live (deleted l) new h = h
 rewrite-live (inserted l) new h = tt
 
-retext-grounded : (before : List Record) (r : Record) (after : List Record) (p : ℕ) (l : Line) (q : ℕ) (t : Tape) → Live r → GroundedOut (retext before r after p l q) t
-unfolding retext
-retext-grounded before r after p l q t h = by (leb (length l) 255)
-  where
-    by : (c : Bool) → GroundedOut (cond c (edited (ed before (rewrite r l ∷ after) q)) (halt 25 (ed before (r ∷ after) p))) t
-    by true = rewrite-live r l h
-    by false = stop 25 (ed before (r ∷ after) p) t tt h
+-- what a change needs: a live line, or EOF, read after the records that are struck
+abbrev EditFrom : Edit → Ed → Tape → Type 0
+EditFrom (strike k) e t = Spans k e t
+EditFrom (strikeBack k) e t = Grounded e t
+EditFrom (put ls) e t = Grounded e t
+EditFrom (retext l q) e t = Grounded e t
 
-unlessEnd-grounded : (before : List Record) (r : Record) (after : List Record) (p : ℕ) (o : Out) (t : Tape) → Live r → GroundedOut o t → GroundedOut (unlessEnd before r after p o) t
-unfolding unlessEnd
-unlessEnd-grounded before r after p o t h g = by (ltb p (length (current r)))
-  where
-    by : (c : Bool) → GroundedOut (cond c o (halt 27 (ed before (r ∷ after) p))) t
-    by true = g
-    by false = stop 27 (ed before (r ∷ after) p) t tt h
+abbrev EditsFrom : List Edit → Ed → Tape → Type 0
+EditsFrom [] e t = Grounded e t
+EditsFrom (x ∷ xs) e t = EditFrom x e t × EditsFrom xs (edit x e) t
 
-alterAt-grounded : (c : Change) (pointing : Bool) (s new : Line) (before : List Record) (r : Record) (after : List Record) (p : ℕ) (i : Option ℕ) (t : Tape) → Live r
-    → GroundedOut (alterAt c pointing s new before r after p i) t
-unfolding alterAt
-alterAt-grounded c pointing s new before r after p none t h = stop 24 (ed before (r ∷ after) p) t tt h
-alterAt-grounded c pointing s new before r after p (some i) t h = retext-grounded before r after p _ _ t h
+edit-grounded : (x : Edit) (e : Ed) (t : Tape) → EditFrom x e t → Grounded (edit x e) t
+unfolding edit
+edit-grounded (strike k) (ed before after p) t h = struck-grounded k before after t (h .1)
+edit-grounded (strikeBack k) (ed before [] p) t h = h
+edit-grounded (strikeBack k) (ed before (r ∷ after) p) t h = h
+edit-grounded (put ls) (ed before [] p) t h = h
+edit-grounded (put ls) (ed before (r ∷ after) p) t h = h
+edit-grounded (retext l q) (ed before [] p) t h = h
+edit-grounded (retext l q) (ed before (r ∷ after) p) t h = rewrite-live r l h
 
-pointAt-grounded : (b : Bool) (s : Line) (before : List Record) (r : Record) (after : List Record) (p : ℕ) (i : Option ℕ) (t : Tape) → Live r
-    → GroundedOut (pointAt b s before r after p i) t
-unfolding pointAt
-pointAt-grounded b s before r after p none t h = stop 24 (ed before (r ∷ after) p) t tt h
-pointAt-grounded true s before r after p (some i) t h = h
-pointAt-grounded false s before r after p (some i) t h = h
+edits-grounded : (xs : List Edit) (e : Ed) (t : Tape) → EditsFrom xs e t → Grounded (edits xs e) t
+unfolding edits
+edits-grounded [] e t h = h
+edits-grounded (x ∷ xs) e t h = edits-grounded xs (edit x e) t (h .1)
 
-stepLeft-grounded : (before : List Record) (r : Record) (after : List Record) (p : ℕ) (t : Tape) → Live r → GroundedOut (stepLeft before r after p) t
-unfolding stepLeft
-stepLeft-grounded before r after zero t h = stop 27 (ed before (r ∷ after) 0) t tt h
-stepLeft-grounded before r after (suc p) t h = h
+-- one change
+abbrev OneFrom : Edit → Ed → Tape → Type 0
+OneFrom x e t = Grounded e t × EditsFrom (x ∷ []) e t
 
--- ---- every step
+one-from : (x : Edit) (e : Ed) (t : Tape) → Grounded e t → EditFrom x e t → OneFrom x e t
+one-from x e t h k = (h, (k, edit-grounded x e t k))
 
--- the state and the tape where nothing is to be read
-abbrev unmoved : Ed → Tape → Ed
-unmoved e t = seen e ((readNeed (Need.next 0) t) .0)
+-- ---- a step's end
 
-abbrev tape : Tape → Tape
-tape t = (readNeed (Need.next 0) t) .1
+-- what a program may end with
+abbrev Does : Did → Ed → Tape → Type 0
+Does (answers b) e t = Grounded e t
+Does (changes xs) e t = Grounded e t × EditsFrom xs e t
+Does quits e t = Grounded e t
 
--- what a step does after it has read what it needs
-pub act-grounded : (op : Op) (e : Ed) (t : Tape) → HoldsEd Sourced e t → Grounded e t → GroundedOut (act op (seen e ((readNeed (need op e) t) .0))) ((readNeed (need op e) t) .1)
-unfolding act need
-act-grounded round e t n h = seen-grounded (Need.next 0) e t h
-act-grounded quit e t n h = seen-stop 0 (Need.next 0) e t tt h
-act-grounded (test c) e t n h = seen-grounded (Need.next 0) e t h
-act-grounded begin e t n h = begin-grounded (unmoved e t) (tape t) (seen-grounded (Need.next 0) e t h)
-act-grounded beginBack e t n h = beginBack-grounded (unmoved e t) (tape t) (seen-grounded (Need.next 0) e t h)
-act-grounded (find se) e t n h = find-grounded se e t h
-act-grounded (findBack se) e t n h = findBack-grounded se (unmoved e t) (tape t) (seen-grounded (Need.next 0) e t h)
-act-grounded (findDelete se k) e t n h = findDelete-grounded se k e t h
-act-grounded (move a) e t n h = move-grounded a e t n h
-act-grounded next e t n h = next-grounded e t h
-act-grounded previous e t n h = previous-grounded (unmoved e t) (tape t) (seen-grounded (Need.next 0) e t h)
-act-grounded (delete a b) e t n h = delete-grounded a b e t n h
-act-grounded (replace a b ls) e t n h = thenDo-grounded _ (insertLines ls) _ (delete-grounded a b e t n h) (λ e′. insertLines-grounded ls e′ _)
-act-grounded (insert none ls) e t n h = insertLines-grounded ls _ _ (seen-grounded (Need.next 0) e t h)
-act-grounded (insert (some a) ls) e t n h = thenDo-grounded _ (insertLines ls) _ (move-grounded a e t n h) (λ e′. insertLines-grounded ls e′ _)
-act-grounded copy e t n h =
-    withLine-grounded _ _ _ (seen-grounded (Need.next 0) e t h) (λ before r after p l. insertLines-grounded (current r ∷ []) (ed before (r ∷ after) p) _ l)
-act-grounded (alter c pointing q new) e t n h =
-    withLine-grounded _ _ _ (seen-grounded (Need.next 0) e t h) (λ before r after p l. alterAt-grounded c pointing (stringIn q) new before r after p (placeOf q p (current r)) _ l)
-act-grounded (point b q) e t n h =
-    withLine-grounded _ _ _ (seen-grounded (Need.next 0) e t h) (λ before r after p l. pointAt-grounded b (stringIn q) before r after p (placeOf q p (current r)) _ l)
-act-grounded pointStart e t n h = withLine-grounded _ _ _ (seen-grounded (Need.next 0) e t h) (λ before r after p l. l)
-act-grounded right e t n h =
-    withLine-grounded _ _ _ (seen-grounded (Need.next 0) e t h) (λ before r after p l. unlessEnd-grounded before r after p (on true (ed before (r ∷ after) (suc p))) _ l l)
-act-grounded left e t n h = withLine-grounded _ _ _ (seen-grounded (Need.next 0) e t h) (λ before r after p l. stepLeft-grounded before r after p _ l)
-act-grounded cutByte e t n h =
-    withLine-grounded _ _ _ (seen-grounded (Need.next 0) e t h) (λ before r after p l. unlessEnd-grounded before r after p _ _ l (retext-grounded before r after p _ p _ l))
-act-grounded (recase up) e t n h =
-    withLine-grounded _ _ _ (seen-grounded (Need.next 0) e t h) (λ before r after p l. unlessEnd-grounded before r after p _ _ l (retext-grounded before r after p _ (suc p) _ l))
+finish-grounded : (g : Given) (c : Carried) (r : Ran Did) (t : Tape) → Ended Does Halts r t → At GroundedOut (finish g c r t)
+unfolding finish
+finish-grounded g c (gave (answers b) e) t h = h
+finish-grounded g c (gave (changes xs) e) t h = within-comes GroundedOut g c e (edits xs e) t (λ x. edits-grounded xs e t (h .1)) (unfold stopNumber in (not-21 26 e t tt (h .0)))
+finish-grounded g c (gave quits e) t h = not-21 0 e t tt h
+finish-grounded g c (stopped n e) t h = h
 
-within-grounded : (size : ℕ) (e : Ed) (o : Out) (t : Tape) → Grounded e t → GroundedOut o t → GroundedOut ((within size e o t) .0) ((within size e o t) .1)
-unfolding within
-within-grounded size e (on b e′) t h g = g
-within-grounded size e (edited e′) t h g = by (leb (journalLength (journal e′ t)) size)
-  where
-    by : (c : Bool) → GroundedOut ((cond {A = Out × Tape} c (edited e′, t) (halt 26 e, t)) .0) ((cond {A = Out × Tape} c (edited e′, t) (halt 26 e, t)) .1)
-    by true = g
-    by false = stop 26 e t tt h
-within-grounded size e (halt n e′) t h g = g
+-- ---- parts of programs
+
+-- any stop but 21
+other-stop : (n : Stop) (e : Ed) (t : Tape) → T (not (eqb (stopNumber n) 21)) → OnLine e t → Halts n e t
+other-stop n e t k h = not-21 (stopNumber n) e t k (line-grounded e t h)
+
+module _ (g : Given) (c : Carried) where
+  -- a part that may begin wherever EOF is read or a live line is current; one that begins at a line
+  abbrev Anywhere : {A : Type 0} → Gives A → Program A → Type 0
+  Anywhere Q m = (e : Ed) (t : Tape) → Grounded e t → ComesGrounded g c Q m e t
+
+  abbrev AtLine : {A : Type 0} → Gives A → Program A → Type 0
+  AtLine Q m = (e : Ed) (t : Tape) → OnLine e t → ComesGrounded g c Q m e t
+
+  on-comes : (b : Bool) → Anywhere Does (gives (answers b))
+  unfolding runs
+  on-comes b e t h = h
+
+  goes-comes : Anywhere Does goesOn
+  unfolding goesOn
+  goes-comes e t h = on-comes true e t h
+
+  -- a move, and on
+  then-goes : (m : Program (Unit {0})) (e : Ed) (t : Tape) → ComesGrounded g c Ground m e t → ComesGrounded g c Does (_>>_ m goesOn) e t
+  then-goes m e t h = and-comes g c Ground Does Halts m goesOn e t h (λ u. goes-comes)
+
+  with-line : (n : Stop) (k : Line × ℕ → Program Did) → ((x : Line × ℕ) → AtLine Does (k x)) → Anywhere Does (_>>=_ (lineOr n) k)
+  with-line n k f e t h = then-comes g c (λ x. OnLine) Does Halts (lineOr n) k e t (lineOr-comes g c n e t h) f
+
+  at-line : (n : Stop) (k : Program Did) → AtLine Does k → Anywhere Does (_>>_ (lineOr n) k)
+  at-line n k f e t h = and-comes g c (λ x. OnLine) Does Halts (lineOr n) k e t (lineOr-comes g c n e t h) (λ x. f)
+
+  -- a test that is not 21
+  tested : (n : Stop) (x : Bool) (m : Program Did) → T (not (eqb (stopNumber n) 21)) → AtLine Does m → AtLine Does (_>>_ (stopIf n x) m)
+  tested n x m k f e t h = test-comes g c Does Halts n x m e t (λ q. other-stop n e t k h) (λ q. f e t h)
+
+  placed : (q : Qualified) (l : Line) (p : ℕ) (k : ℕ → Program Did) → ((i : ℕ) → AtLine Does (k i)) → AtLine Does (_>>=_ (placeOr24 q l p) k)
+  unfolding placeOr24
+  placed q l p k f e t h = some-comes g c Does Halts n24 (placeOf q p l) k e t (other-stop n24 e t (unfold stopNumber in tt) h) (λ i. f i e t h)
+
+  with-byte : (k : Line × ℕ → Program Did) → ((x : Line × ℕ) → AtLine Does (k x)) → Anywhere Does (_>>=_ byteHere k)
+  with-byte k f (ed before [] p) t h = unfold stopNumber in (byte-comes g c Does Halts k (ed before [] p) t (not-21 27 (ed before [] p) t tt h) (not-21 20 (ed before [] p) t tt h))
+  with-byte k f (ed before (r ∷ after) p) t h =
+      unfold stopNumber in (byte-comes g c Does Halts k (ed before (r ∷ after) p) t (not-21 27 (ed before (r ∷ after) p) t tt h) (λ x. f _ (ed before (r ∷ after) p) t h))
+
+  write-comes : (l : Line) (q : ℕ) → AtLine Does (write l q)
+  unfolding write
+  write-comes l q = tested n25 _ _ (unfold stopNumber in tt) (λ e t h. unfold runs in (one-from (retext l q) e t (line-grounded e t h) (line-grounded e t h)))
+
+  pointed : (q : ℕ) → AtLine Does (_>>_ (go (pointTo q)) goesOn)
+  pointed q e t h = then-goes (go (pointTo q)) e t (point-comes g c q e t (line-grounded e t h))
+
+  put-comes : (ls : List Line) → Anywhere Does (gives (changes (put ls ∷ [])))
+  unfolding runs
+  put-comes ls e t h = one-from (put ls) e t h h
+
+  strike-comes : (k : ℕ) (e : Ed) (t : Tape) → Spans k e t → ComesGrounded g c Does (gives (changes (strike k ∷ []))) e t
+  unfolding runs
+  strike-comes k e t h = one-from (strike k) e t (spans-grounded k e t h) h
+
+  replace-comes : (ls : List Line) (k : ℕ) (e : Ed) (t : Tape) → Spans k e t → ComesGrounded g c Does (gives (changes (strike k ∷ put ls ∷ []))) e t
+  unfolding runs
+  replace-comes ls k e t h =
+      let f = edit-grounded (strike k) e t h in
+      (spans-grounded k e t h, (h, (f, edit-grounded (put ls) (edit (strike k) e) t f)))
+
+  strikeBack-comes : (k : ℕ) → AtLine Does (gives (changes (strikeBack k ∷ [])))
+  unfolding runs
+  strikeBack-comes k e t h = one-from (strikeBack k) e t (line-grounded e t h) (line-grounded e t h)
+
+  lookOn-comes : AtLine Does lookOn
+  unfolding lookOn
+  lookOn-comes e t h =
+      and-comes g c Ground Does Halts goAhead _ e t (goAhead-comes g c e t h) (λ u. at-line n21 _ (λ e₁ t₁ h₁. on-comes false e₁ t₁ (line-grounded e₁ t₁ h₁)))
+
+  lookBack-comes : AtLine Does lookBack
+  unfolding lookBack
+  lookBack-comes e t h = and-comes g c Ground Does Halts (go back) _ e t (back-comes g c e t (line-grounded e t h)) (λ u. on-comes false)
+
+  looked : (n : Stop) (se : Search) (m k : Program Did) → AtLine Does m → AtLine Does k → Anywhere Does (_>>=_ (lineOr n) (λ x. either (holds se (x .1) (x .0)) m k))
+  looked n se m k f i = with-line n _ (λ x e t h. either-comes g c Does Halts (holds se (x .1) (x .0)) m k e t (f e t h) (i e t h))
+
+  -- ---- every command
+
+  program-comes : (op : Op) (e : Ed) (t : Tape) → HoldsEd Sourced e t → Grounded e t → ComesGrounded g c Does (program op) e t
+  unfolding program
+  program-comes round e t s h = goes-comes e t h
+  program-comes quit e t s h = unfold runs in h
+  program-comes (test x) e t s h = unfold see _>>=_ runs in h
+  program-comes begin e t s h = at-line n21 _ (λ e₁ t₁ h₁. goes-comes e₁ t₁ (line-grounded e₁ t₁ h₁)) e t h
+  program-comes beginBack e t s h =
+      unfold see _>>=_ runs in (then-goes (either (isAtEof e) (go back) (gives tt)) e t
+      (either-comes g c Ground Halts (isAtEof e) (go back) (gives tt) e t (back-comes g c e t h) (unfold runs in h)))
+  program-comes (find se) e t s h = looked n21 se _ _ (λ e₁ t₁ h₁. goes-comes e₁ t₁ (line-grounded e₁ t₁ h₁)) lookOn-comes e t h
+  program-comes (findBack se) e t s h = looked n22 se _ _ (λ e₁ t₁ h₁. goes-comes e₁ t₁ (line-grounded e₁ t₁ h₁)) lookBack-comes e t h
+  program-comes (findDelete se k) e t s h = looked n21 se _ _ (strikeBack-comes k) lookOn-comes e t h
+  program-comes (move a) e t s h = then-goes (goTo a) e t (goTo-comes g c a e t s h)
+  program-comes next e t s h = at-line n20 _ (λ e₁ t₁ h₁. then-goes goAhead e₁ t₁ (goAhead-comes g c e₁ t₁ h₁)) e t h
+  program-comes previous e t s h = then-goes (go back) e t (back-comes g c e t h)
+  program-comes (delete a b) e t s h = then-comes g c Spans Does Halts (span a b) _ e t (span-comes g c a b e t s h) strike-comes
+  program-comes (replace a b ls) e t s h = then-comes g c Spans Does Halts (span a b) _ e t (span-comes g c a b e t s h) (replace-comes ls)
+  program-comes (insert none ls) e t s h = put-comes ls e t h
+  program-comes (insert (some a) ls) e t s h = and-comes g c Ground Does Halts (goTo a) _ e t (goTo-comes g c a e t s h) (λ u. put-comes ls)
+  program-comes copy e t s h = with-line n20 _ (λ x e₁ t₁ h₁. put-comes (x .0 ∷ []) e₁ t₁ (line-grounded e₁ t₁ h₁)) e t h
+  program-comes (alter d pointing q new) e t s h = with-line n20 _ (λ x. placed q (x .0) (x .1) _ (λ i. write-comes _ _)) e t h
+  program-comes (point b q) e t s h = with-line n20 _ (λ x. placed q (x .0) (x .1) _ (λ i. pointed _)) e t h
+  program-comes pointStart e t s h = at-line n20 _ (pointed 0) e t h
+  program-comes right e t s h = with-byte _ (λ x. pointed _) e t h
+  program-comes left e t s h = with-line n20 _ (λ x. tested n27 _ _ (unfold stopNumber in tt) (pointed _)) e t h
+  program-comes cutByte e t s h = with-byte _ (λ x. write-comes _ _) e t h
+  program-comes (recase up) e t s h = with-byte _ (λ x. write-comes _ _) e t h
 
 -- ---- the theorem
 
 -- for every step, also one that stops the run
-pub step-grounded : (size : ℕ) (op : Op) (e : Ed) (t : Tape) → HoldsEd Sourced e t → Grounded e t → GroundedOut ((step size op e t) .0) ((step size op e t) .1)
-unfolding step bind
-step-grounded size op e t n h = within-grounded size _ _ _ (seen-grounded (need op e) e t h) (act-grounded op e t n h)
+pub step-grounded : (g : Given) (op : Op) (s : RunState) (t : Tape) → HoldsState Sourced s t → GroundedState s t → At GroundedOut (step g op s t)
+unfolding step perform bind
+step-grounded g op (state e c) t s h = finish-grounded g c ((runs g c (program op) e t) .0) ((runs g c (program op) e t) .1) (program-comes g c op e t s h)
 
 -- with the first source line read
-abbrev pub Settled : Ed → Tape → Type 0
-Settled e t = HoldsEd Sourced e t × Grounded e t
+abbrev pub Settled : RunState → Tape → Type 0
+Settled s t = HoldsState Sourced s t × GroundedState s t
 
-both : (o : Out) (t : Tape) → HoldsOut Sourced o t → GroundedOut o t → StepOr Settled Stopped o t
-both (on b e) t h k = (h, k)
-both (edited e) t h k = (h, k)
-both (halt n e) t h k = k
+both : (o : Out) (t : Tape) → HoldsOut Sourced o t → GroundedOut o t → StepOr Settled StoppedState o t
+both (on b s) t h k = (h, k)
+both (edited s) t h k = (h, k)
+both (halt n s) t h k = k
 
-step-settled : (size : ℕ) (op : Op) (e : Ed) (t : Tape) → Unit {0} → Settled e t → StepOr Settled Stopped ((step size op e t) .0) ((step size op e t) .1)
-step-settled size op e t u h =
-    both ((step size op e t) .0) ((step size op e t) .1)
-    (step-keeps AnyLine AnyText Sourced sourced-closed size op e t (writes-any op) (h .0)) (step-grounded size op e t (h .0) (h .1))
+step-settled : (g : Given) (op : Op) (s : RunState) (t : Tape) → Settled s t → At (StepOr Settled StoppedState) (step g op s t)
+step-settled g op s t h =
+    both ((step g op s t) .0) ((step g op s t) .1) (step-keeps AnyLine AnyText Sourced sourced-closed g op s t (sourced-keeps (program op)) (h .0)) (step-grounded g op s t (h .0) (h .1))
 
-pub opening-settled : (t : Tape) → Settled ((opening t) .0) ((opening t) .1)
-unfolding opening bind readNeed readNext sources oldSide oldOf
+pub opening-settled : (t : Tape) → Settled (state ((opening t) .0) carried) ((opening t) .1)
+unfolding opening sources oldSide oldOf
 opening-settled (unread []) = (tt, refl)
 opening-settled (unread (l ∷ ls)) = (omega arith, tt)
 opening-settled ended = (tt, refl)
 
+not-21-state : (n : ℕ) (s : RunState) (t : Tape) → T (not (eqb n 21)) → Settled s t → StoppedState n s t
+not-21-state n (state e c) t k h = not-21 n e t k (h .1)
+
 -- at the end of every run: where EOF is current, or the number is 21, EOF has been read; a current line is not deleted
-pub run-grounded : (size budget : ℕ) (items : List Item) (ls : List Line)
-    → EndOf Stopped ((runItems (step size) budget items (unread ls)) .0) ((runItems (step size) budget items (unread ls)) .1)
+pub run-grounded : (size budget : ℕ) (items : List Item) (ls : List Line) → At (EndOf StoppedState) (runItems (step (given (bytes size))) budget items (unread ls))
 run-grounded size budget items ls =
-    runItems-ends (λ op. Unit {0}) (inner-all (λ op. Unit {0}) (λ op. tt)) Settled Stopped (λ e t h. stop 0 e t tt (h .1)) (λ e t h. stop 29 e t tt (h .1)) (step size)
-    (step-settled size) budget items (unread ls) (items-all (λ op. Unit {0}) (λ op. tt) items) (opening-settled (unread ls))
+    runItems-ends (λ op. Unit {0}) (inner-all (λ op. Unit {0}) (λ op. tt)) Settled StoppedState (λ s t. not-21-state 0 s t tt) (λ s t. not-21-state 29 s t tt)
+    (step (given (bytes size))) (λ op s t u. step-settled (given (bytes size)) op s t) budget items (unread ls) (items-all (λ op. Unit {0}) (λ op. tt) items) (opening-settled (unread ls))

@@ -1,224 +1,182 @@
--- Moves, deletions and insertions read enough: where they come to EOF, it has been read, and where they come to a line, it is not deleted.
-use mathlib.Core.Path.{_≡_, refl, ap, subst}
-use mathlib.Core.Bool.{Bool, true, false, cond, false≢true}
+-- The parts of programs that read and move: where they come to, EOF has been read or a live line is current.
+use mathlib.Core.Path.{_≡_, refl}
+use mathlib.Core.Bool.{Bool, true, false}
 use mathlib.Core.List.{List, [], _∷_, _++_, map, reverseAux}
-use Prim.Native.Nat.{ℕ, zero, suc, _+_, _-_, _≤_, _<_, zero-le}
-use native.Mathlib.Nat.{zero-add}
+use Prim.Native.Nat.{ℕ, zero, suc, _+_, _-_, _≤_}
 use native.Mathlib.Omega.{arith}
-use lib.ListN.{length}
-use lib.Dec.{leb, ltb}
-use borrow.Author.Tests.{ltb-true, ltb-false, leb-true, leb-false}
+use native.Mathlib.Nat.{le-of-suc-le-suc}
+use lib.ListN.{length, drop}
+use lib.Dec.{leb}
+use borrow.Author.Tests.{leb-false}
 use Rattle.definitions.specs.Bytes.{Line}
-use Rattle.definitions.specs.Journal.{Record, kept, changed, deleted, inserted, erase, oldOf, oldSide}
-use Rattle.definitions.specs.Tape.{Tape, unread, ended, Need, readNext, readNeed}
-use Rattle.definitions.specs.Editor.{Ed, ed, Out, on, edited, halt, records, sources, seen}
-use Rattle.definitions.specs.Editor.{Target, here, line, eof, targetNeed, locate, moveTo, Through, alone, upTo, toEof, isDeleted, eraseThrough, eraseAll}
-use Rattle.definitions.specs.Edit.{throughNeed, deleteHereNeed, deleteLineNeed, deleteNeed, thenDo, deleteThrough, deleteLines, insertLines}
+use Rattle.definitions.specs.Journal.{Record, kept, changed, deleted, inserted, oldOf, oldSide}
+use Rattle.definitions.specs.Tape.{Tape, unread, ended}
+use Rattle.definitions.specs.Given.{Given, Carried}
+use Rattle.definitions.specs.Editor.{Ed, ed, records, sources, beforeOf, afterOf, hasLive, Stop, n20, n28, stopNumber, Target, here, line, eof, Through, alone, upTo, toEof}
+use Rattle.definitions.specs.Editor.{Move, ahead, back, to, pointTo, goBack, locate, moved}
+use Rattle.definitions.specs.StepProgram.{Program, gives, looks, _>>=_, _>>_, runs}
+use Rattle.definitions.specs.Edit.{either, see, readUpTo, go, readPast, goAhead, goTo, lineIn, lineOr, countThrough, reach, span}
+use Rattle.theorems.specs.RecordLaws.{sources-reverse}
+use Rattle.theorems.specs.ComesTo.{Gives, OnGot, then-comes, and-comes, go-comes, test-comes}
 use Rattle.theorems.specs.Changes.{HoldsEd}
-use Rattle.theorems.specs.RecordLaws.{reverse-append}
-use Rattle.theorems.specs.ReadFar.{reads-ended, Within, within-of, within-more, within-less, within-none, read-within, sources-reverse, Sourced}
-use Rattle.theorems.specs.Reaching.{Grounded, Stopped, GroundedOut, stop, seen-grounded, seen-stop, Reaches, land-grounded, landNeed-reaches, Follows, Enough, within-pred, eraseThrough-grounded, follows-after, through-enough}
+use Rattle.theorems.specs.ReadFar.{AtLeast, atLeast-more, atLeast-both, atLeast-none, Sourced}
+use Rattle.theorems.specs.Reaching.{Grounded, not-21, Halts, ComesGrounded, Reaches, land-grounded, reaches-ended, reaches-kept, reaches-live, drop-over, ReadUpTo, sources-read, read-comes}
 
--- ---- one thing after another
+-- ---- where a part has come to
 
-pub thenDo-grounded : (o : Out) (f : Ed → Out) (t : Tape) → GroundedOut o t → ((e : Ed) → Grounded e t → GroundedOut (f e) t) → GroundedOut (thenDo o f) t
-unfolding thenDo
-thenDo-grounded (on b e) f t h g = g e h
-thenDo-grounded (edited e) f t h g = g e h
-thenDo-grounded (halt n e) f t h g = h
+abbrev pub Ground : {A : Type 0} → A → Ed → Tape → Type 0
+Ground a e t = Grounded e t
 
-pub insertLines-grounded : (ls : List Line) (e : Ed) (t : Tape) → Grounded e t → GroundedOut (insertLines ls e) t
-unfolding insertLines
-insertLines-grounded ls (ed before [] p) t h = h
-insertLines-grounded ls (ed before (r ∷ after) p) t h = h
+-- a line is current
+abbrev pub OnLine : Ed → Tape → Type 0
+OnLine (ed before [] p) t = ⊥
+OnLine (ed before (r ∷ after) p) t = Grounded (ed before (r ∷ after) p) t
 
--- ---- moves
+-- a live line, or EOF, is read after the k records from the current one on
+abbrev pub Spans : ℕ → Ed → Tape → Type 0
+Spans k (ed before after p) t = Grounded (ed before after p) t × Reaches (drop k after) t
 
-locate-grounded : (e : Ed) (k : ℕ) (before rs : List Record) (t : Tape) → Grounded e t → Within t k (sources rs) → GroundedOut (locate e k before rs) t
-unfolding locate sources oldSide oldOf
-locate-grounded e k before [] t h w = (h, λ x. within-none t k 0 zero-le w)
-locate-grounded e k before (inserted l ∷ rs) t h w = locate-grounded e k (inserted l ∷ before) rs t h w
-locate-grounded e zero before (kept l ∷ rs) t h w = tt
-locate-grounded e zero before (changed o n ∷ rs) t h w = tt
-locate-grounded e zero before (deleted l ∷ rs) t h w = stop 23 e t tt h
-locate-grounded e (suc k) before (kept l ∷ rs) t h w = locate-grounded e k (kept l ∷ before) rs t h (within-pred t k (length (oldSide rs)) w)
-locate-grounded e (suc k) before (changed o n ∷ rs) t h w = locate-grounded e k (changed o n ∷ before) rs t h (within-pred t k (length (oldSide rs)) w)
-locate-grounded e (suc k) before (deleted l ∷ rs) t h w = locate-grounded e k (deleted l ∷ before) rs t h (within-pred t k (length (oldSide rs)) w)
+-- there are k records from the current one on
+abbrev Counted : ℕ → Ed → Tape → Type 0
+Counted k (ed before after p) t = Grounded (ed before after p) t × (k ≤ length after)
 
--- what `targetNeed` reads for a source line is enough
-target-within : (a : ℕ) (before after : List Record) (t : Tape) → Sourced before after t
-    → Within ((readNeed (Need.next (a - (sources before + sources after))) t) .1) (a - 1)
-    (sources (reverseAux before (after ++ map kept ((readNeed (Need.next (a - (sources before + sources after))) t) .0))))
-target-within a before after ended h = rw (reads-ended (Need.next (a - (sources before + sources after)))) tt
-target-within a before after (unread ls) h =
-    rw (reverse-append, ← (sources-reverse before after))
-    (unfold readNeed in (read-within (a - sources (reverseAux before after)) (unread ls) (a - 1) (reverseAux before after) (omega (arith, h))))
+pub line-grounded : (e : Ed) (t : Tape) → OnLine e t → Grounded e t
+line-grounded (ed before [] p) t h = absurd h
+line-grounded (ed before (r ∷ after) p) t h = h
 
-pub move-grounded : (a : Target) (e : Ed) (t : Tape) → HoldsEd Sourced e t → Grounded e t
-    → GroundedOut (moveTo a (seen e ((readNeed (targetNeed a e) t) .0))) ((readNeed (targetNeed a e) t) .1)
-unfolding moveTo targetNeed readNeed readNext seen records
-move-grounded here (ed before [] p) t s h = h
-move-grounded here (ed before (r ∷ after) p) t s h = h
-move-grounded (line a) (ed before after p) t s h =
-    locate-grounded _ (a - 1) [] _ _ (seen-grounded (Need.next (a - (sources before + sources after))) (ed before after p) t h) (target-within a before after t s)
-move-grounded eof (ed before after p) t s h = refl
+pub spans-grounded : (k : ℕ) (e : Ed) (t : Tape) → Spans k e t → Grounded e t
+spans-grounded k (ed before after p) t h = h .0
 
--- a source line's record that can be moved to
-abbrev Standing : Record → Type 0
-Standing (kept l) = Unit {0}
-Standing (changed o n) = Unit {0}
-Standing (deleted l) = ⊥
-Standing (inserted l) = ⊥
+-- p does not matter
+same-line : (before after : List Record) (p q : ℕ) (t : Tape) → Grounded (ed before after p) t → Grounded (ed before after q) t
+same-line before [] p q t h = h
+same-line before (r ∷ after) p q t h = h
 
--- a move to source line `a` + 1 among the records `all`, then `f`: it stops in `e`, or it comes to a record with `a` source records before it
-located : (P : Out → Type 0) (e : Ed) (f : Ed → Out) (all : List Record) (a : ℕ) → (sources all ≤ a → P (halt 21 e)) → P (halt 23 e)
-    → ((before : List Record) (r : Record) (rs : List Record) → Standing r → reverseAux before (r ∷ rs) ≡ all → sources before ≡ a → P (f (ed before (r ∷ rs) 0)))
-    → (k : ℕ) (before rs : List Record) → reverseAux before rs ≡ all → k + sources before ≡ a → P (thenDo (locate e k before rs) f)
-unfolding locate thenDo sources oldSide oldOf
-located P e f all a u h g k before [] p q = u (omega (arith, q, ap (λ (rs : List Record). length (oldSide rs)) p, sources-reverse before []))
-located P e f all a u h g k before (inserted l ∷ rs) p q = located P e f all a u h g k (inserted l ∷ before) rs p q
-located P e f all a u h g zero before (kept l ∷ rs) p q = g before (kept l) rs tt p (omega (arith, q))
-located P e f all a u h g zero before (changed o n ∷ rs) p q = g before (changed o n) rs tt p (omega (arith, q))
-located P e f all a u h g zero before (deleted l ∷ rs) p q = h
-located P e f all a u h g (suc k) before (kept l ∷ rs) p q = located P e f all a u h g k (kept l ∷ before) rs p (omega (arith, q))
-located P e f all a u h g (suc k) before (changed o n ∷ rs) p q = located P e f all a u h g k (changed o n ∷ before) rs p (omega (arith, q))
-located P e f all a u h g (suc k) before (deleted l ∷ rs) p q = located P e f all a u h g k (deleted l ∷ before) rs p (omega (arith, q))
+-- ---- moves among the records that are read
 
--- a move to a line that is deleted stops
-located-deleted : (P : Out → Type 0) (e : Ed) (f : Ed → Out) → P (halt 23 e) → (k : ℕ) (before rs xs : List Record) → isDeleted k rs ≡ true → P (thenDo (locate e k before (rs ++ xs)) f)
-unfolding locate thenDo isDeleted
-located-deleted P e f h k before [] xs d = absurd (false≢true d)
-located-deleted P e f h k before (inserted l ∷ rs) xs d = located-deleted P e f h k (inserted l ∷ before) rs xs d
-located-deleted P e f h zero before (kept l ∷ rs) xs d = absurd (false≢true d)
-located-deleted P e f h zero before (changed o n ∷ rs) xs d = absurd (false≢true d)
-located-deleted P e f h zero before (deleted l ∷ rs) xs d = h
-located-deleted P e f h (suc k) before (kept l ∷ rs) xs d = located-deleted P e f h k (kept l ∷ before) rs xs d
-located-deleted P e f h (suc k) before (changed o n ∷ rs) xs d = located-deleted P e f h k (changed o n ∷ before) rs xs d
-located-deleted P e f h (suc k) before (deleted l ∷ rs) xs d = located-deleted P e f h k (deleted l ∷ before) rs xs d
+abbrev GroundedGot : Ed → Tape → Move → Type 0
+GroundedGot e t x = OnGot (λ e′. Grounded e′ t) (λ n. Halts n e t) (moved x e)
 
--- ---- D
+goBack-grounded : (e : Ed) (t : Tape) → Grounded e t → (before after : List Record) → OnGot (λ e′. Grounded e′ t) (λ n. Halts n e t) (goBack before after)
+unfolding goBack stopNumber
+goBack-grounded e t h [] after = not-21 22 e t tt h
+goBack-grounded e t h (kept l ∷ before) after = tt
+goBack-grounded e t h (changed o n ∷ before) after = tt
+goBack-grounded e t h (deleted l ∷ before) after = goBack-grounded e t h before (deleted l ∷ after)
+goBack-grounded e t h (inserted l ∷ before) after = tt
 
-standing-reaches : (r : Record) (rs : List Record) (t : Tape) → Standing r → Follows 0 (r ∷ rs) t → Reaches rs t
-standing-reaches (kept l) rs t s f = f
-standing-reaches (changed o n) rs t s f = f
-standing-reaches (deleted l) rs t s f = absurd s
-standing-reaches (inserted l) rs t s f = absurd s
+atLeast-pred : (t : Tape) (n m : ℕ) → AtLeast t (suc (suc n)) (suc m) → AtLeast t (suc n) m
+atLeast-pred t n m h = atLeast-more t (suc (suc n)) (suc m) (suc n) m le-of-suc-le-suc h
 
-eraseAll-grounded : (before rs : List Record) → Grounded (eraseAll before rs) ended
-unfolding eraseAll
-eraseAll-grounded before [] = refl
-eraseAll-grounded before (r ∷ rs) = eraseAll-grounded (erase r ++ before) rs
+locate-grounded : (e : Ed) (t : Tape) → Grounded e t → (k : ℕ) (before rs : List Record) → AtLeast t (suc k) (sources rs)
+    → OnGot (λ e′. Grounded e′ t) (λ n. Halts n e t) (locate k before rs)
+unfolding locate stopNumber sources oldSide oldOf
+locate-grounded e t h k before [] f = (h, λ x. atLeast-none t (suc k) 0 (omega arith) f)
+locate-grounded e t h k before (inserted l ∷ rs) f = locate-grounded e t h k (inserted l ∷ before) rs f
+locate-grounded e t h zero before (kept l ∷ rs) f = tt
+locate-grounded e t h zero before (changed o n ∷ rs) f = tt
+locate-grounded e t h zero before (deleted l ∷ rs) f = not-21 23 e t tt h
+locate-grounded e t h (suc k) before (kept l ∷ rs) f = locate-grounded e t h k (kept l ∷ before) rs (atLeast-pred t k (length (oldSide rs)) f)
+locate-grounded e t h (suc k) before (changed o n ∷ rs) f = locate-grounded e t h k (changed o n ∷ before) rs (atLeast-pred t k (length (oldSide rs)) f)
+locate-grounded e t h (suc k) before (deleted l ∷ rs) f = locate-grounded e t h k (deleted l ∷ before) rs (atLeast-pred t k (length (oldSide rs)) f)
 
--- through a source line, from a record on
-upTo-grounded : (e : Ed) (b : ℕ) (before : List Record) (r : Record) (rs : List Record) (q : ℕ) (t : Tape) → Grounded e t
-    → (sources before < b → Enough (b - 1) (reverseAux before (r ∷ rs)) t) → GroundedOut (deleteThrough e (upTo b) (ed before (r ∷ rs) q)) t
-unfolding deleteThrough
-upTo-grounded e b before r rs q t h f = by (leb b (sources before)) refl
-  where
-    erased : sources before < b → Enough (b - 1) (reverseAux before (r ∷ rs)) t → GroundedOut (eraseThrough e (b - (sources before + 1)) before (r ∷ rs)) t
-    erased l g = eraseThrough-grounded e (b - (sources before + 1)) before (r ∷ rs) t h (
-      follows-after before (r ∷ rs) (b - (sources before + 1)) t (subst (λ (k : ℕ). Follows k (reverseAux before (r ∷ rs)) t) (omega (arith, l)) (g .0)),
-      within-more t (b - 1) (b - (sources before + 1)) (sources (reverseAux before (r ∷ rs))) (sources (r ∷ rs)) (λ x. omega (arith, x, l, sources-reverse before (r ∷ rs))) (g .1),
-    )
+back-grounded : (e : Ed) (t : Tape) → Grounded e t → GroundedGot e t back
+unfolding moved
+back-grounded (ed before after p) t h = goBack-grounded (ed before after p) t h before after
 
-    by : (c : Bool) → leb b (sources before) ≡ c → GroundedOut (cond c (halt 28 e) (eraseThrough e (b - (sources before + 1)) before (r ∷ rs))) t
-    by true p = stop 28 e t tt h
-    by false p = erased (leb-false b (sources before) p) (f (leb-false b (sources before) p))
+point-grounded : (q : ℕ) (e : Ed) (t : Tape) → Grounded e t → GroundedGot e t (pointTo q)
+unfolding moved
+point-grounded q (ed before after p) t h = same-line before after p q t h
 
-deleteHere-grounded : (b : Through) (before after : List Record) (p : ℕ) (t : Tape) → Grounded (ed before after p) t
-    → GroundedOut (deleteLines here b (seen (ed before after p) ((readNeed (deleteHereNeed b before after) t) .0))) ((readNeed (deleteHereNeed b before after) t) .1)
-unfolding deleteLines moveTo thenDo deleteThrough deleteHereNeed readNeed readNext seen
-deleteHere-grounded b before [] p t h = stop 20 (ed before [] p) t tt h
-deleteHere-grounded alone before (r ∷ after) p t h = land-grounded (erase r ++ before) _ _ (landNeed-reaches after t)
-deleteHere-grounded (upTo b) before (r ∷ after) p t h = by (leb b (sources before)) refl
-  where
-    readFor : Bool → Need
-    readFor c = cond c (Need.next 0) (throughNeed b (sources before + sources (r ∷ after)) (reverseAux before (r ∷ after)))
+ahead-grounded : (e : Ed) (t : Tape) → Spans 1 e t → GroundedGot e t ahead
+unfolding moved
+ahead-grounded (ed before [] p) t h = h .0
+ahead-grounded (ed before (r ∷ after) p) t h = land-grounded (r ∷ before) after t (h .1)
 
-    by : (c : Bool) → leb b (sources before) ≡ c
-        → GroundedOut (deleteThrough (ed before (r ∷ (after ++ map kept ((readNeed (readFor c) t) .0))) p) (upTo b) (ed before (r ∷ (after ++ map kept ((readNeed (readFor c) t) .0))) 0)) ((readNeed (readFor c) t) .1)
-    by true e = upTo-grounded _ b before r _ 0 _ h (λ l. absurd (omega (arith, leb-true b (sources before) e)))
-    by false e = upTo-grounded _ b before r _ 0 _ h (λ l. through-enough b before (r ∷ after) t (within-of t 0 _ (omega (arith, l))))
-deleteHere-grounded toEof before (r ∷ after) p t h = eraseAll-grounded before _
+-- to a target that is read
+arrived : (a : Target) (before after : List Record) (p : ℕ) (t : Tape) (ls : List Line) (t′ : Tape) → AtLeast t 1 (sources (reverseAux before after)) → ReadUpTo a before after p t ls t′
+    → GroundedGot (ed before (after ++ map kept ls) p) t′ (to a)
+unfolding moved records
+arrived here before after p t ls t′ s r = same-line before (after ++ map kept ls) p 0 t′ (r .grounded)
+arrived (line n) before after p t ls t′ s r =
+    locate-grounded (ed before (after ++ map kept ls) p) t′ (r .grounded) (n - 1) [] (reverseAux before (after ++ map kept ls))
+    (atLeast-both t′ n _ 1 (suc (n - 1)) _ (λ x y. omega (arith, x, y)) (r .reached) (r .still 1 s))
+arrived eof before after p t ls t′ s r = r .reached
 
--- from source line a, where `all` is what is read, with the state `e` to stop in
-module _ (a : ℕ) (e : Ed) (all : List Record) (t : Tape) (h : Grounded e t) where
-  -- the record is not there
-  lineNone-grounded : Within t (a - 1) (sources all) → sources all ≤ a - 1 → Stopped 21 e t
-  lineNone-grounded w l = (h, λ x. within-none t (a - 1) (sources all) l w)
+module _ (g : Given) (c : Carried) where
+  pub go-grounded : (x : Move) (e : Ed) (t : Tape) → GroundedGot e t x → ComesGrounded g c Ground (go x) e t
+  go-grounded x e t h = go-comes g c Ground Halts x e t h
 
-  lineAlone-grounded : Enough (a - 1) all t → GroundedOut (thenDo (locate e (a - 1) [] all) (deleteThrough e alone)) t
-  unfolding sources oldSide
-  lineAlone-grounded f = located (λ o. GroundedOut o t) e (deleteThrough e alone) all (a - 1) (lineNone-grounded (f .1)) (stop 23 e t tt h) at (a - 1) [] all refl (omega arith)
+  pub back-comes : (e : Ed) (t : Tape) → Grounded e t → ComesGrounded g c Ground (go back) e t
+  back-comes e t h = go-grounded back e t (back-grounded e t h)
+
+  pub point-comes : (q : ℕ) (e : Ed) (t : Tape) → Grounded e t → ComesGrounded g c Ground (go (pointTo q)) e t
+  point-comes q e t h = go-grounded (pointTo q) e t (point-grounded q e t h)
+
+  -- ---- with reading
+
+  pub lineOr-comes : (n : Stop) (e : Ed) (t : Tape) → Grounded e t → ComesGrounded g c (λ x. OnLine) (lineOr n) e t
+  unfolding lineOr lineIn runs
+  lineOr-comes n (ed before [] p) t h = (h, λ x. h)
+  lineOr-comes n (ed before (r ∷ after) p) t h = h
+
+  past-reaches : (k : ℕ) (before after : List Record) (ls : List Line) (t : Tape) → k ≤ length after
+      → AtLeast t (suc (sources (reverseAux before after))) (sources (reverseAux before (after ++ map kept ls))) → Reaches (drop k (after ++ map kept ls)) t
+  past-reaches k before after ls ended le h = reaches-ended (drop k (after ++ map kept ls))
+  past-reaches k before after [] (unread us) le h = absurd (omega (arith, h, sources-read before after []))
+  past-reaches k before after (l ∷ ls) (unread us) le h = rw (drop-over k after (kept l ∷ map kept ls) le) (reaches-kept (drop k after) l (map kept ls) (unread us))
+
+  -- the next live line after k records
+  pub readPast-comes : {A : Type 0} (Q : Gives A) (k : ℕ) (m : Program A) (e : Ed) (t : Tape) → Counted k e t → ((e′ : Ed) (t′ : Tape) → Spans k e′ t′ → ComesGrounded g c Q m e′ t′)
+      → ComesGrounded g c Q (_>>_ (readPast k) m) e t
+  unfolding readPast afterOf records _>>_ _>>=_ runs
+  readPast-comes Q k m (ed before after p) t h f = by (hasLive (drop k after)) refl
     where
-      at : (before : List Record) (r : Record) (rs : List Record) → Standing r → reverseAux before (r ∷ rs) ≡ all → sources before ≡ a - 1
-          → GroundedOut (deleteThrough e alone (ed before (r ∷ rs) 0)) t
-      at before r rs s p q = unfold deleteThrough in
-          (land-grounded (erase r ++ before) rs t
-          (standing-reaches r rs t s (follows-after before (r ∷ rs) 0 t (rw (p, q, zero-add) (f .0)))))
+      by : (x : Bool) → hasLive (drop k after) ≡ x → ComesGrounded g c Q (_>>=_ (either x (gives (tt {0})) (readUpTo (line (suc (sources (reverseAux before after)))))) (λ u. m)) (ed before after p) t
+      by true q = unfold either _>>=_ in (f (ed before after p) t (h .0, reaches-live (drop k after) t q))
+      by false q = unfold either in (unfold _>>_ in (read-comes g c Q m before after p t (h .0) (line (suc (sources (reverseAux before after))))
+          (λ ls t′ r. f (ed before (after ++ map kept ls) p) t′ (r .grounded, past-reaches k before after ls t′ (h .1) (r .reached)))))
 
-  lineUpTo-grounded : (b : ℕ) → Within t (a - 1) (sources all) → (1 ≤ b → a ≤ b → Enough (b - 1) all t) → GroundedOut (thenDo (locate e (a - 1) [] all) (deleteThrough e (upTo b))) t
-  unfolding sources oldSide
-  lineUpTo-grounded b w f = located (λ o. GroundedOut o t) e (deleteThrough e (upTo b)) all (a - 1) (lineNone-grounded w) (stop 23 e t tt h) at (a - 1) [] all refl (omega arith)
-    where
-      at : (before : List Record) (r : Record) (rs : List Record) → Standing r → reverseAux before (r ∷ rs) ≡ all → sources before ≡ a - 1
-          → GroundedOut (deleteThrough e (upTo b) (ed before (r ∷ rs) 0)) t
-      at before r rs s p q = upTo-grounded e b before r rs 0 t h (λ m. rw p (f (omega (arith, m)) (omega (arith, q, m))))
+  pub goAhead-comes : (e : Ed) (t : Tape) → OnLine e t → ComesGrounded g c Ground goAhead e t
+  unfolding goAhead
+  goAhead-comes (ed before [] p) t h = absurd h
+  goAhead-comes (ed before (r ∷ after) p) t h =
+      readPast-comes Ground 1 (go ahead) (ed before (r ∷ after) p) t (h, omega arith) (λ e′ t′ s. go-grounded ahead e′ t′ (ahead-grounded e′ t′ s))
 
-  lineToEof-grounded : t ≡ ended → GroundedOut (thenDo (locate e (a - 1) [] all) (deleteThrough e toEof)) t
-  unfolding sources oldSide
-  lineToEof-grounded x = located (λ o. GroundedOut o t) e (deleteThrough e toEof) all (a - 1) (λ l. (h, λ y. x)) (stop 23 e t tt h) at (a - 1) [] all refl (omega arith)
-    where
-      at : (before : List Record) (r : Record) (rs : List Record) → Standing r → reverseAux before (r ∷ rs) ≡ all → sources before ≡ a - 1
-          → GroundedOut (deleteThrough e toEof (ed before (r ∷ rs) 0)) t
-      at before r rs s p q = unfold deleteThrough in (rw x (eraseAll-grounded before (r ∷ rs)))
+  pub goTo-comes : (a : Target) (e : Ed) (t : Tape) → HoldsEd Sourced e t → Grounded e t → ComesGrounded g c Ground (goTo a) e t
+  unfolding goTo
+  goTo-comes a (ed before after p) t s h =
+      read-comes g c Ground (go (to a)) before after p t h a (λ ls t′ r. go-grounded (to a) (ed before (after ++ map kept ls) p) t′ (arrived a before after p t ls t′ s r))
 
-deleteLine-grounded : (a : ℕ) (b : Through) (before after : List Record) (p : ℕ) (t : Tape) → Sourced before after t → Grounded (ed before after p) t
-    → GroundedOut (deleteLines (line a) b (seen (ed before after p) ((readNeed (deleteLineNeed a b (sources before + sources after) (reverseAux before after)) t) .0)))
-    ((readNeed (deleteLineNeed a b (sources before + sources after) (reverseAux before after)) t) .1)
-unfolding deleteLines moveTo deleteLineNeed seen records
-deleteLine-grounded a alone before after p t l h =
-    lineAlone-grounded a _ _ _ (seen-grounded (throughNeed a (sources before + sources after) (reverseAux before after)) (ed before after p) t h)
-    (through-enough a before after t (within-more t 0 0 (sources (reverseAux before after)) (a + sources (reverseAux before after)) (λ x. omega (arith, x)) l))
-deleteLine-grounded a (upTo b) before after p t l h = by (ltb b a) refl
-  where
-    readFor : Bool → Need
-    readFor c = cond c (Need.next (a - (sources before + sources after))) (throughNeed b (sources before + sources after) (reverseAux before after))
+  -- ---- D
 
-    by : (c : Bool) → ltb b a ≡ c → GroundedOut (deleteLines (line a) (upTo b) (seen (ed before after p) ((readNeed (readFor c) t) .0))) ((readNeed (readFor c) t) .1)
-    by true e =
-        lineUpTo-grounded a _ _ _ (seen-grounded (readFor true) (ed before after p) t h) b (target-within a before after t l) (λ n m. absurd (omega (arith, m, ltb-true b a e)))
-    by false e =
-        let g = through-enough b before after t (within-more t 0 0 (sources (reverseAux before after)) (b + sources (reverseAux before after)) (λ x. omega (arith, x)) l) in
-        lineUpTo-grounded a _ _ _ (seen-grounded (readFor false) (ed before after p) t h) b
-        (within-less ((readNeed (readFor false) t) .1) (b - 1) (a - 1) _ (omega (arith, ltb-false b a e)) (g .1)) (λ n m. g)
-deleteLine-grounded a toEof before after p t l h = lineToEof-grounded a _ _ _ (seen-grounded Need.all (ed before after p) t h) (unfold readNeed in refl)
+  count-comes : (e : Ed) (t : Tape) → Grounded e t → (n k : ℕ) (rs : List Record) → AtLeast t (suc k) (sources rs) → n + length rs ≤ length (afterOf e) → ComesGrounded g c Counted (countThrough n k rs) e t
+  unfolding countThrough stopNumber sources oldSide oldOf runs afterOf
+  count-comes e t h n k [] f l = (h, λ x. atLeast-none t (suc k) 0 (omega arith) f)
+  count-comes e t h n k (inserted m ∷ rs) f l = count-comes e t h (suc n) k rs f (omega (arith, l))
+  count-comes (ed before after p) t h n zero (kept m ∷ rs) f l = (h, omega (arith, l))
+  count-comes (ed before after p) t h n zero (changed o m ∷ rs) f l = (h, omega (arith, l))
+  count-comes e t h n zero (deleted m ∷ rs) f l = not-21 23 e t tt h
+  count-comes e t h n (suc k) (kept m ∷ rs) f l = count-comes e t h (suc n) k rs (atLeast-pred t k (length (oldSide rs)) f) (omega (arith, l))
+  count-comes e t h n (suc k) (changed o m ∷ rs) f l = count-comes e t h (suc n) k rs (atLeast-pred t k (length (oldSide rs)) f) (omega (arith, l))
+  count-comes e t h n (suc k) (deleted m ∷ rs) f l = count-comes e t h (suc n) k rs (atLeast-pred t k (length (oldSide rs)) f) (omega (arith, l))
 
--- from a line that is deleted, and from EOF
-deleteGone-grounded : (a : ℕ) (b : Through) (before after : List Record) (p : ℕ) (t : Tape) → isDeleted (a - 1) (reverseAux before after) ≡ true
-    → Grounded (ed before after p) t → GroundedOut (deleteLines (line a) b (seen (ed before after p) ((readNeed (Need.next 0) t) .0))) ((readNeed (Need.next 0) t) .1)
-unfolding deleteLines moveTo seen records
-deleteGone-grounded a b before after p t d h =
-    rw (reverse-append before after)
-    (located-deleted (λ o. GroundedOut o ((readNeed (Need.next 0) t) .1)) _ _
-    (seen-stop 23 (Need.next 0) (ed before after p) t tt h) (a - 1) [] (reverseAux before after) _ d)
+  reach-comes : (b : Through) (e : Ed) (t : Tape) → OnLine e t → ComesGrounded g c Counted (reach b) e t
+  unfolding reach see beforeOf _>>=_ runs
+  reach-comes b (ed before [] p) t h = absurd h
+  reach-comes alone (ed before (r ∷ after) p) t h = (h, omega arith)
+  reach-comes toEof (ed before (r ∷ after) p) t h =
+      read-comes g c Counted (looks (λ e. gives (length (afterOf e)))) before (r ∷ after) p t h eof (λ ls t′ q. unfold runs afterOf in (q .grounded, omega arith))
+  reach-comes (upTo b) (ed before (r ∷ after) p) t h =
+      test-comes g c Counted Halts n28 (leb b (sources before)) _ (ed before (r ∷ after) p) t (λ x. unfold stopNumber in (not-21 28 (ed before (r ∷ after) p) t tt h))
+      (λ x. read-comes g c Counted (looks (λ e. countThrough 0 (b - suc (sources before)) (afterOf e))) before (r ∷ after) p t h (line b)
+      (λ ls t′ q. unfold runs afterOf in (count-comes (ed before ((r ∷ after) ++ map kept ls) p) t′ (q .grounded) 0 (b - suc (sources before)) ((r ∷ after) ++ map kept ls)
+      (atLeast-more t′ b _ (suc (b - suc (sources before))) _
+      (λ y. omega (arith, y, sources-reverse before ((r ∷ after) ++ map kept ls), leb-false b (sources before) x)) (q .reached)) (unfold afterOf in (omega arith)))))
 
-deleteEof-grounded : (b : Through) (before after : List Record) (p : ℕ) (t : Tape)
-    → Grounded (ed before after p) t → GroundedOut (deleteLines eof b (seen (ed before after p) ((readNeed Need.all t) .0))) ((readNeed Need.all t) .1)
-unfolding deleteLines moveTo thenDo deleteThrough seen
-deleteEof-grounded b before after p t h = seen-stop 20 Need.all (ed before after p) t tt h
-
-pub delete-grounded : (a : Target) (b : Through) (e : Ed) (t : Tape) → HoldsEd Sourced e t → Grounded e t
-    → GroundedOut (deleteLines a b (seen e ((readNeed (deleteNeed a b e) t) .0))) ((readNeed (deleteNeed a b e) t) .1)
-unfolding deleteNeed
-delete-grounded here b (ed before after p) t l h = deleteHere-grounded b before after p t h
-delete-grounded (line a) b (ed before after p) t l h = by (isDeleted (a - 1) (reverseAux before after)) refl
-  where
-    readFor : Bool → Need
-    readFor d = cond d (Need.next 0) (deleteLineNeed a b (sources before + sources after) (reverseAux before after))
-
-    by : (d : Bool) → isDeleted (a - 1) (reverseAux before after) ≡ d
-        → GroundedOut (deleteLines (line a) b (seen (ed before after p) ((readNeed (readFor d) t) .0))) ((readNeed (readFor d) t) .1)
-    by true e = deleteGone-grounded a b before after p t e h
-    by false e = deleteLine-grounded a b before after p t l h
-delete-grounded eof b (ed before after p) t l h = deleteEof-grounded b before after p t h
+  pub span-comes : (a : Target) (b : Through) (e : Ed) (t : Tape) → HoldsEd Sourced e t → Grounded e t → ComesGrounded g c Spans (span a b) e t
+  unfolding span
+  span-comes a b e t s h =
+      and-comes g c Ground Spans Halts (goTo a) _ e t (goTo-comes a e t s h) (λ u e₁ t₁ h₁.
+      and-comes g c (λ x. OnLine) Spans Halts (lineOr n20) _ e₁ t₁ (lineOr-comes n20 e₁ t₁ h₁) (λ x e₂ t₂ h₂.
+      then-comes g c Counted Spans Halts (reach b) _ e₂ t₂ (reach-comes b e₂ t₂ h₂) (λ k e₃ t₃ h₃. readPast-comes Spans k (gives k) e₃ t₃ h₃ (λ e₄ t₄ h₄. unfold runs in h₄))))

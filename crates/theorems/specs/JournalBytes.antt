@@ -7,11 +7,12 @@ use Prim.Native.Nat.{ℕ, suc, _≤_}
 use native.Mathlib.Omega.{arith}
 use lib.ListN.{length, length-append}
 use lib.Dec.{eqb, leb}
-use borrow.Author.Tests.{leb-true, le-leb, eqb-true, eq-eqb, ne-eqb}
+use borrow.Author.Tests.{leb-true, le-leb, eqb-true, eq-eqb}
 use Rattle.definitions.specs.Bytes.{Line, isText, eqLine, before, linesOf, lineBytes, linesBytes, lastByte, allText, isLine, allLines, areLines}
 use Rattle.definitions.specs.Table.{isTable}
 use Rattle.definitions.specs.Journal.{Record, kept, changed, deleted, inserted, oldSide, recordBytes, journalBytes, recordLength, journalLength, byMark, marked, followed, recordsIn, fewOldLines, recordsOf}
 use Rattle.theorems.specs.Each.{Each}
+use Rattle.theorems.specs.Lines.{text-not-lf, lines-lf, lines-other}
 
 abbrev pub IsLine : Line → Type 0
 IsLine l = isLine l ≡ true
@@ -45,26 +46,9 @@ pub line-text : (l : Line) → IsLine l → allText l ≡ true
 unfolding isLine
 line-text l h = (and-eq-true-iff (allText l) (leb (length l) 255) .0 h) .0
 
-pub line-short : (l : Line) → IsLine l → length l ≤ 255
-unfolding isLine
-line-short l h = leb-true (length l) 255 ((and-eq-true-iff (allText l) (leb (length l) 255) .0 h) .1)
-
 pub line-of : (l : Line) → allText l ≡ true → length l ≤ 255 → IsLine l
 unfolding isLine
 line-of l h k = and-eq-true-iff (allText l) (leb (length l) 255) .1 (h, le-leb (length l) 255 k)
-
--- a text byte is no LF
-text-not-lf : (b : ℕ) → isText b ≡ true → eqb b 10 ≡ false
-unfolding isText
-text-not-lf b h = ne-eqb b 10 (λ e. absurd (omega (arith, e, leb-true 32 b ((and-eq-true-iff (leb 32 b) (leb b 126) .0 h) .0))))
-
-lines-lf : (b : ℕ) (bs : List ℕ) → eqb b 10 ≡ true → linesOf (b ∷ bs) ≡ [] ∷ linesOf bs
-unfolding linesOf
-lines-lf b bs h = rw (h, linesOf)
-
-lines-other : (b : ℕ) (bs : List ℕ) → eqb b 10 ≡ false → linesOf (b ∷ bs) ≡ before b (linesOf bs)
-unfolding linesOf
-lines-other b bs h = rw (h, linesOf)
 
 -- a line that is written first is the first line
 pub first-line : (l : Line) (bs : List ℕ) → allText l ≡ true → linesOf (lineBytes l ++ bs) ≡ l ∷ linesOf bs
@@ -73,12 +57,6 @@ first-line [] bs h = lines-lf 10 bs refl
 first-line (b ∷ l) bs h =
     let k = and-eq-true-iff (isText b) (allText l) .0 h in
     lines-other b (l ++ (10 ∷ []) ++ bs) (text-not-lf b (k .0)) ∙ ap (before b) (first-line l bs (k .1))
-
--- the lines of lines as they are written
-pub lines-of-lines : (ls : List Line) → Each IsLine ls → linesOf (linesBytes ls) ≡ ls
-unfolding linesBytes linesOf
-lines-of-lines [] h = refl
-lines-of-lines (l ∷ ls) h = first-line l (linesBytes ls) (line-text l (h .0)) ∙ ap {B = List Line} (λ ms. l ∷ ms) (lines-of-lines ls (h .1))
 
 -- ---- the last byte
 

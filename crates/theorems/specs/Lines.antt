@@ -1,4 +1,5 @@
--- Bytes whose lines are lines in the sense of document 01: a tail of them is such again, and so are the strings and lines read from them.
+-- The lines of bytes, and bytes whose lines are lines in the sense of document 01: a tail of them is such again, and so are the strings and lines
+-- read from them.
 use mathlib.Core.Path.{_≡_, refl, ap, _∙_}
 use mathlib.Core.Bool.{Bool, true, false, _&&_, _||_, false≢true}
 use mathlib.Core.List.{List, [], _∷_}
@@ -6,7 +7,7 @@ use Prim.Native.Nat.{ℕ, zero, suc, _+_, _≤_, _<_}
 use native.Mathlib.Omega.{arith}
 use lib.ListN.{length, drop}
 use lib.Dec.{eqb, leb}
-use borrow.Author.Tests.{leb-true, le-leb}
+use borrow.Author.Tests.{leb-true, le-leb, ne-eqb}
 use Rattle.definitions.specs.Bytes.{Line, before, linesOf, isText, allText, isLine, allLines, lastByte, areLines}
 use Rattle.definitions.specs.Table.{isScript}
 use Rattle.definitions.specs.Reader.{stringUpTo}
@@ -26,6 +27,30 @@ pub and-both : (a b : Bool) → a ≡ true → b ≡ true → (a && b) ≡ true
 and-both true b p q = q
 and-both false b p q = p
 
+-- ---- bytes and their lines
+
+pub text-upTo : (b : ℕ) → isText b ≡ true → b ≤ 126
+unfolding isText
+text-upTo b h = leb-true b 126 (and-right (leb 32 b) (leb b 126) h)
+
+pub text-of : (b : ℕ) → 32 ≤ b → b ≤ 126 → isText b ≡ true
+unfolding isText
+text-of b h k = and-both (leb 32 b) (leb b 126) (le-leb 32 b h) (le-leb b 126 k)
+
+-- a text byte is no LF
+pub text-not-lf : (b : ℕ) → isText b ≡ true → eqb b 10 ≡ false
+unfolding isText
+text-not-lf b h = ne-eqb b 10 (λ e. absurd (omega (arith, e, leb-true 32 b (and-left (leb 32 b) (leb b 126) h))))
+
+-- the lines of bytes, by the first byte
+pub lines-lf : (b : ℕ) (bs : List ℕ) → eqb b 10 ≡ true → linesOf (b ∷ bs) ≡ [] ∷ linesOf bs
+unfolding linesOf
+lines-lf b bs h = rw (h, linesOf)
+
+pub lines-other : (b : ℕ) (bs : List ℕ) → eqb b 10 ≡ false → linesOf (b ∷ bs) ≡ before b (linesOf bs)
+unfolding linesOf
+lines-other b bs h = rw (h, linesOf)
+
 -- ---- tails
 
 line-tail : (b : ℕ) (l : Line) → isLine (b ∷ l) ≡ true → isLine l ≡ true
@@ -34,7 +59,7 @@ line-tail b l e = and-both (allText l) (leb (length l) 255)
     (and-right (isText b) (allText l) (and-left (isText b && allText l) (leb (suc (length l)) 255) e))
     (le-leb (length l) 255 (omega (arith, leb-true (suc (length l)) 255 (and-right (isText b && allText l) (leb (suc (length l)) 255) e))))
 
-before-tail : (b : ℕ) (ls : List Line) → allLines (before b ls) ≡ true → allLines ls ≡ true
+pub before-tail : (b : ℕ) (ls : List Line) → allLines (before b ls) ≡ true → allLines ls ≡ true
 unfolding before allLines
 before-tail b [] e = refl
 before-tail b (l ∷ ls) e =

@@ -1,11 +1,14 @@
--- What holds of a computation that reads: it depends on no more lines than it has read, and it keeps the old side. Proved once of reading and
--- of one computation after another; no command is named here.
+-- What holds of a computation that reads: it depends on no more lines than it has read, and it keeps the old side. Proved once of one
+-- computation after another; no command is named here.
 use mathlib.Core.Path.{_≡_, refl, ap, _∙_}
 use mathlib.Core.Logic.{_⊎_, inl, inr}
-use mathlib.Core.List.{List, [], _∷_, _++_, append-assoc, append-nil}
-use Prim.Native.Nat.{ℕ, zero, suc}
+use mathlib.Core.List.{List, [], _++_, append-assoc}
 use Rattle.definitions.specs.Bytes.{Line}
-use Rattle.definitions.specs.Tape.{Tape, unread, ended, restLines, Reads, ret, bind, Need, readNext, readNeed}
+use Rattle.definitions.specs.Tape.{Tape, unread, ended, restLines, Reads, ret, bind}
+
+-- a statement on a result and the tape then
+abbrev pub At : {S : Type 0} → (S → Tape → Type 0) → S × Tape → Type 0
+At P x = P (x .0) (x .1)
 
 -- With `u` unread, `m` comes to the end-of-file line; or it reads the first lines `used` of `u`, and comes to the same whatever stands after them.
 pub data Local {S : Type 0} (m : Reads S) (u : List Line) : Type 0 where
@@ -75,45 +78,6 @@ bind-faithful m m′ k k′ old₁ full₁ old₂ full₂ base up hm hk = record
   stays = (((hk (hm .stays .0)) .stays) .0, rw (hm .stays .1, ((hk (hm .stays .0)) .stays) .1));
 }
 
--- ---- reading lines
-
-readNext-near : (n : ℕ) (u : List Line) → Local (readNext n) u
-unfolding readNext
-readNext-near zero u = readOnly [] u [] refl (λ w. refl)
-readNext-near (suc n) [] = metEof [] refl
-readNext-near (suc n) (l ∷ ls) = more (readNext-near n ls)
-  where
-    more : Local (readNext n) ls → Local (readNext (suc n)) (l ∷ ls)
-    more (metEof s q) = metEof (l ∷ s) (rw q)
-    more (readOnly used v s e h) = readOnly (l ∷ used) v (l ∷ s) (rw e) (λ w. rw (h w))
-
-readNext-stays : (n : ℕ) → (s : List Line) × (readNext n ended ≡ (s, ended))
-unfolding readNext
-readNext-stays zero = ([], refl)
-readNext-stays (suc n) = ([], refl)
-
-readNext-keeps : (n : ℕ) (t : Tape) → (readNext n t) .0 ++ restLines ((readNext n t) .1) ≡ restLines t
-unfolding readNext restLines
-readNext-keeps zero t = refl
-readNext-keeps (suc n) ended = refl
-readNext-keeps (suc n) (unread []) = refl
-readNext-keeps (suc n) (unread (l ∷ ls)) = ap {B = List Line} (λ r. l ∷ r) (readNext-keeps n (unread ls))
-
--- reading fills no buffer
+-- what fills no buffer
 abbrev pub never : {S : Type 0} → S → Type 0
 never s = ⊥
-
-pub readNeed-faithful : (n : Need) (base : List Line) → Faithful (readNeed n) (readNeed n) (λ ls. base ++ ls) never base
-unfolding readNeed
-readNeed-faithful (Need.next n) base = record {
-  keeps = λ t. rw (append-assoc, readNext-keeps);
-  bounded = λ t. inr refl;
-  near = readNext-near n;
-  stays = readNext-stays n;
-}
-readNeed-faithful Need.all base = record {
-  keeps = λ t. unfold restLines in (append-nil (base ++ restLines t));
-  bounded = λ t. inr refl;
-  near = λ u. metEof (restLines (unread u)) refl;
-  stays = (restLines ended, refl);
-}

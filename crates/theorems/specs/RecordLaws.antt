@@ -2,13 +2,23 @@
 use mathlib.Core.Path.{_≡_, refl, sym, ap, _∙_}
 use mathlib.Core.Bool.{Bool, true, false, cond}
 use mathlib.Core.List.{List, [], _∷_, _++_, map, reverseAux, append-assoc}
+use Prim.Native.Nat.{_+_}
+use native.Mathlib.Nat.{zero-add}
+use native.Mathlib.Omega.{arith}
+use lib.ListN.{length, length-append}
 use Rattle.definitions.specs.Bytes.{Line, eqLine}
 use Rattle.definitions.specs.Journal.{Record, kept, changed, deleted, inserted, oldOf, oldSide, change, rewrite, erase}
+use Rattle.definitions.specs.Editor.{sources}
 
 -- records that are read come last
 pub reverse-append : (before after xs : List Record) → reverseAux before (after ++ xs) ≡ reverseAux before after ++ xs
 reverse-append [] after xs = refl
 reverse-append (r ∷ before) after xs = reverse-append before (r ∷ after) xs
+
+-- records that were passed come back before those after them
+pub reverse-twice : (passed before after : List Record) → reverseAux (reverseAux passed before) after ≡ reverseAux before (passed ++ after)
+reverse-twice [] before after = refl
+reverse-twice (r ∷ passed) before after = reverse-twice passed (r ∷ before) after
 
 pub old-append : (rs xs : List Record) → oldSide (rs ++ xs) ≡ oldSide rs ++ oldSide xs
 unfolding oldSide
@@ -50,3 +60,21 @@ erase-old before (inserted l) after = old-same before after (inserted l ∷ afte
 pub insert-old : (before : List Record) (l : Line) (after : List Record) → oldSide (reverseAux before (inserted l ∷ after)) ≡ oldSide (reverseAux before after)
 unfolding oldSide oldOf
 insert-old before l after = old-same before (inserted l ∷ after) after refl
+
+-- ---- the number of source lines among records
+
+pub sources-append : (rs xs : List Record) → sources (rs ++ xs) ≡ sources rs + sources xs
+unfolding sources
+sources-append rs xs = ap length (old-append rs xs) ∙ length-append (oldSide rs) (oldSide xs)
+
+pub sources-kept : (ls : List Line) → sources (map kept ls) ≡ length ls
+unfolding sources
+sources-kept ls = ap length (old-kept ls)
+
+pub sources-reverse : (before after : List Record) → sources (reverseAux before after) ≡ sources before + sources after
+unfolding sources oldSide oldOf
+sources-reverse [] after = sym (zero-add (length (oldSide after)))
+sources-reverse (kept l ∷ before) after = sources-reverse before (kept l ∷ after) ∙ omega arith
+sources-reverse (changed o n ∷ before) after = sources-reverse before (changed o n ∷ after) ∙ omega arith
+sources-reverse (deleted l ∷ before) after = sources-reverse before (deleted l ∷ after) ∙ omega arith
+sources-reverse (inserted l ∷ before) after = sources-reverse before (inserted l ∷ after)

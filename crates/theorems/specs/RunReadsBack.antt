@@ -7,6 +7,7 @@ use Prim.Native.Nat.{ℕ}
 use Rattle.definitions.specs.Bytes.{linesOf}
 use Rattle.definitions.specs.Table.{isTable, isScript}
 use Rattle.definitions.specs.Journal.{Record, oldSide, journalBytes, recordsOf}
+use Rattle.definitions.specs.Given.{given, bytes}
 use Rattle.definitions.specs.Edit.{step}
 use Rattle.definitions.specs.Control.{Item}
 use Rattle.definitions.specs.Script.{items, readScript}
@@ -14,8 +15,9 @@ use Rattle.definitions.specs.Run.{ranItems, runAnswer}
 use Rattle.theorems.specs.Answers.{Shown, run-shown, shown-both, shown-records}
 use Rattle.theorems.specs.Demand3Items.{items-old}
 use Rattle.theorems.specs.JournalBytes.{reads-back, all-lines, table-lines, table-short}
-use Rattle.theorems.specs.GoodRecords.{GoodRecords, ran-good}
-use Rattle.theorems.specs.GoodScripts.{good-script}
+use Rattle.theorems.specs.GoodSteps.{GoodRecords}
+use Rattle.theorems.specs.GoodRecords.{ran-good}
+use Rattle.theorems.specs.GoodScripts.{good-commands}
 
 -- the journal `j` is read back from its bytes
 abbrev pub ReadsBack : List Record → Type 0
@@ -25,16 +27,16 @@ ReadsBack j = recordsOf (journalBytes j) ≡ some j
 pub run-good : (table script : List ℕ) (budget work size : ℕ) → Shown GoodRecords (runAnswer table script budget work size)
 run-good table script budget work size =
     run-shown GoodRecords table budget size script work
-    (λ g is p h. ran-good size budget is (linesOf table) (good-script script g is p) (all-lines (linesOf table) (table-lines table h)))
+    (λ g is p h. ran-good size budget is (linesOf table) (good-commands script g is p) (all-lines (linesOf table) (table-lines table h)))
 
 -- the journal is read back from its bytes
 pub run-reads-back : (table script : List ℕ) (budget work size : ℕ) → Shown ReadsBack (runAnswer table script budget work size)
 run-reads-back table script budget work size = run-shown ReadsBack table budget size script work back
   where
     back : isScript script ≡ true → (is : List Item) → readScript script ≡ items is → isTable table ≡ true
-        → Shown ReadsBack (ranItems (step size) budget is (linesOf table))
+        → Shown ReadsBack (ranItems (step (given (bytes size))) budget is (linesOf table))
     back g is p h =
         shown-both GoodRecords (λ j. oldSide j ≡ linesOf table) ReadsBack (λ j r o. reads-back j r (rw o (table-short table h)))
-        (ranItems (step size) budget is (linesOf table))
-        (ran-good size budget is (linesOf table) (good-script script g is p) (all-lines (linesOf table) (table-lines table h)))
-        (shown-records (λ j. oldSide j ≡ linesOf table) (ranItems (step size) budget is (linesOf table)) (items-old budget is size (linesOf table)))
+        (ranItems (step (given (bytes size))) budget is (linesOf table))
+        (ran-good size budget is (linesOf table) (good-commands script g is p) (all-lines (linesOf table) (table-lines table h)))
+        (shown-records (λ j. oldSide j ≡ linesOf table) (ranItems (step (given (bytes size))) budget is (linesOf table)) (items-old budget is size (linesOf table)))

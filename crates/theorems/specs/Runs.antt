@@ -4,7 +4,9 @@ use mathlib.Core.List.{List, [], _∷_}
 use Prim.Native.Nat.{ℕ, zero, suc}
 use Rattle.definitions.specs.Tape.{Tape, Reads, bind}
 use Rattle.definitions.specs.Search.{Search}
-use Rattle.definitions.specs.Editor.{Ed, Out, on, edited, halt, opening}
+use Rattle.definitions.specs.Given.{carried}
+use Rattle.definitions.specs.Reading.{opening}
+use Rattle.definitions.specs.StepProgram.{RunState, state, Out, on, edited, halt}
 use Rattle.definitions.specs.Edit.{Test, Op, round, test, begin, beginBack, find, findBack, findDelete}
 use Rattle.definitions.specs.Control.{Seek, forward, backward, deleting, Opener, times, forever, bare, branch, loop, Item, simple, seek, opens, bracket, close, otherwise, leave, lineEnd, Frame, frame, Ctl, running, skipping, failing, leaving, seeking, Pull, finished, want, wantOne, bodyStart, bodyEnd, leaveTo, beginOp, lookOp, pullAt, pullAfter, pullElse, pullLine, pull}
 use Rattle.definitions.specs.Run.{End, end, choose, spent, stepped, stepping, run, runItems}
@@ -229,67 +231,67 @@ module _ (Q : Op → Type 0) (inner : Inner Q) where
 -- ---- the induction over the budget
 
 -- `I` of the state and the tape where the run goes on, `J` of its number, the state and the tape where it stops
-module _ (I : Ed → Tape → Type 0) (J : ℕ → Ed → Tape → Type 0) where
+module _ (I : RunState → Tape → Type 0) (J : ℕ → RunState → Tape → Type 0) where
   abbrev pub StepOr : Out → Tape → Type 0
-  StepOr (on b e) t = I e t
-  StepOr (edited e) t = I e t
-  StepOr (halt n e) t = J n e t
+  StepOr (on b s) t = I s t
+  StepOr (edited s) t = I s t
+  StepOr (halt n s) t = J n s t
 
-abbrev pub EndOf : (ℕ → Ed → Tape → Type 0) → End → Tape → Type 0
-EndOf J (end n steps at e) t = J n e t
+abbrev pub EndOf : (ℕ → RunState → Tape → Type 0) → End → Tape → Type 0
+EndOf J (end n steps at s) t = J n s t
 
 -- a statement that holds whether the run goes on or stops
-abbrev pub AfterStep : (Ed → Tape → Type 0) → Out → Tape → Type 0
+abbrev pub AfterStep : (RunState → Tape → Type 0) → Out → Tape → Type 0
 AfterStep I o t = StepOr I (λ n. I) o t
 
-abbrev pub AtEnd : (Ed → Tape → Type 0) → End → Tape → Type 0
+abbrev pub AtEnd : (RunState → Tape → Type 0) → End → Tape → Type 0
 AtEnd I x t = EndOf (λ n. I) x t
 
 -- a run ends with 0 at the script's end, with 29 where the budget is spent, and else with the number of a step
-module _ (Q : Op → Type 0) (inner : Inner Q) (I : Ed → Tape → Type 0) (J : ℕ → Ed → Tape → Type 0)
-    (done : (e : Ed) (t : Tape) → I e t → J 0 e t) (late : (e : Ed) (t : Tape) → I e t → J 29 e t) (take-step : Op → Ed → Reads Out)
-    (keeps : (op : Op) (e : Ed) (t : Tape) → Q op → I e t → StepOr I J ((take-step op e t) .0) ((take-step op e t) .1)) where
+module _ (Q : Op → Type 0) (inner : Inner Q) (I : RunState → Tape → Type 0) (J : ℕ → RunState → Tape → Type 0)
+    (done : (s : RunState) (t : Tape) → I s t → J 0 s t) (late : (s : RunState) (t : Tape) → I s t → J 29 s t) (take-step : Op → RunState → Reads Out)
+    (keeps : (op : Op) (s : RunState) (t : Tape) → Q op → I s t → StepOr I J ((take-step op s t) .0) ((take-step op s t) .1)) where
   choose-of : (b : Bool) (c₁ c₀ : Ctl) → CtlOf Q c₁ → CtlOf Q c₀ → CtlOf Q (choose b c₁ c₀)
   unfolding choose
   choose-of true c₁ c₀ h k = h
   choose-of false c₁ c₀ h k = k
 
-  spent-ends : (steps : ℕ) (e : Ed) (x : Pull) (t : Tape) → I e t → EndOf J (spent steps e x) t
+  spent-ends : (steps : ℕ) (s : RunState) (x : Pull) (t : Tape) → I s t → EndOf J (spent steps s x) t
   unfolding spent
-  spent-ends steps e finished t h = done e t h
-  spent-ends steps e (want at op c₁ c₀) t h = late e t h
+  spent-ends steps s finished t h = done s t h
+  spent-ends steps s (want at op c₁ c₀) t h = late s t h
 
-  module _ (go : Ctl → Ed → Reads End) (ih : (c : Ctl) (e : Ed) (t : Tape) → CtlOf Q c → I e t → EndOf J ((go c e t) .0) ((go c e t) .1)) where
+  module _ (go : Ctl → RunState → Reads End) (ih : (c : Ctl) (s : RunState) (t : Tape) → CtlOf Q c → I s t → EndOf J ((go c s t) .0) ((go c s t) .1)) where
     stepped-ends : (steps at : ℕ) (c₁ c₀ : Ctl) (o : Out) (t : Tape) → CtlOf Q c₁ → CtlOf Q c₀ → StepOr I J o t
         → EndOf J ((stepped go steps at c₁ c₀ o t) .0) ((stepped go steps at c₁ c₀ o t) .1)
     unfolding stepped
-    stepped-ends steps at c₁ c₀ (on b e) t h k i = ih (choose b c₁ c₀) e t (choose-of b c₁ c₀ h k) i
-    stepped-ends steps at c₁ c₀ (edited e) t h k i = ih c₁ e t h i
-    stepped-ends steps at c₁ c₀ (halt n e) t h k i = i
+    stepped-ends steps at c₁ c₀ (on b s) t h k i = ih (choose b c₁ c₀) s t (choose-of b c₁ c₀ h k) i
+    stepped-ends steps at c₁ c₀ (edited s) t h k i = ih c₁ s t h i
+    stepped-ends steps at c₁ c₀ (halt n s) t h k i = i
 
-    stepping-ends : (steps : ℕ) (e : Ed) (x : Pull) (t : Tape) → PullOf Q (λ at op c₁ c₀. Q op) x → I e t
-        → EndOf J ((stepping take-step go steps e x t) .0) ((stepping take-step go steps e x t) .1)
+    stepping-ends : (steps : ℕ) (s : RunState) (x : Pull) (t : Tape) → PullOf Q (λ at op c₁ c₀. Q op) x → I s t
+        → EndOf J ((stepping take-step go steps s x t) .0) ((stepping take-step go steps s x t) .1)
     unfolding stepping bind
-    stepping-ends steps e finished t h i = done e t i
-    stepping-ends steps e (want at op c₁ c₀) t h i =
-        stepped-ends (suc steps) at c₁ c₀ ((take-step op e t) .0) ((take-step op e t) .1) (h .1) (h .2) (keeps op e t (h .0) i)
+    stepping-ends steps s finished t h i = done s t i
+    stepping-ends steps s (want at op c₁ c₀) t h i =
+        stepped-ends (suc steps) at c₁ c₀ ((take-step op s t) .0) ((take-step op s t) .1) (h .1) (h .2) (keeps op s t (h .0) i)
 
-  pub run-ends : (budget steps : ℕ) (c : Ctl) (e : Ed) (t : Tape) → CtlOf Q c → I e t
-      → EndOf J ((run take-step budget steps c e t) .0) ((run take-step budget steps c e t) .1)
+  pub run-ends : (budget steps : ℕ) (c : Ctl) (s : RunState) (t : Tape) → CtlOf Q c → I s t
+      → EndOf J ((run take-step budget steps c s t) .0) ((run take-step budget steps c s t) .1)
   unfolding run
-  run-ends zero steps c e t h i = spent-ends steps e (pull c) t i
-  run-ends (suc budget) steps c e t h i =
-      stepping-ends (λ c′ e′. run take-step budget (suc steps) c′ e′) (λ c′ e′ t′. run-ends budget (suc steps) c′ e′ t′) steps e (pull c) t (pull-of Q inner c h) i
+  run-ends zero steps c s t h i = spent-ends steps s (pull c) t i
+  run-ends (suc budget) steps c s t h i =
+      stepping-ends (λ c′ s′. run take-step budget (suc steps) c′ s′) (λ c′ s′ t′. run-ends budget (suc steps) c′ s′ t′) steps s (pull c) t (pull-of Q inner c h) i
 
   -- what holds of the opening and is kept by every step holds at the end
-  pub runItems-ends : (budget : ℕ) (items : List Item) (t : Tape) → ItemsOf Q items → I ((opening t) .0) ((opening t) .1)
+  pub runItems-ends : (budget : ℕ) (items : List Item) (t : Tape) → ItemsOf Q items → I (state ((opening t) .0) carried) ((opening t) .1)
       → EndOf J ((runItems take-step budget items t) .0) ((runItems take-step budget items t) .1)
   unfolding runItems bind
-  runItems-ends budget items t h i = run-ends budget 0 (running items []) ((opening t) .0) ((opening t) .1) (h, tt) i
+  runItems-ends budget items t h i = run-ends budget 0 (running items []) (state ((opening t) .0) carried) ((opening t) .1) (h, tt) i
 
 -- the same for a statement that holds whether the run goes on or stops
-pub runItems-keeps : (Q : Op → Type 0) (inner : Inner Q) (I : Ed → Tape → Type 0) (take-step : Op → Ed → Reads Out)
-    → ((op : Op) (e : Ed) (t : Tape) → Q op → I e t → AfterStep I ((take-step op e t) .0) ((take-step op e t) .1))
-    → (budget : ℕ) (items : List Item) (t : Tape) → ItemsOf Q items → I ((opening t) .0) ((opening t) .1)
+pub runItems-keeps : (Q : Op → Type 0) (inner : Inner Q) (I : RunState → Tape → Type 0) (take-step : Op → RunState → Reads Out)
+    → ((op : Op) (s : RunState) (t : Tape) → Q op → I s t → AfterStep I ((take-step op s t) .0) ((take-step op s t) .1))
+    → (budget : ℕ) (items : List Item) (t : Tape) → ItemsOf Q items → I (state ((opening t) .0) carried) ((opening t) .1)
     → AtEnd I ((runItems take-step budget items t) .0) ((runItems take-step budget items t) .1)
-runItems-keeps Q inner I take-step keeps = runItems-ends Q inner I (λ n. I) (λ e t h. h) (λ e t h. h) take-step keeps
+runItems-keeps Q inner I take-step keeps = runItems-ends Q inner I (λ n. I) (λ s t h. h) (λ s t h. h) take-step keeps

@@ -1,9 +1,10 @@
 // The functions that C programs call: see include/zed.h.
 ghost use mathlib.Core.Path.{_≡_};
-ghost use lib.ListN.{length};
-ghost use Rattle.definitions.specs.Run.{runAnswer, answerNumber, bufferAfter};
-ghost use Rattle.zed.specs.Values.{values};
+ghost use Rattle.definitions.specs.Run.{answerNumber, bufferAfter};
+ghost use Rattle.journal.specs.Reading.{readingNumber, readingLength};
+ghost use Rattle.zed.specs.Values.{values, runOf};
 ghost use Rattle.definitions.specs.Listing.{numberOf, lengthOf, bytesOf, oldSideTo, newSideTo, listingTo};
+use journal::Reading;
 
 // Runs the script on the table; the journal goes into `journal`, and number, steps, furthest line, the journal's length and place into `answer`.
 #[no_mangle]
@@ -15,9 +16,9 @@ pub extern "C" fn zed_run(
     journal: &mut [u8],
     answer: &mut [u64; 5],
 ) -> u64
-    ensures number { λ r. ⌜ r ≡ answerNumber (runAnswer (now (table .entry)) (now (script .entry)) budget (length (now (work .entry))) (length (now (journal .entry)))) ⌝ }
-    ensures answer { λ _. ⌜ now (answer .exit) ≡ values (runAnswer (now (table .entry)) (now (script .entry)) budget (length (now (work .entry))) (length (now (journal .entry)))) ⌝ }
-    ensures journal { λ _. ⌜ now (journal .exit) ≡ bufferAfter (now (journal .entry)) (runAnswer (now (table .entry)) (now (script .entry)) budget (length (now (work .entry))) (length (now (journal .entry)))) ⌝ }
+    ensures number { λ r. ⌜ r ≡ answerNumber (runOf (now (table .entry)) (now (script .entry)) budget (now (work .entry)) (now (journal .entry))) ⌝ }
+    ensures answer { λ _. ⌜ now (answer .exit) ≡ values (runOf (now (table .entry)) (now (script .entry)) budget (now (work .entry)) (now (journal .entry))) ⌝ }
+    ensures journal { λ _. ⌜ now (journal .exit) ≡ bufferAfter (now (journal .entry)) (runOf (now (table .entry)) (now (script .entry)) budget (now (work .entry)) (now (journal .entry))) ⌝ }
 {
     let a = run::run(table, script, budget, work, journal);
     let number = run::values::number(a) as u64;
@@ -36,9 +37,7 @@ pub extern "C" fn zed_old_side(j: &[u8], dest: &mut [u8], len: &mut usize) -> u3
     ensures length { λ _. ⌜ now (len .exit) ≡ lengthOf (oldSideTo (now (j .entry)) (now (dest .entry))) ⌝ }
     ensures bytes { λ _. ⌜ now (dest .exit) ≡ bytesOf (oldSideTo (now (j .entry)) (now (dest .entry))) ⌝ }
 {
-    let r = journal::old_side(j, dest);
-    *len = journal::length(r);
-    journal::number(r)
+    answer(journal::old_side(j, dest), len)
 }
 
 // The new side of the journal `j`, written into `dest`; its length goes into `len`.
@@ -48,9 +47,7 @@ pub extern "C" fn zed_new_side(j: &[u8], dest: &mut [u8], len: &mut usize) -> u3
     ensures length { λ _. ⌜ now (len .exit) ≡ lengthOf (newSideTo (now (j .entry)) (now (dest .entry))) ⌝ }
     ensures bytes { λ _. ⌜ now (dest .exit) ≡ bytesOf (newSideTo (now (j .entry)) (now (dest .entry))) ⌝ }
 {
-    let r = journal::new_side(j, dest);
-    *len = journal::length(r);
-    journal::number(r)
+    answer(journal::new_side(j, dest), len)
 }
 
 // The listing of the journal `j`, written into `dest`; its length goes into `len`.
@@ -60,7 +57,14 @@ pub extern "C" fn zed_listing(j: &[u8], dest: &mut [u8], len: &mut usize) -> u32
     ensures length { λ _. ⌜ now (len .exit) ≡ lengthOf (listingTo (now (j .entry)) (now (dest .entry))) ⌝ }
     ensures bytes { λ _. ⌜ now (dest .exit) ≡ bytesOf (listingTo (now (j .entry)) (now (dest .entry))) ⌝ }
 {
-    let r = journal::listing(j, dest);
+    answer(journal::listing(j, dest), len)
+}
+
+// The number of a reader's answer; its length goes into `len`.
+fn answer(r: Reading, len: &mut usize) -> u32
+    ensures { λ n. ⌜ n ≡ readingNumber r ⌝ }
+    ensures { λ _. ⌜ now (len .exit) ≡ readingLength r ⌝ }
+{
     *len = journal::length(r);
     journal::number(r)
 }

@@ -2,8 +2,7 @@
 // budget and a journal buffer of 65,536 bytes, and prints the listing, then the end line.
 use libc::STDERR_FILENO;
 use libc::STDOUT_FILENO;
-ghost use mathlib.Core.Path.{_≡_};
-ghost use Prim.Native.Nat.{_+_, _*_, _≤_};
+ghost use Prim.Native.Nat.{_≤_};
 ghost use lib.ListN.{length};
 
 // A byte more than the longest table and the longest script: a file that fills it is too long.

@@ -1,5 +1,5 @@
 use mathlib.Core.Path.{sym}
-use Rattle.changes.proofs.Cases.{lower-low, lower-high, lower-capital}
+use Rattle.changes.proofs.Casing.{lower-low, lower-high, lower-capital}
 use borrow.Author.Needs.{needs}
 use Rattle.changes.proofs.lower.Statement.{statement}
 use Rattle.changes.proofs.lower.Tie as tie

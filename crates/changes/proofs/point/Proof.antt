@@ -1,70 +1,44 @@
-use mathlib.Core.Path.{refl}
-use native.Mathlib.Omega.{arith}
-use Rattle.editor.proofs.Held.{placed-by}
-use Rattle.editor.proofs.CurrentText.{shown-short}
-use Rattle.changes.proofs.Altering.{found-at, found-none, found-inside, point-eof, point-none, after-on, before-on}
+use Rattle.changes.proofs.Commands.{has-place, has-short, point-stop, point-found}
 use borrow.Author.Needs.{needs}
 use Rattle.changes.proofs.point.Statement.{statement}
 use Rattle.changes.proofs.point.Tie as tie
 
+place-here-requires : tie.Need-place-here-requires
+place-here-requires c κs = search needs
+
+enum-known-place : tie.Need-enum-known-place
+enum-known-place c = search needs
+
+enum-known-place-2 : tie.Need-enum-known-place-2
+enum-known-place-2 c = search needs
+
+sub-point-by : tie.Need-sub-point-by
+sub-point-by c = search needs
+
+point-by-requires : tie.Need-point-by-requires
+point-by-requires c κs = let s = c .before .before .before .before .before .before .before in
+    has-short (has-place _ (s .args .script .now) (s .args .from) (s .args .to) (s .pre .2) _ (c .before .before .before .place-here .ensures) _ (c .before .place2 .given .1) (s .pre .0))
+
+point-to-requires : tie.Need-point-to-requires
+point-to-requires c κs = search needs
+
 returns : tie.Need-returns
-returns c = λ e t h w k. point-eof _ _ _ _ _ (c .if1 .taken) e t h
-
-sub-find-current : tie.Need-sub-find-current
-sub-find-current c = search needs
-
-part-find-current-start : tie.Need-part-find-current-start
-part-find-current-start c = search needs
-
-part-find-current-end : tie.Need-part-find-current-end
-part-find-current-end c = search needs
-
-find-current-requires : tie.Need-find-current-requires
-find-current-requires c κs = search needs
-
-enum-known-found : tie.Need-enum-known-found
-enum-known-found c = search needs
-
-enum-told : tie.Need-enum-told
-enum-told c = search needs
+returns c = let s = c .before .before .before .before .before .before .before in
+    point-stop _ (s .args .script .now) (s .args .from) (s .args .to) (s .pre .2) _ (c .before .before .before .place-here .ensures) _ _ (c .before .place .given .1)
 
 returns-2 : tie.Need-returns-2
-returns-2 c =
-    let s = c .before .before .before .before .before .before .before .before in
-    point-none _ _ _ (c .before .before .before .before .if1 .left) _ (s .args .script .now) (s .args .from) (s .args .to) (s .pre .2) _ (c .before .before .find-current .ensures) _ _ (found-none _ (c .enum-told .given .1))
-
-sub-s : tie.Need-sub-s
-sub-s c = search needs
-
-add-s : tie.Need-add-s
-add-s c =
-    let s = c .before .before .before .before .before .before .before .before .before .before in
-    let w = s .pre .0 in
-    omega (arith, shown-short (w .0) (w .1) (w .2), found-inside _ _ _ (c .before .before .before .before .before .before .if1 .left) _ (s .args .script .now) (s .args .from) (s .args .to) (s .pre .2) _ (c .before .before .before .before .find-current .ensures) _ (found-at _ _ (c .before .before .found .given .1)) (w .0) (w .1) (w .2) (w .3) (w .4))
-
-returns-3 : tie.Need-returns-3
-returns-3 c =
-    let s = c .before .before .before .before .before .before .before .before .before .before in
-    after-on _ _ _ (c .before .before .before .before .before .before .if1 .left) _ (s .args .script .now) (s .args .from) (s .args .to) (s .pre .2) _ (c .before .before .before .before .find-current .ensures) _ (found-at _ _ (c .before .before .found .given .1)) _ (placed-by _ _ _) refl _ _ (c .if2 .taken) refl
-
-returns-4 : tie.Need-returns-4
-returns-4 c =
-    let s = c .before .before .before .before .before .before .before .before .before .before in
-    before-on _ _ _ (c .before .before .before .before .before .before .if1 .left) _ (s .args .script .now) (s .args .from) (s .args .to) (s .pre .2) _ (c .before .before .before .before .find-current .ensures) _ (found-at _ _ (c .before .before .found .given .1)) _ (placed-by _ _ _) refl _ _ (c .if2 .left) refl
+returns-2 c = let s = c .before .before .before .before .before .before .before .before .before in
+    point-found _ (s .args .script .now) (s .args .from) (s .args .to) (s .pre .2) _ (c .before .before .before .before .before .place-here .ensures) _ (c .before .before .before .place2 .given .1) _ _ _ (c .before .point-by .ensures) (c .point-to .ensures)
 
 pub point-spec : {M : Type 1} → statement M
 point-spec =
     tie.close
     (tie.spec
+    place-here-requires
+    enum-known-place
+    enum-known-place-2
+    sub-point-by
+    point-by-requires
+    point-to-requires
     returns
-    sub-find-current
-    part-find-current-start
-    part-find-current-end
-    find-current-requires
-    enum-known-found
-    enum-told
-    returns-2
-    sub-s
-    add-s
-    returns-3
-    returns-4)
+    returns-2)

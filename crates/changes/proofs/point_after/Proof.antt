@@ -1,5 +1,5 @@
 use borrow.Author.Tests.{not-true, not-false}
-use Rattle.changes.proofs.Altering.{not-pointing, point-past, point-exchanged}
+use Rattle.changes.proofs.Commands.{not-pointing, point-past, point-exchanged}
 use borrow.Author.Needs.{needs}
 use Rattle.changes.proofs.point_after.Statement.{statement}
 use Rattle.changes.proofs.point_after.Tie as tie

@@ -1,14 +1,16 @@
-use mathlib.Core.Path.{refl}
-use Rattle.editor.proofs.Held.{placed-by}
 use Rattle.changes.proofs.Commands.{start-eof, start-on}
+use borrow.Author.Needs.{needs}
 use Rattle.changes.proofs.point_start.Statement.{statement}
 use Rattle.changes.proofs.point_start.Tie as tie
 
 returns : tie.Need-returns
-returns c = start-eof _ _ _ (c .if1 .taken)
+returns c = λ e x t h. start-eof x e t h (c .if1 .taken)
+
+point-to-requires : tie.Need-point-to-requires
+point-to-requires c κs = search needs
 
 returns-2 : tie.Need-returns-2
-returns-2 c = start-on _ _ _ _ (placed-by _ _ _) refl (c .if1 .left) refl
+returns-2 c = λ e x t h. start-on x e t h (c .before .if1 .left) _ (c .point-to .ensures)
 
 pub point-start-spec : {M : Type 1} → statement M
-point-start-spec = tie.close (tie.spec returns returns-2)
+point-start-spec = tie.close (tie.spec returns point-to-requires returns-2)

@@ -1,27 +1,38 @@
-use mathlib.Core.Path.{refl}
-use Rattle.editor.proofs.Held.{placed-by}
-use Rattle.changes.proofs.Commands.{in-order, right-eof, right-end, right-on}
+use native.Mathlib.Omega.{arith}
+use Rattle.changes.proofs.Commands.{has-byte, has-short, right-stop, right-on}
 use borrow.Author.Needs.{needs}
 use Rattle.changes.proofs.right.Statement.{statement}
 use Rattle.changes.proofs.right.Tie as tie
 
+byte-here-requires : tie.Need-byte-here-requires
+byte-here-requires c κs = search needs
+
+enum-known-b : tie.Need-enum-known-b
+enum-known-b c = search needs
+
+enum-told : tie.Need-enum-told
+enum-told c = search needs
+
+add-point-to : tie.Need-add-point-to
+add-point-to c = omega (arith, has-short (has-byte _ (c .before .before .before .byte-here .ensures) _ (c .before .enum-told .given .1) (c .before .before .before .before .before .before .pre)))
+
+point-to-requires : tie.Need-point-to-requires
+point-to-requires c κs = search needs
+
 returns : tie.Need-returns
-returns c = right-eof _ _ _ (c .if1 .taken)
-
-current-text-requires : tie.Need-current-text-requires
-current-text-requires c κs = search needs
-
-sub-if2 : tie.Need-sub-if2
-sub-if2 c = in-order _ _ _ (c .before .current-text .ensures) (c .before .before .before .before .pre)
+returns c = right-stop _ (c .before .before .before .byte-here .ensures) _ (c .before .b .given .1)
 
 returns-2 : tie.Need-returns-2
-returns-2 c = right-end _ _ _ _ (c .before .before .before .current-text .ensures) (c .if2 .taken)
-
-add-s : tie.Need-add-s
-add-s c = search needs
-
-returns-3 : tie.Need-returns-3
-returns-3 c = right-on _ _ _ _ (placed-by _ _ _) refl (c .before .before .before .before .before .if1 .left) _ (c .before .before .before .before .current-text .ensures) (c .before .if2 .left) refl
+returns-2 c = right-on _ (c .before .before .before .before .byte-here .ensures) _ (c .before .before .enum-told .given .1) _ (c .point-to .ensures)
 
 pub right-spec : {M : Type 1} → statement M
-right-spec = tie.close (tie.spec returns current-text-requires sub-if2 returns-2 add-s returns-3)
+right-spec =
+    tie.close
+    (tie.spec
+    byte-here-requires
+    enum-known-b
+    enum-told
+    add-point-to
+    point-to-requires
+    returns
+    returns-2)

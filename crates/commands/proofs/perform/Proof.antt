@@ -1,120 +1,79 @@
-use mathlib.Core.Path.{refl}
-use Prim.Native.Nat.{_+_}
-use native.Mathlib.Omega.{arith}
+use mathlib.Core.Path.{refl, sym, _∙_}
+use Rattle.items.proofs.Meaning.{first-in}
+use Rattle.commands.proofs.Performed.{ready-shown, ready-text, word-as, changes-left}
 use borrow.Author.Needs.{needs}
-use Rattle.commands.proofs.Performed.{kind-in, word-kind, move-in, word-as, move-as}
 use Rattle.commands.proofs.perform.Statement.{statement}
 use Rattle.commands.proofs.perform.Tie as tie
 
-mul-kind : tie.Need-mul-kind
-mul-kind c = omega (arith, kind-in _ _ _ (c .before .before .before .before .pre .0))
+kind-of-requires : tie.Need-kind-of-requires
+kind-of-requires c κs = first-in _ _ _ _ refl (c .before .before .before .before .pre .0)
 
-shared-slice-read-kind : tie.Need-shared-slice-read-kind
-shared-slice-read-kind c = kind-in _ _ _ (c .before .before .before .before .before .pre .0)
+shape-of-requires : tie.Need-shape-of-requires
+shape-of-requires c κs = search needs
 
 on-lines-requires : tie.Need-on-lines-requires
-on-lines-requires c κs =
-    let s = c .before .before .before .before .before .before .before in
-    ((s .pre .1 .0, s .pre .1 .1, s .pre .1 .2 .shows), word-kind _ _ _ (omega arith) (s .pre .0) .0, c .before .if1 .taken)
+on-lines-requires c κs = ready-shown (c .before .before .before .before .before .before .before .before .pre .1)
+
+of-two-words-requires : tie.Need-of-two-words-requires
+of-two-words-requires c κs = (c .before .before .before .before .before .before .before .before .pre .0, ready-text (c .before .before .before .before .before .before .before .before .pre .1), c .before .before .before .kind-of .ensures, (sym (c .before .before .shape-of .ensures) ∙ c .before .match .keys2))
+
+of-four-words-requires : tie.Need-of-four-words-requires
+of-four-words-requires c κs = (c .before .before .before .before .before .before .before .before .pre .0, ready-text (c .before .before .before .before .before .before .before .before .pre .1), c .before .before .before .kind-of .ensures, (sym (c .before .before .shape-of .ensures) ∙ c .before .match .keys3))
+
+points-requires : tie.Need-points-requires
+points-requires c κs = (c .before .before .before .before .before .before .before .before .pre .0, c .before .before .before .before .before .before .before .before .pre .1, c .before .before .before .kind-of .ensures, (sym (c .before .before .shape-of .ensures) ∙ c .before .match .keys4))
+
+alters-requires : tie.Need-alters-requires
+alters-requires c κs = (c .before .before .before .before .before .before .before .before .pre .0, c .before .before .before .before .before .before .before .before .pre .1, c .before .before .before .kind-of .ensures, (let n = c .before .match .rest in changes-left _ _ _ _ (c .before .before .before .kind-of .ensures) _ (c .before .before .shape-of .ensures) (n .0 .0 .0 .1) (n .0 .0 .1) (n .0 .1) (n .1) (c .before .before .before .before .before .before .before .before .pre .0)))
 
 same-length : tie.Need-same-length
 same-length c = search needs
 
 returns : tie.Need-returns
-returns c = word-as _ _ _ _ _ _ _ _ (omega (arith, c .before .before .before .before .if1 .taken)) (c .before .before .on-lines .ensures)
-
-on-bytes-requires : tie.Need-on-bytes-requires
-on-bytes-requires c κs =
-    let s = c .before .before .before .before .before .before .before .before in
-    ((s .pre .1 .0, s .pre .1 .1, s .pre .1 .2 .shows), c .before .before .if1 .left, word-kind _ _ _ (c .before .if2 .taken) (s .pre .0) .1)
+returns c = word-as _ _ _ _ (c .before .before .before .before .before .before .kind-of .ensures) _ (c .before .before .before .before .before .shape-of .ensures) _ _ _ _ _ (c .before .before .before .before .match .keys1) (c .before .before .on-lines .ensures)
 
 same-length-2 : tie.Need-same-length-2
 same-length-2 c = search needs
 
 returns-2 : tie.Need-returns-2
-returns-2 c = word-as _ _ _ _ _ _ _ _ (c .before .before .before .before .if2 .taken) (c .before .before .on-bytes .ensures)
-
-add-a : tie.Need-add-a
-add-a c = omega (arith, move-in _ _ _ (omega arith) (c .before .before .before .before .before .before .before .before .pre .0) .0)
-
-mul-a : tie.Need-mul-a
-mul-a c = omega (arith, move-in _ _ _ (omega arith) (c .before .before .before .before .before .before .before .before .pre .0) .0)
-
-shared-slice-read-a : tie.Need-shared-slice-read-a
-shared-slice-read-a c = move-in _ _ _ (omega arith) (c .before .before .before .before .before .before .before .before .before .pre .0) .0
-
-cast-a : tie.Need-cast-a
-cast-a c = omega (arith, c .shared-slice-known5 .given (c .before .before .before .before .before .before .before .before .before .args .k + 1))
-
-move-by-requires : tie.Need-move-by-requires
-move-by-requires c κs =
-    let s = c .before .before .before .before .before .before .before .before .before .before in
-    ((s .pre .1 .0, s .pre .1 .1, s .pre .1 .2 .shows), move-in _ _ _ (omega arith) (s .pre .0) .1)
+returns-2 c = λ op e d t h ready. c .before .before .of-two-words .ensures op e d t h (ready .shows)
 
 same-length-3 : tie.Need-same-length-3
 same-length-3 c = search needs
 
 returns-3 : tie.Need-returns-3
-returns-3 c = move-as _ _ _ _ _ _ _ _ (omega arith) (c .before .before .move-by .ensures)
-
-with-span-requires : tie.Need-with-span-requires
-with-span-requires c κs =
-    let s = c .before .before .before .before .before .before .before .before .before .before in
-    (s .pre .0, (s .pre .1 .0, s .pre .1 .1, s .pre .1 .2 .shows), refl, c .before .before .if3 .left, c .before .if4 .taken)
+returns-3 c = λ op e d t h ready. c .before .before .of-four-words .ensures op e d t h (ready .shows)
 
 same-length-4 : tie.Need-same-length-4
 same-length-4 c = search needs
 
 returns-4 : tie.Need-returns-4
-returns-4 c = λ op e t h ready. c .before .before .with-span .ensures op e t h (ready .shows)
-
-with-lines-requires : tie.Need-with-lines-requires
-with-lines-requires c κs =
-    let s = c .before .before .before .before .before .before .before .before .before .before .before in
-    (s .pre .0, (s .pre .1 .0, s .pre .1 .1, s .pre .1 .2 .shows), refl, c .before .before .if4 .left, c .before .if5 .taken)
+returns-4 c = c .before .before .points .ensures
 
 same-length-5 : tie.Need-same-length-5
 same-length-5 c = search needs
 
 returns-5 : tie.Need-returns-5
-returns-5 c = λ op e t h ready. c .before .before .with-lines .ensures op e t h (ready .shows)
-
-with-string-requires : tie.Need-with-string-requires
-with-string-requires c κs =
-    let s = c .before .before .before .before .before .before .before .before .before .before .before in
-    (s .pre .0, s .pre .1, refl, c .before .if5 .left)
-
-same-length-6 : tie.Need-same-length-6
-same-length-6 c = search needs
-
-returns-6 : tie.Need-returns-6
-returns-6 c = c .before .before .with-string .ensures
+returns-5 c = c .before .before .alters .ensures
 
 pub perform-spec : {M : Type 1} → statement M
 perform-spec =
     tie.close
     (tie.spec
-    mul-kind
-    shared-slice-read-kind
+    kind-of-requires
+    shape-of-requires
     on-lines-requires
+    of-two-words-requires
+    of-four-words-requires
+    points-requires
+    alters-requires
     same-length
     returns
-    on-bytes-requires
     same-length-2
     returns-2
-    add-a
-    mul-a
-    shared-slice-read-a
-    cast-a
-    move-by-requires
     same-length-3
     returns-3
-    with-span-requires
     same-length-4
     returns-4
-    with-lines-requires
     same-length-5
-    returns-5
-    with-string-requires
-    same-length-6
-    returns-6)
+    returns-5)

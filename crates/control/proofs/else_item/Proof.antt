@@ -56,7 +56,7 @@ same-length-4 : tie.Need-same-length-4
 same-length-4 c = search needs
 
 returns-4 : tie.Need-returns-4
-returns-4 c = (kept-written _ _ _ _ _ (c .before .before .before .push .ensures) (omega arith), λ s items frames h. else-group _ _ _ _ _ _ _ (c .before .before .before .before .before .before .before .before .before .here .ensures) (c .before .before .before .before .before .before .before .before .before .before .before .before .pre .1) _ (c .before .before .before .before .before .before .before .before .before .before .before .before .pre .2) s items frames h _ (c .before .before .before .push .ensures) (c .stand4 .ensures) (c .before .before .before .before .before .before .if4 .taken) (c .before .before .before .before .before .if5 .taken))
+returns-4 c = (kept-written _ _ _ _ _ (c .before .before .before .push .ensures) (omega arith) (let p = c .before .before .before .before .before .before .before .before .before .before .before .before .pre .0 in omega (arith, stands-in (p .0) _ _ _ _ (p .1) (p .3 .stands))), λ s items frames h. else-group _ _ _ _ _ _ _ (c .before .before .before .before .before .before .before .before .before .here .ensures) (c .before .before .before .before .before .before .before .before .before .before .before .before .pre .1) _ (c .before .before .before .before .before .before .before .before .before .before .before .before .pre .2) s items frames h _ (c .before .before .before .push .ensures) (c .stand4 .ensures) (c .before .before .before .before .before .before .if4 .taken) (c .before .before .before .before .before .if5 .taken))
 
 stand-requires-5 : tie.Need-stand-requires-5
 stand-requires-5 c κs = tt

@@ -1,6 +1,6 @@
 use Rattle.control.proofs.Pulling.{Came, came-further, came-on, came-next, came-end, few-modes}
 use Rattle.control.proofs.Standing.{kept-none, kept-twice}
-use Rattle.control.specs.Shown.{Kept, Shows}
+use Rattle.control.specs.Shown.{ItemsKept, ShowsCtl}
 use Rattle.definitions.specs.Control.{Ctl}
 use mathlib.Core.List.{List}
 use mathlib.Core.Path.{refl}
@@ -11,7 +11,7 @@ use Rattle.control.proofs.pull.Statement.{statement}
 use Rattle.control.proofs.pull.Tie as tie
 
 abbrev Inv-loop : tie.InvT-loop
-Inv-loop w₀ end mode point₀ w point = (point .mode < 4) × Kept w₀ w end × ((s : List ℕ) (from : Ctl) → Shows s w₀ end point₀ from → Came s w end point from)
+Inv-loop w₀ end mode point₀ w point = (point .mode < 4) × ItemsKept w₀ w end × ((s : List ℕ) (from : Ctl) → ShowsCtl s w₀ end point₀ from → Came s w end point from)
 
 abbrev μ-loop : tie.MeasureT-loop
 μ-loop w₀ end mode point₀ w point = end - point .at

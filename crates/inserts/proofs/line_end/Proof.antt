@@ -1,7 +1,7 @@
 use mathlib.Core.Path.{_≡_, refl, sym, _∙_}
 use Prim.Native.Nat.{_+_, _-_, _≤_}
 use native.Mathlib.Omega.{arith}
-use Rattle.script.specs.Words.{partOf}
+use Rattle.items.specs.Words.{partOf}
 use Rattle.inserts.specs.Lines.{feedPlace}
 use Rattle.inserts.proofs.Lines.{end-none, end-hit, end-miss}
 use Rattle.inserts.proofs.line_end.Statement.{statement}

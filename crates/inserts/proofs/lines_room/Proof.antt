@@ -1,7 +1,8 @@
 use mathlib.Core.Path.{_≡_}
 use Prim.Native.Nat.{_+_, _-_, _*_, _≤_}
 use native.Mathlib.Omega.{arith}
-use Rattle.inserts.proofs.Room.{roomOf, room-none, room-first}
+use Rattle.inserts.specs.Lines.{roomOf}
+use Rattle.inserts.proofs.Room.{room-none, room-first}
 use Rattle.inserts.proofs.lines_room.Statement.{statement}
 use Rattle.inserts.proofs.lines_room.Tie as tie
 

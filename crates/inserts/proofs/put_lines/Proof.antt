@@ -25,7 +25,7 @@ put-line-requires c κs =
     let l = c .before .before .before .loop in
     let e = c .before .line-end in
     let x = l .inv .puts _ _ (s .pre .0 .2) in
-    ((_, _, x .1), omega arith, putting-good (l .inv) (s .pre .1 .inside) (omega arith) (e .result) (e .ensures .0) (e .ensures .1), putting-room (l .inv) (s .pre .1 .inside) (omega arith) (e .result) (e .ensures .0) (e .ensures .1))
+    ((_, _, x .1), (omega arith, putting-good (l .inv) (s .pre .1 .inside) (omega arith) (e .result) (e .ensures .0) (e .ensures .1)), putting-room (l .inv) (s .pre .1 .inside) (omega arith) (e .result) (e .ensures .0) (e .ensures .1))
 
 add-at : tie.Need-add-at Inv-loop μ-loop
 add-at c = omega arith

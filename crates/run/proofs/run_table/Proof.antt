@@ -1,5 +1,7 @@
 -- `run::run_table` meets its contract. Assumes nothing.
 use mathlib.Core.Path.{_∙_}
+use Rattle.definitions.specs.Given.{carried}
+use Rattle.editor.proofs.Parts.{lent-same}
 use borrow.Author.Needs.{needs}
 use Rattle.run.proofs.Whole.{opened-ready, ends-holds, gives-done, gives-stopped}
 use Rattle.run.proofs.run_table.Statement.{statement}
@@ -14,7 +16,7 @@ run-items-requires c κs = let p = c .before .before .before .before .before .be
 close-journal-requires : tie.Need-close-journal-requires
 close-journal-requires c κs =
     let p = c .before .before .before .before .before .before .before .before .before .before .before .before .before .before .before .before .before .pre in
-    ends-holds _ _ _ _ (c .before .before .before .before .before .before .run-items .ensures .0 (p .2 .0) _ _ (p .2 .1) (opened-ready _ (p .0) (c .before .before .before .before .before .before .before .before .before .before .before .open-journal .ensures)))
+    ends-holds _ _ _ _ (c .before .before .before .before .before .before .run-items .ensures .0 (p .2 .0) _ carried _ (p .2 .1) (opened-ready _ (p .0) (c .before .before .before .before .before .before .before .before .before .before .before .open-journal .ensures)))
 
 same-length : tie.Need-same-length
 same-length c = search needs
@@ -24,8 +26,8 @@ same-length-2 c = search needs
 
 returns : tie.Need-returns
 returns c = λ is d.
-    gives-done _ _ _ _ _ (c .before .before .before .before .before .before .before .before .before .before .run-items .kept .1 .1 .1 .1 .1 .0 ∙ c .before .before .before .before .before .before .before .before .before .before .before .before .before .before .before .open-journal .kept .1 .0) (c .before .before .before .close-journal .ensures) _ _ _ (c .before .before .before .before .before .before .before .before .before .before .before .before .before .before .before .open-journal .kept .1 .0) is
-    (c .before .before .before .before .before .before .before .before .before .before .run-items .ensures .0 is _ _ d (opened-ready _ (c .before .before .before .before .before .before .before .before .before .before .before .before .before .before .before .before .before .before .before .before .before .pre .0) (c .before .before .before .before .before .before .before .before .before .before .before .before .before .before .before .open-journal .ensures)))
+    gives-done _ _ _ _ _ (c .before .before .before .before .before .before .before .before .before .before .run-items .kept .1 .1 .1 .1 .1 .0 ∙ c .before .before .before .before .before .before .before .before .before .before .before .before .before .before .before .open-journal .kept .1 .0) (c .before .before .before .close-journal .ensures) _ _ _ (lent-same _ _ (c .before .before .before .before .before .before .before .before .before .before .before .before .before .before .before .open-journal .kept .1 .0)) is
+    (c .before .before .before .before .before .before .before .before .before .before .run-items .ensures .0 is _ _ _ d (opened-ready _ (c .before .before .before .before .before .before .before .before .before .before .before .before .before .before .before .before .before .before .before .before .before .pre .0) (c .before .before .before .before .before .before .before .before .before .before .before .before .before .before .before .open-journal .ensures)))
     (c .if1 .taken) (c .before .before .before .before .before .before .before .before .before .before .run-items .ensures .1)
 
 same-length-3 : tie.Need-same-length-3
@@ -36,8 +38,8 @@ same-length-4 c = search needs
 
 returns-2 : tie.Need-returns-2
 returns-2 c = λ is d.
-    gives-stopped _ _ _ _ _ (c .before .before .before .before .before .before .before .before .before .before .run-items .kept .1 .1 .1 .1 .1 .0 ∙ c .before .before .before .before .before .before .before .before .before .before .before .before .before .before .before .open-journal .kept .1 .0) (c .before .before .before .close-journal .ensures) _ _ _ (c .before .before .before .before .before .before .before .before .before .before .before .before .before .before .before .open-journal .kept .1 .0) is
-    (c .before .before .before .before .before .before .before .before .before .before .run-items .ensures .0 is _ _ d (opened-ready _ (c .before .before .before .before .before .before .before .before .before .before .before .before .before .before .before .before .before .before .before .before .before .pre .0) (c .before .before .before .before .before .before .before .before .before .before .before .before .before .before .before .open-journal .ensures)))
+    gives-stopped _ _ _ _ _ (c .before .before .before .before .before .before .before .before .before .before .run-items .kept .1 .1 .1 .1 .1 .0 ∙ c .before .before .before .before .before .before .before .before .before .before .before .before .before .before .before .open-journal .kept .1 .0) (c .before .before .before .close-journal .ensures) _ _ _ (lent-same _ _ (c .before .before .before .before .before .before .before .before .before .before .before .before .before .before .before .open-journal .kept .1 .0)) is
+    (c .before .before .before .before .before .before .before .before .before .before .run-items .ensures .0 is _ _ _ d (opened-ready _ (c .before .before .before .before .before .before .before .before .before .before .before .before .before .before .before .before .before .before .before .before .before .pre .0) (c .before .before .before .before .before .before .before .before .before .before .before .before .before .before .before .open-journal .ensures)))
     (c .if1 .left)
 
 pub run-table-spec : {M : Type 1} → statement M

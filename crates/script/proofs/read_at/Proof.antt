@@ -4,6 +4,7 @@ use Rattle.script.proofs.Distances.{name-far, name-longer}
 use mathlib.Core.Path.{sym, _∙_}
 use native.Mathlib.Omega.{arith}
 use borrow.Author.Needs.{needs}
+use Rattle.script.proofs.OneRound.{separator-gives}
 use Rattle.script.proofs.read_at.Statement.{statement}
 use Rattle.script.proofs.read_at.Tie as tie
 
@@ -17,7 +18,7 @@ separator-requires : tie.Need-separator-requires
 separator-requires c κs = search needs
 
 returns : tie.Need-returns
-returns c = λ acc h. rw (at-semicolon _ _ acc _ _ (c .before .before .before .before .before .pre .1) (c .before .if1 .taken)) (c .separator .ensures _ _ acc h (omega arith) (omega (arith, c .before .before .before .before .before .pre .1)))
+returns c = λ acc h. rw (at-semicolon _ _ acc _ _ (c .before .before .before .before .before .pre .1) (c .before .if1 .taken)) (separator-gives _ _ _ acc h _ _ (c .separator .ensures) (omega arith) (omega (arith, c .before .before .before .before .before .pre .1)))
 
 line-end-requires : tie.Need-line-end-requires
 line-end-requires c κs = (_, c .before .before .before .before .before .before .pre .0 .0, c .before .before .before .before .before .before .pre .0 .1, (c .before .before .before .before .before .before .pre .1))
@@ -86,7 +87,7 @@ separator-requires-2 : tie.Need-separator-requires-2
 separator-requires-2 c κs = search needs
 
 returns-7 : tie.Need-returns-7
-returns-7 c = λ acc h. rw (at-comment _ _ acc _ _ (c .before .before .before .before .before .before .before .before .before .before .before .before .before .before .pre .1) (c .before .before .before .before .before .before .before .before .before .before .if1 .left) (c .before .before .before .before .before .before .before .before .before .if2 .left) (c .before .before .before .before .before .before .before .before .if3 .left) (c .before .before .before .before .before .before .before .if4 .left) (sym (c .before .before .before .before .before .before .is-digit .ensures) ∙ c .before .before .before .before .before .if5 .left) (sym (c .before .before .before .before .is-letter .ensures) ∙ c .before .before .before .if6 .left) _ (c .before .before .if7 .taken) (c .before .skip-comment .ensures .0)) (c .separator2 .ensures _ _ acc h (omega (arith, c .before .skip-comment .ensures .1 .0)) (c .before .skip-comment .ensures .1 .1))
+returns-7 c = λ acc h. rw (at-comment _ _ acc _ _ (c .before .before .before .before .before .before .before .before .before .before .before .before .before .before .pre .1) (c .before .before .before .before .before .before .before .before .before .before .if1 .left) (c .before .before .before .before .before .before .before .before .before .if2 .left) (c .before .before .before .before .before .before .before .before .if3 .left) (c .before .before .before .before .before .before .before .if4 .left) (sym (c .before .before .before .before .before .before .is-digit .ensures) ∙ c .before .before .before .before .before .if5 .left) (sym (c .before .before .before .before .is-letter .ensures) ∙ c .before .before .before .if6 .left) _ (c .before .before .if7 .taken) (c .before .skip-comment .ensures .0)) (separator-gives _ _ _ acc h _ _ (c .separator2 .ensures) (omega (arith, c .before .skip-comment .ensures .1 .0)) (c .before .skip-comment .ensures .1 .1))
 
 cast-named : tie.Need-cast-named
 cast-named c = omega (arith, c .before .before .before .before .before .before .before .before .before .before .shared-slice-known2 .given (c .before .before .before .before .before .before .before .before .before .before .before .before .before .args .st .at))

@@ -1,6 +1,7 @@
 -- `script::read_one` meets its contract. Assumes nothing.
 use Rattle.script.proofs.Classes.{at-end, past-spaces, stands-on, comes-from}
 use borrow.Author.Needs.{needs}
+use Rattle.script.proofs.OneRound.{end-gives}
 use Rattle.script.proofs.read_one.Statement.{statement}
 use Rattle.script.proofs.read_one.Tie as tie
 
@@ -27,7 +28,7 @@ returns-2 : tie.Need-returns-2
 returns-2 c = λ acc h.
     let sp = c .before .before .skip-spaces .ensures in
     rw (past-spaces (c .before .before .before .before .before .args .s .now) (c .before .before .before .before .before .args .w .now) (c .before .before .before .before .before .args .st) acc (c .before .before .skip-spaces .result) (sp .0), at-end _ _ acc _ _ (c .before .if1 .left))
-    (comes-from _ _ _ _ _ _ (sp .1 .0) (c .script-end .ensures _ _ acc (stands-on (c .before .before .before .before .before .args .s .now) (c .before .before .before .before .before .args .w .now) (c .before .before .before .before .before .args .st) acc (c .before .before .skip-spaces .result) h (sp .1 .0) (sp .1 .1))))
+    (comes-from _ _ _ _ _ _ (sp .1 .0) (end-gives _ _ _ acc (stands-on (c .before .before .before .before .before .args .s .now) (c .before .before .before .before .before .args .w .now) (c .before .before .before .before .before .args .st) acc (c .before .before .skip-spaces .result) h (sp .1 .0) (sp .1 .1)) _ (c .script-end .ensures)))
 
 pub read-one-spec : {M : Type 1} → statement M
 read-one-spec =

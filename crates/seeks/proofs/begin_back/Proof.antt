@@ -6,8 +6,8 @@ use Rattle.seeks.proofs.begin_back.Tie as tie
 returns : tie.Need-returns
 returns c = begin-back-line _ (c .if1 .taken)
 
-previous-line-requires : tie.Need-previous-line-requires
-previous-line-requires c κs = search needs
+go-back-requires : tie.Need-go-back-requires
+go-back-requires c κs = search needs
 
 enum-known-r : tie.Need-enum-known-r
 enum-known-r c = search needs
@@ -19,20 +19,20 @@ same-length : tie.Need-same-length
 same-length c = search needs
 
 returns-2 : tie.Need-returns-2
-returns-2 c = λ e t h i. begin-back-on _ _ _ _ (c .before .r .given .1) (c .before .before .before .before .before .before .before .if1 .left) e t h (c .before .before .before .before .before .previous-line .ensures e t h)
+returns-2 c = λ e x t h i. begin-back-on _ _ _ (c .before .before .before .before .before .before .before .if1 .left) _ (c .before .r .given .1) e x t h (c .before .before .before .before .before .go-back .ensures e x t h)
 
 same-length-2 : tie.Need-same-length-2
 same-length-2 c = search needs
 
 returns-3 : tie.Need-returns-3
-returns-3 c = λ e t h i. begin-back-stop _ _ _ _ _ (c .before .r2 .given .1) (c .before .before .before .before .before .before .before .if1 .left) e t h (c .before .before .before .before .before .previous-line .ensures e t h)
+returns-3 c = λ e x t h i. begin-back-stop _ _ _ (c .before .before .before .before .before .before .before .if1 .left) _ _ (c .before .r2 .given .1) e x t h (c .before .before .before .before .before .go-back .ensures e x t h)
 
 pub begin-back-spec : {M : Type 1} → statement M
 begin-back-spec =
     tie.close
     (tie.spec
     returns
-    previous-line-requires
+    go-back-requires
     enum-known-r
     enum-known-r-2
     same-length

@@ -1,7 +1,7 @@
 use Rattle.control.proofs.Leaving.{Left, left-start, left-looked, left-group, left-more, left-none}
 use Rattle.control.proofs.Standing.{stands-in}
 use Rattle.control.specs.declared.Control.{Control}
-use Rattle.control.specs.Shown.{Within}
+use Rattle.control.specs.Shown.{InFrames}
 use Rattle.definitions.specs.Control.{Item, Frame}
 use mathlib.Core.List.{List}
 use mathlib.Core.Path.{ap}
@@ -11,7 +11,7 @@ use Rattle.control.proofs.bodies.leave_to.Statement.{statement}
 use Rattle.control.proofs.bodies.leave_to.Tie as tie
 
 abbrev Inv-loop : tie.InvT-loop
-Inv-loop w end next depth d₀ d = (d ≤ depth) × ((s : List ℕ) (items : List Item) (frames : List Frame) → Within s w end next depth depth items frames → Left s w end depth d items frames)
+Inv-loop w end next depth d₀ d = (d ≤ depth) × ((s : List ℕ) (items : List Item) (frames : List Frame) → InFrames s w end next depth depth items frames → Left s w end depth d items frames)
 
 abbrev μ-loop : tie.MeasureT-loop
 μ-loop w end next depth d₀ d = d

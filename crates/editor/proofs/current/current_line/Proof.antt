@@ -1,5 +1,5 @@
 use native.Mathlib.Omega.{arith}
-use Rattle.editor.proofs.Landed.{passable}
+use Rattle.editor.proofs.Walking.{passable}
 use Rattle.editor.proofs.CurrentText.{kept-room, kept-line, other-room, other-line}
 use borrow.Author.Needs.{needs}
 use Rattle.editor.proofs.current.current_line.Statement.{statement}

@@ -2,7 +2,7 @@ use mathlib.Core.List.{List, _∷_}
 use native.Mathlib.Omega.{arith}
 use Rattle.definitions.specs.Journal.{Record}
 use Rattle.editor.specs.Shows.{Holds}
-use Rattle.editor.proofs.Landed.{passable}
+use Rattle.editor.proofs.Walking.{passable}
 use Rattle.editor.proofs.Texts.{copy-eof, copy-full, copy-on, copied-good, copied-short}
 use borrow.Author.Needs.{needs}
 use Rattle.editor.proofs.edits.copy_line.Statement.{statement}
@@ -13,7 +13,7 @@ first : (c : tie.Else1) → (b : List Record) × (r : Record) × (a : List Recor
 first c = passable (c .before .before .pre .2 .holds) (c .if1 .left)
 
 returns : tie.Need-returns
-returns c = λ e t h. copy-eof _ e t h (c .if1 .taken)
+returns c = λ e x t h. copy-eof x e t h (c .if1 .taken)
 
 line-text-requires : tie.Need-line-text-requires
 line-text-requires c κs = first (c .before)
@@ -31,23 +31,22 @@ same-length c = search needs
 
 returns-2 : tie.Need-returns-2
 returns-2 c =
-    let x = c .before .before .line-text in
-    λ e t h. copy-full _ _ e t (c .before .before .before .before .if1 .left) (x .ensures) h (c .if2 .taken)
+    λ e x t h. copy-full _ _ x e t h (c .before .before .before .before .if1 .left) (c .before .before .line-text .ensures) (c .if2 .taken)
 
 put-copy-requires : tie.Need-put-copy-requires
 put-copy-requires c κs =
     let w = first (c .before .before .before .before .before) in
     let x = c .before .before .before .line-text .ensures (w .0) (w .1) (w .2) (w .3) in
-    ((w .0, w .1 ∷ w .2, w .3), omega (arith, x .after), omega (arith, x .within), copied-good (w .3 .good .0) x, omega (arith, c .before .if2 .left, w .3 .order))
+    ((w .0, w .1 ∷ w .2, w .3), omega (arith, x .after), (omega (arith, x .within), copied-good (w .3 .good .0) x), omega (arith, c .before .if2 .left, w .3 .order))
 
 same-length-2 : tie.Need-same-length-2
 same-length-2 c = search needs
 
 returns-3 : tie.Need-returns-3
 returns-3 c =
-    let x = c .before .before .before .before .before .before .line-text in
+    let texts = c .before .before .before .before .before .before .line-text .ensures in
     let r = c .before .before .put-copy in
-    λ e t h. copy-on _ _ e t (c .before .before .before .before .before .before .before .before .if1 .left) (x .ensures) h (c .before .before .before .before .if2 .left) (r .ensures .0) (r .ensures .1)
+    λ e x t h. copy-on _ _ x e t h (c .before .before .before .before .before .before .before .before .if1 .left) texts (r .kept .0) (r .ensures)
 
 pub copy-line-spec : {M : Type 1} → statement M
 copy-line-spec =

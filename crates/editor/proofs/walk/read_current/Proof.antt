@@ -1,35 +1,36 @@
-use mathlib.Core.Path.{refl, sym, _∙_}
+use mathlib.Core.Path.{ap, _∙_}
 use mathlib.Core.Logic.{⊎-elim}
-use native.Mathlib.Omega.{arith}
-use Rattle.editor.proofs.Held.{placed-by}
-use Rattle.editor.proofs.Records.{new-line, old-line}
-use Rattle.editor.proofs.Landed.{reached-eof, reached-line}
+use Rattle.editor.specs.Shows.{raised}
+use Rattle.editor.proofs.Walking.{line-at-eof, line-at-new, line-at-old}
 use borrow.Author.Needs.{needs}
 use Rattle.editor.proofs.walk.read_current.Statement.{statement}
 use Rattle.editor.proofs.walk.read_current.Tie as tie
 
-add-s : tie.Need-add-s
-add-s c = search needs
-
-returns : tie.Need-returns
-returns c = ((λ b a h. reached-eof _ b a h (c .before .if1 .taken)), placed-by _ _ _, refl)
-
 shared-slice-read-if2 : tie.Need-shared-slice-read-if2
 shared-slice-read-if2 c = search needs
 
-add-reached : tie.Need-add-reached
-add-reached c = search needs
+read-to-requires : tie.Need-read-to-requires
+read-to-requires c κs = search needs
+
+returns : tie.Need-returns
+returns c = λ b a h. c .read-to .ensures ∙ ap (raised _) (line-at-new b a h (c .before .before .before .if1 .taken) (c .before .if2 .taken))
+
+add-read-to : tie.Need-add-read-to
+add-read-to c = search needs
+
+read-to-requires-2 : tie.Need-read-to-requires-2
+read-to-requires-2 c κs = search needs
 
 returns-2 : tie.Need-returns-2
-returns-2 c =
-    let more = c .before .before .before .before .if1 .left in
-    ((λ b a h. ⊎-elim (λ w. reached-line _ 1 _ b a h more (λ r m. old-line r (λ q. w .0 .taken (m ∙ q))) (omega (arith, w .1, c .if3 .taken))) (λ w. reached-line _ 0 _ b a h more (λ r m. new-line r (sym m ∙ w .0 .left)) (omega (arith, w .1, c .if3 .taken))) (c .before .before .if2 .came)), placed-by _ _ _, refl)
-
-returns-3 : tie.Need-returns-3
-returns-3 c =
-    let more = c .before .before .before .before .if1 .left in
-    ((λ b a h. ⊎-elim (λ w. reached-line _ 1 _ b a h more (λ r m. old-line r (λ q. w .0 .taken (m ∙ q))) (omega (arith, w .1, c .if3 .left))) (λ w. reached-line _ 0 _ b a h more (λ r m. new-line r (sym m ∙ w .0 .left)) (omega (arith, w .1, c .if3 .left))) (c .before .before .if2 .came)), placed-by _ _ _, refl)
+returns-2 c = λ b a h. c .read-to2 .ensures ∙ ap (raised _) (⊎-elim (λ w. line-at-old b a h (w .0 .taken) (w .2 .left)) (λ w. line-at-eof b a h (w .left)) (c .before .before .if1 .came))
 
 pub read-current-spec : {M : Type 1} → statement M
 read-current-spec =
-    tie.close (tie.spec add-s returns shared-slice-read-if2 add-reached returns-2 returns-3)
+    tie.close
+    (tie.spec
+    shared-slice-read-if2
+    read-to-requires
+    returns
+    add-read-to
+    read-to-requires-2
+    returns-2)

@@ -7,7 +7,7 @@ use lib.ListN.{length, drop}
 use Rattle.definitions.specs.Journal.{recordsOf}
 use Rattle.journal.specs.Measuring.{AtMost, checked}
 use Rattle.journal.proofs.Walk.{recordsFrom}
-use Rattle.journal.proofs.Here.{here, in-order, found-again}
+use Rattle.journal.proofs.Here.{here, in-order, found-again, ends-after}
 use Rattle.journal.proofs.Measures.{checkedFrom, nothing-small, counted-small, check-start, check-nowhere, check-equal, check-step, check-end, verdict-good, verdict-bad}
 use Rattle.journal.proofs.measure.check.Statement.{statement}
 use Rattle.journal.proofs.measure.check.Tie as tie
@@ -61,22 +61,13 @@ count-requires c κs =
 
 add-at : tie.Need-add-at Inv-loop μ-loop
 add-at c =
-    let l = c .before .before .before .before .before .before .before .before .before .loop in
-    let j = c .before .before .before .before .before .before .before .before .before .before .before .args .j .now in
     let x = c .before .before .before .before .before .found .given in
-    let w = here j (l .at) (x .0 .0) (sym (c .before .before .before .before .before .before .before .record-at .ensures) ∙ x .1) in
-    let i = w .inside in
-    omega arith
+    omega (arith, ends-after (c .before .before .before .before .before .before .before .before .before .before .before .args .j .now) (c .before .before .before .before .before .before .before .before .before .loop .at) (x .0 .0) (sym (c .before .before .before .before .before .before .before .record-at .ensures) ∙ x .1))
 
 loop-less : tie.Need-loop-less Inv-loop μ-loop
 loop-less c =
-    let l = c .before .before .before .before .before .before .before .before .before .loop in
-    let j = c .before .before .before .before .before .before .before .before .before .before .before .args .j .now in
     let x = c .before .before .before .before .before .found .given in
-    let w = here j (l .at) (x .0 .0) (sym (c .before .before .before .before .before .before .before .record-at .ensures) ∙ x .1) in
-    let i = w .inside in
-    let o = w .order in
-    omega (arith, w .first .low)
+    omega (arith, ends-after (c .before .before .before .before .before .before .before .before .before .before .before .args .j .now) (c .before .before .before .before .before .before .before .before .before .loop .at) (x .0 .0) (sym (c .before .before .before .before .before .before .before .record-at .ensures) ∙ x .1))
 
 loop-again : tie.Need-loop-again Inv-loop μ-loop
 loop-again c =

@@ -1,7 +1,7 @@
 -- `journal::measure::count` meets its contract. No sum passes the place that is reached. Assumes nothing.
 use mathlib.Core.Path.{ap, _∙_}
 use native.Mathlib.Omega.{arith}
-use Rattle.journal.specs.Measuring.{spanLines, spanLength, counted}
+use Rattle.journal.specs.Measuring.{spanLines, spanLength, withRecord}
 use Rattle.journal.proofs.Measures.{counted-small, counted-is}
 use borrow.Author.Needs.{needs}
 use Rattle.journal.proofs.measure.count.Statement.{statement}
@@ -17,7 +17,7 @@ span-lines-requires : tie.Need-span-lines-requires
 span-lines-requires c κs = search needs
 
 add-t6 : tie.Need-add-t6
-unfolding counted
+unfolding withRecord
 add-t6 c =
     let s = c .before .before .before .before in
     let small = counted-small (s .args .x) (s .pre .0) (s .args .m) (s .pre .1) in
@@ -28,7 +28,7 @@ span-length-requires : tie.Need-span-length-requires
 span-length-requires c κs = search needs
 
 add-t8 : tie.Need-add-t8
-unfolding counted
+unfolding withRecord
 add-t8 c =
     let s = c .before .before .before .before .before .before in
     let small = counted-small (s .args .x) (s .pre .0) (s .args .m) (s .pre .1) in
@@ -39,7 +39,7 @@ span-lines-requires-2 : tie.Need-span-lines-requires-2
 span-lines-requires-2 c κs = search needs
 
 add-t10 : tie.Need-add-t10
-unfolding counted
+unfolding withRecord
 add-t10 c =
     let s = c .before .before .before .before .before .before .before .before in
     let small = counted-small (s .args .x) (s .pre .0) (s .args .m) (s .pre .1) in
@@ -50,7 +50,7 @@ span-length-requires-2 : tie.Need-span-length-requires-2
 span-length-requires-2 c κs = search needs
 
 add-t12 : tie.Need-add-t12
-unfolding counted
+unfolding withRecord
 add-t12 c =
     let s = c .before .before .before .before .before .before .before .before .before .before in
     let small = counted-small (s .args .x) (s .pre .0) (s .args .m) (s .pre .1) in

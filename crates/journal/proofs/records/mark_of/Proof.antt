@@ -1,55 +1,53 @@
--- `journal::records::mark_of` meets its contract. Each way out has its tests. Assumes nothing.
 use borrow.Author.Tests.{ne-eqb}
 use Rattle.journal.specs.Records.{markOf}
+use borrow.Author.Needs.{needs}
 use Rattle.journal.proofs.records.mark_of.Statement.{statement}
 use Rattle.journal.proofs.records.mark_of.Tie as tie
 
+second-requires : tie.Need-second-requires
+second-requires c κs = search needs
+
+second-requires-2 : tie.Need-second-requires-2
+second-requires-2 c κs = search needs
+
+second-requires-3 : tie.Need-second-requires-3
+second-requires-3 c κs = search needs
+
+second-requires-4 : tie.Need-second-requires-4
+second-requires-4 c κs = search needs
+
 returns : tie.Need-returns
 unfolding markOf
-returns c = rw (c .before .if1 .taken, c .if2 .taken)
+returns c = rw (c .before .match .keys1) (c .second .ensures)
 
 returns-2 : tie.Need-returns-2
 unfolding markOf
-returns-2 c = rw (c .before .if1 .taken, ne-eqb _ 61 (c .if2 .left))
+returns-2 c = rw (c .before .match .keys2) (c .second2 .ensures)
 
 returns-3 : tie.Need-returns-3
 unfolding markOf
-returns-3 c = rw (c .before .if3 .taken, c .if4 .taken)
+returns-3 c = rw (c .before .match .keys3) (c .second3 .ensures)
 
 returns-4 : tie.Need-returns-4
 unfolding markOf
-returns-4 c = rw (c .before .if3 .taken, ne-eqb _ 62 (c .if4 .left))
+returns-4 c = rw (c .before .match .keys4) (c .second4 .ensures)
 
 returns-5 : tie.Need-returns-5
 unfolding markOf
-returns-5 c = rw (c .before .if5 .taken, c .if6 .taken)
-
-returns-6 : tie.Need-returns-6
-unfolding markOf
-returns-6 c = rw (c .before .if5 .taken, ne-eqb _ 45 (c .if6 .left))
-
-returns-7 : tie.Need-returns-7
-unfolding markOf
-returns-7 c = rw (c .before .if7 .taken, c .if8 .taken)
-
-returns-8 : tie.Need-returns-8
-unfolding markOf
-returns-8 c = rw (c .before .if7 .taken, ne-eqb _ 43 (c .if8 .left))
-
-returns-9 : tie.Need-returns-9
-unfolding markOf
-returns-9 c = rw (ne-eqb _ 61 (c .before .before .before .if1 .left), ne-eqb _ 60 (c .before .before .if3 .left), ne-eqb _ 45 (c .before .if5 .left), ne-eqb _ 43 (c .if7 .left))
+returns-5 c =
+    let none = c .match .rest in
+    rw (ne-eqb _ 61 (none .0 .0 .0 .1), ne-eqb _ 60 (none .0 .0 .1), ne-eqb _ 45 (none .0 .1), ne-eqb _ 43 (none .1))
 
 pub mark-of-spec : {M : Type 1} → statement M
 mark-of-spec =
     tie.close
     (tie.spec
+    second-requires
+    second-requires-2
+    second-requires-3
+    second-requires-4
     returns
     returns-2
     returns-3
     returns-4
-    returns-5
-    returns-6
-    returns-7
-    returns-8
-    returns-9)
+    returns-5)

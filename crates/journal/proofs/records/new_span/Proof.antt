@@ -1,4 +1,3 @@
--- `journal::records::new_span` meets its contract. By the mark. Assumes nothing.
 use Rattle.journal.specs.Records.{newSpan}
 use borrow.Author.Needs.{needs}
 use Rattle.journal.proofs.records.new_span.Statement.{statement}
@@ -7,20 +6,14 @@ use Rattle.journal.proofs.records.new_span.Tie as tie
 enum-told : tie.Need-enum-told
 enum-told c = search needs
 
-add-t4 : tie.Need-add-t4
-add-t4 c = search needs
-
-add-t5 : tie.Need-add-t5
-add-t5 c = search needs
+first-line-requires : tie.Need-first-line-requires
+first-line-requires c κs = search needs
 
 enum-told-2 : tie.Need-enum-told-2
 enum-told-2 c = search needs
 
-add-t6 : tie.Need-add-t6
-add-t6 c = search needs
-
-add-t7 : tie.Need-add-t7
-add-t7 c = search needs
+last-line-requires : tie.Need-last-line-requires
+last-line-requires c κs = search needs
 
 enum-told-3 : tie.Need-enum-told-3
 enum-told-3 c = search needs
@@ -28,19 +21,16 @@ enum-told-3 c = search needs
 enum-told-4 : tie.Need-enum-told-4
 enum-told-4 c = search needs
 
-add-t8 : tie.Need-add-t8
-add-t8 c = search needs
-
-add-t9 : tie.Need-add-t9
-add-t9 c = search needs
+first-line-requires-2 : tie.Need-first-line-requires-2
+first-line-requires-2 c κs = search needs
 
 returns : tie.Need-returns
 unfolding newSpan
-returns c = rw (c .before .before .enum-told .given .1)
+returns c = rw (c .before .enum-told .given .1) (c .first-line .ensures)
 
 returns-2 : tie.Need-returns-2
 unfolding newSpan
-returns-2 c = rw (c .before .before .enum-told2 .given .1)
+returns-2 c = rw (c .before .enum-told2 .given .1) (c .last-line .ensures)
 
 returns-3 : tie.Need-returns-3
 unfolding newSpan
@@ -48,22 +38,19 @@ returns-3 c = rw (c .enum-told3 .given .1)
 
 returns-4 : tie.Need-returns-4
 unfolding newSpan
-returns-4 c = rw (c .before .before .enum-told4 .given .1)
+returns-4 c = rw (c .before .enum-told4 .given .1) (c .first-line2 .ensures)
 
 pub new-span-spec : {M : Type 1} → statement M
 new-span-spec =
     tie.close
     (tie.spec
     enum-told
-    add-t4
-    add-t5
+    first-line-requires
     enum-told-2
-    add-t6
-    add-t7
+    last-line-requires
     enum-told-3
     enum-told-4
-    add-t8
-    add-t9
+    first-line-requires-2
     returns
     returns-2
     returns-3

@@ -1,4 +1,3 @@
--- `journal::records::old_span` meets its contract. By the mark. Assumes nothing.
 use Rattle.journal.specs.Records.{oldSpan}
 use borrow.Author.Needs.{needs}
 use Rattle.journal.proofs.records.old_span.Statement.{statement}
@@ -7,44 +6,35 @@ use Rattle.journal.proofs.records.old_span.Tie as tie
 enum-told : tie.Need-enum-told
 enum-told c = search needs
 
-add-t4 : tie.Need-add-t4
-add-t4 c = search needs
-
-add-t5 : tie.Need-add-t5
-add-t5 c = search needs
+first-line-requires : tie.Need-first-line-requires
+first-line-requires c κs = search needs
 
 enum-told-2 : tie.Need-enum-told-2
 enum-told-2 c = search needs
 
-add-t6 : tie.Need-add-t6
-add-t6 c = search needs
-
-add-t7 : tie.Need-add-t7
-add-t7 c = search needs
+first-line-requires-2 : tie.Need-first-line-requires-2
+first-line-requires-2 c κs = search needs
 
 enum-told-3 : tie.Need-enum-told-3
 enum-told-3 c = search needs
 
-add-t8 : tie.Need-add-t8
-add-t8 c = search needs
-
-add-t9 : tie.Need-add-t9
-add-t9 c = search needs
+first-line-requires-3 : tie.Need-first-line-requires-3
+first-line-requires-3 c κs = search needs
 
 enum-told-4 : tie.Need-enum-told-4
 enum-told-4 c = search needs
 
 returns : tie.Need-returns
 unfolding oldSpan
-returns c = rw (c .before .before .enum-told .given .1)
+returns c = rw (c .before .enum-told .given .1) (c .first-line .ensures)
 
 returns-2 : tie.Need-returns-2
 unfolding oldSpan
-returns-2 c = rw (c .before .before .enum-told2 .given .1)
+returns-2 c = rw (c .before .enum-told2 .given .1) (c .first-line2 .ensures)
 
 returns-3 : tie.Need-returns-3
 unfolding oldSpan
-returns-3 c = rw (c .before .before .enum-told3 .given .1)
+returns-3 c = rw (c .before .enum-told3 .given .1) (c .first-line3 .ensures)
 
 returns-4 : tie.Need-returns-4
 unfolding oldSpan
@@ -55,14 +45,11 @@ old-span-spec =
     tie.close
     (tie.spec
     enum-told
-    add-t4
-    add-t5
+    first-line-requires
     enum-told-2
-    add-t6
-    add-t7
+    first-line-requires-2
     enum-told-3
-    add-t8
-    add-t9
+    first-line-requires-3
     enum-told-4
     returns
     returns-2

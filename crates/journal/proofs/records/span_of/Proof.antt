@@ -1,6 +1,6 @@
 -- `journal::records::span_of` meets its contract. By the view. Assumes nothing.
 use mathlib.Core.Path.{_∙_}
-use Rattle.journal.specs.Records.{spanOf}
+use Rattle.journal.specs.Records.{viewSpan}
 use borrow.Author.Needs.{needs}
 use Rattle.journal.proofs.records.span_of.Statement.{statement}
 use Rattle.journal.proofs.records.span_of.Tie as tie
@@ -24,15 +24,15 @@ new-span-requires-2 : tie.Need-new-span-requires-2
 new-span-requires-2 c κs = search needs
 
 returns : tie.Need-returns
-unfolding spanOf
+unfolding viewSpan
 returns c = c .old-span .ensures ∙ rw (c .before .enum-told .given .1)
 
 returns-2 : tie.Need-returns-2
-unfolding spanOf
+unfolding viewSpan
 returns-2 c = c .new-span .ensures ∙ rw (c .before .enum-told2 .given .1)
 
 returns-3 : tie.Need-returns-3
-unfolding spanOf
+unfolding viewSpan
 returns-3 c = c .new-span2 .ensures ∙ rw (c .before .enum-told3 .given .1)
 
 pub span-of-spec : {M : Type 1} → statement M

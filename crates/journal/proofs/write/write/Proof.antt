@@ -4,7 +4,7 @@ use Prim.Native.Nat.{_-_, _≤_}
 use native.Mathlib.Omega.{arith}
 use borrow.Author.Needs.{needs}
 use lib.ListN.{length}
-use Rattle.journal.proofs.Here.{here, found-again}
+use Rattle.journal.proofs.Here.{here, found-again, ends-after}
 use Rattle.journal.proofs.Going.{Going, going-start, going-few, going-room, going-nowhere, going-next, going-end}
 use Rattle.journal.proofs.write.write.Statement.{statement}
 use Rattle.journal.proofs.write.write.Tie as tie
@@ -59,23 +59,13 @@ gone-by-requires c κs =
 
 add-at : tie.Need-add-at Inv-loop μ-loop
 add-at c =
-    let l = c .before .before .before .before .before .before .before .before .before .before .before .loop in
-    let a = c .before .before .before .before .before .before .before .before .before .before .before .before .before .before .args in
     let x = c .before .before .before .before .before .before .before .found .given in
-    let w = here (a .j .now) (l .at) (x .0 .0) (sym (c .before .before .before .before .before .before .before .before .before .record-at .ensures) ∙ x .1) in
-    let i = w .inside in
-    let o = w .order in
-    omega (arith, w .first .low)
+    omega (arith, ends-after (c .before .before .before .before .before .before .before .before .before .before .before .before .before .before .args .j .now) (c .before .before .before .before .before .before .before .before .before .before .before .loop .at) (x .0 .0) (sym (c .before .before .before .before .before .before .before .before .before .record-at .ensures) ∙ x .1))
 
 loop-less : tie.Need-loop-less Inv-loop μ-loop
 loop-less c =
-    let l = c .before .before .before .before .before .before .before .before .before .before .before .loop in
-    let a = c .before .before .before .before .before .before .before .before .before .before .before .before .before .before .args in
     let x = c .before .before .before .before .before .before .before .found .given in
-    let w = here (a .j .now) (l .at) (x .0 .0) (sym (c .before .before .before .before .before .before .before .before .before .record-at .ensures) ∙ x .1) in
-    let i = w .inside in
-    let o = w .order in
-    omega (arith, w .first .low)
+    omega (arith, ends-after (c .before .before .before .before .before .before .before .before .before .before .before .before .before .before .args .j .now) (c .before .before .before .before .before .before .before .before .before .before .before .loop .at) (x .0 .0) (sym (c .before .before .before .before .before .before .before .before .before .record-at .ensures) ∙ x .1))
 
 loop-again : tie.Need-loop-again Inv-loop μ-loop
 loop-again c =

@@ -1,9 +1,7 @@
-use mathlib.Core.Path.{ap, _∙_}
-use mathlib.Core.Bool.{true}
-use Prim.Native.Nat.{ℕ}
+use mathlib.Core.Path.{_∙_}
 use native.Mathlib.Omega.{arith}
+use Rattle.matching.proofs.Scans.{no-first, first-plain, first-upper}
 use borrow.Author.Needs.{needs}
-use Rattle.matching.proofs.Scans.{reach, no-first, first-plain, first-upper}
 use Rattle.matching.proofs.scan.next_place.Statement.{statement}
 use Rattle.matching.proofs.scan.next_place.Tie as tie
 
@@ -16,23 +14,20 @@ shared-slice-read-upper c = search needs
 upper-requires : tie.Need-upper-requires
 upper-requires c κs = search needs
 
-next-folded-requires : tie.Need-next-folded-requires
-next-folded-requires c κs = search needs
+past-requires : tie.Need-past-requires
+past-requires c κs = search needs
 
 returns-2 : tie.Need-returns-2
-returns-2 c =
-    let a = c .before .before .before .before .before .before .before .args in
-    c .next-folded .ensures ∙ ap (λ (b : ℕ). reach true b (a .line .now) (a .at) (a .top)) (c .before .upper .ensures)
-    ∙ first-upper _ _ _ _ _ (c .before .before .before .if2 .taken) (omega arith)
+returns-2 c = c .past .ensures .0 ∙ first-upper _ _ _ _ _ (c .before .before .before .if2 .taken) (omega arith) _ (c .before .upper .ensures)
 
-shared-slice-read-next-byte : tie.Need-shared-slice-read-next-byte
-shared-slice-read-next-byte c = search needs
+shared-slice-read-t13 : tie.Need-shared-slice-read-t13
+shared-slice-read-t13 c = search needs
 
-next-byte-requires : tie.Need-next-byte-requires
-next-byte-requires c κs = search needs
+past-requires-2 : tie.Need-past-requires-2
+past-requires-2 c κs = search needs
 
 returns-3 : tie.Need-returns-3
-returns-3 c = c .next-byte .ensures ∙ first-plain _ _ _ _ _ (c .before .before .if2 .left) (search needs)
+returns-3 c = c .past2 .ensures .0 ∙ first-plain _ _ _ _ _ (c .before .before .if2 .left) (search needs)
 
 pub next-place-spec : {M : Type 1} → statement M
 next-place-spec =
@@ -41,8 +36,8 @@ next-place-spec =
     returns
     shared-slice-read-upper
     upper-requires
-    next-folded-requires
+    past-requires
     returns-2
-    shared-slice-read-next-byte
-    next-byte-requires
+    shared-slice-read-t13
+    past-requires-2
     returns-3)

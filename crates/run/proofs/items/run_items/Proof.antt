@@ -6,21 +6,26 @@ use native.Mathlib.Omega.{arith}
 use lib.ListN.{length}
 use borrow.Author.Needs.{needs}
 use Rattle.definitions.specs.Tape.{Tape}
+use Rattle.definitions.specs.Given.{Carried}
 use Rattle.definitions.specs.Editor.{Ed}
+use Rattle.definitions.specs.StepProgram.{state}
 use Rattle.definitions.specs.Edit.{step}
 use Rattle.definitions.specs.Control.{Item, running}
 use Rattle.definitions.specs.Run.{End, run}
-use Rattle.commands.specs.Ready.{Ready}
+use Rattle.editor.specs.Shows.{lent}
+use Rattle.editor.specs.Current.{Ready}
+use Rattle.editor.proofs.Parts.{lent-same}
 use Rattle.steps.specs.Steps.{Comes}
 use Rattle.run.specs.Items.{Runnable}
+use Rattle.control.proofs.Pulling.{at-start}
 use Rattle.run.proofs.Going.{Going, Wanting, going-start, going-done, going-wants, going-late, going-yes, going-no, going-stops, lines-few, yes-lines, no-lines, stopped-place}
 use Rattle.run.proofs.items.run_items.Statement.{statement}
 use Rattle.run.proofs.items.run_items.Tie as tie
 
 abbrev Inv-loop : tie.InvT-loop
 Inv-loop script table w₀ end budget j₀ c₀ s₀ made₀ w j c s made =
-    ((items : List Item) (e : Ed) (t : Tape) → Runnable script w₀ end items → Ready table j₀ s₀ e t
-    → Going script table (length j₀) budget end w j c s made (run (step (length j₀)) budget 0 (running items []) e t))
+    ((items : List Item) (e : Ed) (z : Carried) (t : Tape) → Runnable script w₀ end items → Ready table j₀ s₀ e t
+    → Going script table (lent j₀) budget end w j c s made (run (step (lent j₀)) budget 0 (running items []) (state e z) t))
     × (made ≤ budget) × (c .lines ≤ made) × (length w ≡ length w₀) × (length j ≡ length j₀)
 
 abbrev μ-loop : tie.MeasureT-loop
@@ -30,15 +35,15 @@ abbrev μ-loop : tie.MeasureT-loop
 standing : (c : tie.At-loop Inv-loop μ-loop)
     → let a = c .before .before .before .before .before .before .args in
     let p = c .before .before .before .before .before .before .pre in
-    Going (a .script .now) (a .table .now) (length (a .j .now)) (a .budget) (a .end) (c .loop .w) (c .loop .j) (c .loop .c) (c .loop .s) (c .loop .made)
-    (run (step (length (a .j .now))) (a .budget) 0 (running (p .0 .0) []) (p .1 .0) (p .1 .1))
-standing c = let p = c .before .before .before .before .before .before .pre in c .loop .inv .0 (p .0 .0) (p .1 .0) (p .1 .1) (p .0 .1) (p .1 .2)
+    Going (a .script .now) (a .table .now) (lent (a .j .now)) (a .budget) (a .end) (c .loop .w) (c .loop .j) (c .loop .c) (c .loop .s) (c .loop .made)
+    (run (step (lent (a .j .now))) (a .budget) 0 (running (p .0 .0) []) (state (p .1 .0) Carried.carried) (p .1 .1))
+standing c = let p = c .before .before .before .before .before .before .pre in c .loop .inv .0 (p .0 .0) (p .1 .0) Carried.carried (p .1 .1) (p .0 .1) (p .1 .2)
 
 -- the step that is wanted, wherever the run stands
 wanting : (c : tie.After-known-told Inv-loop μ-loop)
     → let l = c .before .before .before .before .before .before .before .loop in
     let a = c .before .before .before .before .before .before .before .before .before .before .before .before .before .args in
-    (x : End × Tape) (g : Going (a .script .now) (a .table .now) (length (a .j .now)) (a .budget) (a .end) (l .w) (l .j) (l .c) (l .s) (l .made) x)
+    (x : End × Tape) (g : Going (a .script .now) (a .table .now) (lent (a .j .now)) (a .budget) (a .end) (l .w) (l .j) (l .c) (l .s) (l .made) x)
     → Wanting (a .script .now) (c .before .before .before .before .before .pull .last .0) (a .end) (l .c .lines + 1) (c .before .next .given .0 .0) (g .from)
 wanting c x g = going-wants g (c .before .before .before .before .before .before .before .before .before .before .before .before .before .pre .0 .1 .form) _ _ _ _ (c .before .next .given .1) (c .before .before .before .before .before .pull .ensures .1 _ (g .from) (g .stands))
 
@@ -46,21 +51,21 @@ wanting c x g = going-wants g (c .before .before .before .before .before .before
 came : (c : tie.After-answer-step Inv-loop μ-loop)
     → let l = c .before .before .before .before .before .before .before .before .before .before .before .loop in
     let a = c .before .before .before .before .before .before .before .before .before .before .before .before .before .before .before .before .before .args in
-    (x : End × Tape) (g : Going (a .script .now) (a .table .now) (length (a .j .now)) (a .budget) (a .end) (l .w) (l .j) (l .c) (l .s) (l .made) x)
+    (x : End × Tape) (g : Going (a .script .now) (a .table .now) (lent (a .j .now)) (a .budget) (a .end) (l .w) (l .j) (l .c) (l .s) (l .made) x)
     → let h = wanting (c .before .before .before .before) x g in
-    Comes (length (a .j .now)) (a .budget - l .made) (l .made) (g .from) (g .then) (g .rest) (a .table .now) (c .answer-step .last .1 .1 .1 .1 .0) (c .before .before .before .before .before .next .given .0 .0 .place) (h .c₁) (h .c₀) (c .answer-step .result)
+    Comes (lent (a .j .now)) (a .budget - l .made) (l .made) (g .from) (state (g .then) (g .carries)) (g .rest) (a .table .now) (c .answer-step .last .1 .1 .1 .1 .0) (c .before .before .before .before .before .next .given .0 .0 .place) (h .c₁) (h .c₀) (c .answer-step .result)
 came c x g =
     let h = wanting (c .before .before .before .before) x g in
-    rw (c .before .before .before .before .before .before .before .before .before .before .before .loop .inv .4) at (c .answer-step .ensures (g .from) (h .op) (h .c₁) (h .c₀) (g .then) (g .rest) (c .before .before .before .before .before .before .before .before .before .before .before .loop .made) (h .wants) (g .ready))
+    rw (lent-same (c .before .before .before .before .before .before .before .before .before .before .before .before .before .before .before .before .before .args .j .now) (c .before .before .before .before .before .before .before .before .before .before .before .loop .j) (c .before .before .before .before .before .before .before .before .before .before .before .loop .inv .4)) at (c .answer-step .ensures (g .from) (h .op) (h .c₁) (h .c₀) (g .then) (g .carries) (g .rest) (c .before .before .before .before .before .before .before .before .before .before .before .loop .made) (h .wants) (g .ready))
 
 start-requires : tie.Need-start-requires Inv-loop μ-loop
 start-requires c κs = tt
 
 loop-holds : tie.Need-loop-holds Inv-loop μ-loop
 loop-holds c = (
-  (λ items e t d r. going-start _ _ items e t (c .start .ensures .1 _ _ _ items (d .lie) (d .proper) (d .short) (d .room)) d r),
+  (λ items e z t d r. going-start _ _ items e z t (at-start _ _ _ items (d .start) _ (c .start .ensures)) d r),
   omega arith,
-  omega (arith, c .start .ensures .0),
+  rw (c .start .ensures) (omega arith),
   refl,
   refl,
 )
@@ -81,7 +86,7 @@ same-length-2 : tie.Need-same-length-2 Inv-loop μ-loop
 same-length-2 c = c .before .before .before .before .before .before .loop .inv .4
 
 returns : tie.Need-returns Inv-loop μ-loop
-returns c = ((λ items e t d r. let g = c .before .before .before .before .before .before .loop .inv .0 items e t d r in going-done g _ _ _ (c .enum-told .given .1) (c .before .before .before .before .pull .ensures .1 _ (g .from) (g .stands))), λ q. refl)
+returns c = ((λ items e z t d r. let g = c .before .before .before .before .before .before .loop .inv .0 items e z t d r in going-done g _ _ _ (c .enum-told .given .1) (c .before .before .before .before .pull .ensures .1 _ (g .from) (g .stands))), λ q. refl)
 
 same-length-3 : tie.Need-same-length-3 Inv-loop μ-loop
 same-length-3 c = c .before .before .before .before .before .before .pull .kept .0 ∙ c .before .before .before .before .before .before .before .before .loop .inv .3
@@ -90,7 +95,7 @@ same-length-4 : tie.Need-same-length-4 Inv-loop μ-loop
 same-length-4 c = c .before .before .before .before .before .before .before .before .loop .inv .4
 
 returns-2 : tie.Need-returns-2 Inv-loop μ-loop
-returns-2 c = ((λ items e t d r. let g = c .before .before .before .before .before .before .before .before .loop .inv .0 items e t d r in going-late g _ _ _ (wanting (c .before) _ g) (c .if1 .taken)), λ q. absurd (omega (arith, q)))
+returns-2 c = ((λ items e z t d r. let g = c .before .before .before .before .before .before .before .before .loop .inv .0 items e z t d r in going-late g _ _ _ (wanting (c .before) _ g) (c .if1 .taken)), λ q. absurd (omega (arith, q)))
 
 sub-answer-step : tie.Need-sub-answer-step Inv-loop μ-loop
 sub-answer-step c = search needs
@@ -99,7 +104,7 @@ answer-step-requires : tie.Need-answer-step-requires Inv-loop μ-loop
 answer-step-requires c κs =
     let g = standing (c .before .before .before .before .before .before .before .before .before .before) in
     let h = wanting (c .before .before .before) _ g in
-    ((g .from, h .op, h .c₁, h .c₀, h .wants), (g .then, g .rest, g .ready), omega arith, (λ q. omega (arith, lines-few _ _ _ _ _ _ h q)))
+    (((g .from, h .op, h .c₁, h .c₀, h .wants), (g .then, g .rest, g .ready)), omega arith, (λ q. omega (arith, lines-few _ _ _ _ _ _ h q)))
 
 add-made : tie.Need-add-made Inv-loop μ-loop
 add-made c = let w = came (c .before .before .before) _ (standing (c .before .before .before .before .before .before .before .before .before .before .before .before .before .before)) in omega (arith, w .few, c .before .before .before .before .before .before .before .before .before .before .before .before .before .before .before .before .before .before .before .before .pre .2)
@@ -117,7 +122,7 @@ loop-again : tie.Need-loop-again Inv-loop μ-loop
 loop-again c =
     let w = came (c .before .before .before .before .before .before .before) _ (standing (c .before .before .before .before .before .before .before .before .before .before .before .before .before .before .before .before .before .before)) in
     let h = wanting (c .before .before .before .before .before .before .before .before .before .before .before) _ (standing (c .before .before .before .before .before .before .before .before .before .before .before .before .before .before .before .before .before .before)) in (
-      (λ items e t d r. let g = c .before .before .before .before .before .before .before .before .before .before .before .before .before .before .before .before .before .before .loop .inv .0 items e t d r in going-yes g _ refl _ _ _ _ (wanting (c .before .before .before .before .before .before .before .before .before .before .before) _ g) _ (came (c .before .before .before .before .before .before .before) _ g) _ (c .go-on .ensures) _ (c .before .before .looked .given .1)),
+      (λ items e z t d r. let g = c .before .before .before .before .before .before .before .before .before .before .before .before .before .before .before .before .before .before .loop .inv .0 items e z t d r in going-yes g _ refl _ _ _ _ (wanting (c .before .before .before .before .before .before .before .before .before .before .before) _ g) _ (came (c .before .before .before .before .before .before .before) _ g) _ (c .go-on .ensures) _ (c .before .before .looked .given .1)),
       omega (arith, w .few),
       yes-lines _ (c .before .before .before .before .before .before .before .before .before .before .before .before .next .given .0 .0) _ _ (c .go-on .ensures) (h .shown .yes-few) (omega (arith, w .began, c .before .before .before .before .before .before .before .before .before .before .before .before .before .before .before .before .before .before .loop .inv .2)),
       c .before .before .before .before .before .before .before .before .before .before .before .before .before .before .before .before .pull .kept .0 ∙ c .before .before .before .before .before .before .before .before .before .before .before .before .before .before .before .before .before .before .loop .inv .3,
@@ -137,7 +142,7 @@ loop-again-2 : tie.Need-loop-again-2 Inv-loop μ-loop
 loop-again-2 c =
     let w = came (c .before .before .before .before .before .before .before) _ (standing (c .before .before .before .before .before .before .before .before .before .before .before .before .before .before .before .before .before .before)) in
     let h = wanting (c .before .before .before .before .before .before .before .before .before .before .before) _ (standing (c .before .before .before .before .before .before .before .before .before .before .before .before .before .before .before .before .before .before)) in (
-      (λ items e t d r. let g = c .before .before .before .before .before .before .before .before .before .before .before .before .before .before .before .before .before .before .loop .inv .0 items e t d r in going-no g _ refl _ _ _ _ (wanting (c .before .before .before .before .before .before .before .before .before .before .before) _ g) _ (came (c .before .before .before .before .before .before .before) _ g) _ (c .go-on2 .ensures) _ (c .before .before .looked2 .given .1)),
+      (λ items e z t d r. let g = c .before .before .before .before .before .before .before .before .before .before .before .before .before .before .before .before .before .before .loop .inv .0 items e z t d r in going-no g _ refl _ _ _ _ (wanting (c .before .before .before .before .before .before .before .before .before .before .before) _ g) _ (came (c .before .before .before .before .before .before .before) _ g) _ (c .go-on2 .ensures) _ (c .before .before .looked2 .given .1)),
       omega (arith, w .few),
       no-lines _ (c .before .before .before .before .before .before .before .before .before .before .before .before .next .given .0 .0) _ _ (c .go-on2 .ensures) (h .shown .no-few) (omega (arith, w .began, c .before .before .before .before .before .before .before .before .before .before .before .before .before .before .before .before .before .before .loop .inv .2)),
       c .before .before .before .before .before .before .before .before .before .before .before .before .before .before .before .before .pull .kept .0 ∙ c .before .before .before .before .before .before .before .before .before .before .before .before .before .before .before .before .before .before .loop .inv .3,
@@ -157,7 +162,7 @@ same-length-6 : tie.Need-same-length-6 Inv-loop μ-loop
 same-length-6 c = c .before .before .before .before .before .before .before .answer-step .kept .1 .1 .1 .1 .0 ∙ c .before .before .before .before .before .before .before .before .before .before .before .before .before .before .before .before .before .before .loop .inv .4
 
 returns-3 : tie.Need-returns-3 Inv-loop μ-loop
-returns-3 c = ((λ items e t d r. let g = c .before .before .before .before .before .before .before .before .before .before .before .before .before .before .before .before .before .before .loop .inv .0 items e t d r in going-stops g _ refl _ _ _ _ (wanting (c .before .before .before .before .before .before .before .before .before .before .before) _ g) _ (came (c .before .before .before .before .before .before .before) _ g) _ _ (c .before .before .looked3 .given .1) _ (c .stopped .ensures)), λ q. stopped-place _ _ _ _ _ (c .stopped .ensures) q)
+returns-3 c = ((λ items e z t d r. let g = c .before .before .before .before .before .before .before .before .before .before .before .before .before .before .before .before .before .before .loop .inv .0 items e z t d r in going-stops g _ refl _ _ _ _ (wanting (c .before .before .before .before .before .before .before .before .before .before .before) _ g) _ (came (c .before .before .before .before .before .before .before) _ g) _ _ (c .before .before .looked3 .given .1) _ (c .stopped .ensures)), λ q. stopped-place _ _ _ _ _ (c .stopped .ensures) q)
 
 pub run-items-spec : {M : Type 1} → statement M
 run-items-spec =

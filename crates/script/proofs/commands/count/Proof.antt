@@ -12,23 +12,17 @@ digits-requires c κs = search needs
 returns : tie.Need-returns
 returns c = refused-written _ _ _ _ _ _ _ _ (over-count _ _ _ _ _ _ (c .before .before .before .before .pre .0) (c .before .digits .ensures .0) (c .if1 .taken))
 
-head-requires : tie.Need-head-requires
-head-requires c κs = search needs
+cast-head-with : tie.Need-cast-head-with
+cast-head-with c = search needs
 
-cast-put-one : tie.Need-cast-put-one
-cast-put-one c = search needs
-
-mul-put-one : tie.Need-mul-put-one
-mul-put-one c = search needs
-
-add-put-one : tie.Need-add-put-one
-add-put-one c = search needs
+head-with-requires : tie.Need-head-with-requires
+head-with-requires c κs = search needs
 
 put-one-requires : tie.Need-put-one-requires
 put-one-requires c κs = search needs
 
-add-t16 : tie.Need-add-t16
-add-t16 c = search needs
+add-t14 : tie.Need-add-t14
+add-t14 c = search needs
 
 same-length : tie.Need-same-length
 same-length c = search needs
@@ -38,10 +32,10 @@ returns-2 c =
     let start = c .before .before .before .before .before .before .before .before .before .before in
     let d = c .before .before .before .before .before .before .before .digits in
     let far = digits-far _ _ _ _ (omega (arith, start .pre .0 .inside)) (start .pre .1) (d .ensures .0) in
-    rw (c .before .before .put-one .ensures) (small-count _ _ _ _ _ _ (start .pre .0) (d .ensures .0) (count-apart _ _ _ _ _ (start .pre .1) (digits-end _ _ _ _ (d .ensures .0))) _ (c .before .before .before .head .ensures .0) (c .before .before .before .before .before .if2 .taken) (far .0) (d .ensures .1 .1))
+    rw (c .before .before .put-one .ensures) (small-count _ _ _ _ _ _ (start .pre .0) (d .ensures .0) (count-apart _ _ _ _ _ (start .pre .1) (digits-end _ _ _ _ (d .ensures .0))) _ (c .before .before .before .head-with .ensures) (c .before .before .before .before .before .if2 .taken) (far .0) (d .ensures .1 .1))
 
-head-requires-2 : tie.Need-head-requires-2
-head-requires-2 c κs = search needs
+head-requires : tie.Need-head-requires
+head-requires c κs = search needs
 
 cast-put-two : tie.Need-cast-put-two
 cast-put-two c = search needs
@@ -49,8 +43,8 @@ cast-put-two c = search needs
 put-two-requires : tie.Need-put-two-requires
 put-two-requires c κs = search needs
 
-add-t22 : tie.Need-add-t22
-add-t22 c = search needs
+add-t20 : tie.Need-add-t20
+add-t20 c = search needs
 
 same-length-2 : tie.Need-same-length-2
 same-length-2 c = search needs
@@ -60,7 +54,7 @@ returns-3 c =
     let start = c .before .before .before .before .before .before .before .before .before .before in
     let d = c .before .before .before .before .before .before .before .digits in
     let far = digits-far _ _ _ _ (omega (arith, start .pre .0 .inside)) (start .pre .1) (d .ensures .0) in
-    rw (c .before .before .put-two .ensures) (large-count _ _ _ _ _ _ (start .pre .0) (d .ensures .0) (count-apart _ _ _ _ _ (start .pre .1) (digits-end _ _ _ _ (d .ensures .0))) _ (c .before .before .before .head2 .ensures .0) (c .before .before .before .before .before .before .if1 .left) (far .1 (omega (arith, c .before .before .before .before .before .if2 .left))) (d .ensures .1 .1))
+    rw (c .before .before .put-two .ensures) (large-count _ _ _ _ _ _ (start .pre .0) (d .ensures .0) (count-apart _ _ _ _ _ (start .pre .1) (digits-end _ _ _ _ (d .ensures .0))) _ (c .before .before .before .head .ensures) (c .before .before .before .before .before .before .if1 .left) (far .1 (omega (arith, c .before .before .before .before .before .if2 .left))) (d .ensures .1 .1))
 
 pub count-spec : {M : Type 1} → statement M
 count-spec =
@@ -68,17 +62,15 @@ count-spec =
     (tie.spec
     digits-requires
     returns
-    head-requires
-    cast-put-one
-    mul-put-one
-    add-put-one
+    cast-head-with
+    head-with-requires
     put-one-requires
-    add-t16
+    add-t14
     same-length
     returns-2
-    head-requires-2
+    head-requires
     cast-put-two
     put-two-requires
-    add-t22
+    add-t20
     same-length-2
     returns-3)

@@ -1,7 +1,7 @@
 -- `script::commands::deletes` meets its contract. Assumes nothing.
 use Rattle.script.proofs.LineSpans.{deletes-refused, deletes-written}
 use native.Mathlib.Omega.{arith}
-use Rattle.reader.proofs.Given.{span-are}
+use Rattle.lexer.proofs.Given.{span-are}
 use borrow.Author.Needs.{needs}
 use Rattle.script.proofs.commands.deletes.Statement.{statement}
 use Rattle.script.proofs.commands.deletes.Tie as tie

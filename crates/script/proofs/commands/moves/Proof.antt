@@ -1,6 +1,6 @@
 -- `script::commands::moves` meets its contract. Assumes nothing.
 use Rattle.script.proofs.Items.{moves-refused, moves-written}
-use Rattle.reader.proofs.Given.{within-is}
+use Rattle.lexer.proofs.Given.{within-is}
 use native.Mathlib.Omega.{arith}
 use borrow.Author.Needs.{needs}
 use Rattle.script.proofs.commands.moves.Statement.{statement}
@@ -49,7 +49,7 @@ returns-2 c =
     let is = c .before .before .before .before .before .before .first .given .1 in
     let sp = c .before .before .before .before .before .before .before .before .before .skip-spaces .ensures in
     rw (c .before .before .put-two .ensures)
-    (moves-written _ _ _ _ _ (c .before .before .before .before .before .before .before .before .before .before .before .before .pre) _ (sp .0) (sp .1 .0) _ (t .ensures .0) _ _ _ (c .before .before .before .head .ensures .0) is (within-is _ _ _ _ _ _ is (t .ensures .1)))
+    (moves-written _ _ _ _ _ (c .before .before .before .before .before .before .before .before .before .before .before .before .pre) _ (sp .0) (sp .1 .0) _ (t .ensures .0) _ _ _ (c .before .before .before .head .ensures) is (within-is _ _ _ _ _ _ is (t .ensures .1)))
 
 pub moves-spec : {M : Type 1} → statement M
 moves-spec =

@@ -1,6 +1,5 @@
 -- `script::commands::prefix_word` meets its contract. Assumes nothing.
-use lib.ListN.{set}
-use mathlib.Core.Path.{ap, refl}
+use mathlib.Core.Path.{refl}
 use borrow.Author.Needs.{needs}
 use Rattle.script.proofs.commands.prefix_word.Statement.{statement}
 use Rattle.script.proofs.commands.prefix_word.Tie as tie
@@ -21,7 +20,7 @@ same-length : tie.Need-same-length
 same-length c = search needs
 
 returns : tie.Need-returns
-returns c = (rw (c .head .ensures .0), refl)
+returns c = (rw (c .head .ensures), refl)
 
 pub prefix-word-spec : {M : Type 1} → statement M
 prefix-word-spec =

@@ -1,6 +1,5 @@
 -- `script::commands::whole_word` meets its contract. Assumes nothing.
-use lib.ListN.{set}
-use mathlib.Core.Path.{ap, refl}
+use mathlib.Core.Path.{refl}
 use borrow.Author.Needs.{needs}
 use Rattle.script.proofs.commands.whole_word.Statement.{statement}
 use Rattle.script.proofs.commands.whole_word.Tie as tie
@@ -21,7 +20,7 @@ same-length : tie.Need-same-length
 same-length c = search needs
 
 returns : tie.Need-returns
-returns c = (rw (c .head .ensures .0), refl)
+returns c = (rw (c .head .ensures), refl)
 
 pub whole-word-spec : {M : Type 1} → statement M
 whole-word-spec = tie.close (tie.spec head-requires mul-w slice-write-w add-t7 same-length returns)

@@ -3,7 +3,7 @@ use lib.ListN.{length}
 use Prim.Native.Nat.{_-_}
 use Rattle.script.proofs.Nested.{missing-body, unmatched, closing-plain, closing-alone, closing-else}
 use Rattle.script.proofs.OneRound.{refusal-comes}
-use Rattle.reader.proofs.Given.{else-after, else-missing}
+use Rattle.lexer.proofs.Given.{else-after, else-missing}
 use mathlib.Core.Path.{refl}
 use native.Mathlib.Omega.{arith}
 use borrow.Author.Needs.{needs}

@@ -47,7 +47,7 @@ same-length : tie.Need-same-length
 same-length c = search needs
 
 returns : tie.Need-returns
-returns c = λ s acc h less. opens-bare s _ _ acc h less (c .before .before .before .pre .1) (c .before .before .before .pre .2) _ (c .head .ensures .0)
+returns c = λ s acc h less. opens-bare s _ _ acc h less (c .before .before .before .pre .1) (c .before .before .before .pre .2) _ (c .head .ensures)
 
 pub open-bare-spec : {M : Type 1} → statement M
 open-bare-spec =

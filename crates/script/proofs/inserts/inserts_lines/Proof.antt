@@ -1,6 +1,6 @@
 -- `script::inserts::inserts_lines` meets its contract. Assumes nothing.
 use Rattle.script.proofs.Inserting.{spot-refused, spot-read, lines-refused, lines-read, inserts-written}
-use Rattle.reader.proofs.Given.{within-is, inserted-are}
+use Rattle.lexer.proofs.Given.{within-is, inserted-are}
 use native.Mathlib.Omega.{arith}
 use borrow.Author.Needs.{needs}
 use Rattle.script.proofs.inserts.inserts_lines.Statement.{statement}
@@ -73,7 +73,7 @@ returns-3 c =
     let m = inserted-are _ _ _ _ _ _ are (l .1) in
     let a = within-is _ _ _ _ _ _ is (t .1) in
     rw (c .before .before .put-four .ensures)
-    (inserts-written _ _ _ _ _ (c .before .before .before .before .before .before .before .before .before .before .before .before .before .before .before .before .pre) _ _ _ _ _ _ _ (a .0) (c .before .before .before .before .head .ensures .0) (c .before .before .before .spot-word .ensures)
+    (inserts-written _ _ _ _ _ (c .before .before .before .before .before .before .before .before .before .before .before .before .before .before .before .before .pre) _ _ _ _ _ _ _ (a .0) (c .before .before .before .before .head .ensures) (c .before .before .before .spot-word .ensures)
     (lines-read _ _ _ _ _ (c .before .before .before .before .before .before .before .before .before .before .before .before .before .before .before .before .pre) _ _ _ (l .0) _ _ (spot-read _ _ _ _ _ (c .before .before .before .before .before .before .before .before .before .before .before .before .before .before .before .before .pre) _ _ (t .0) _ _ is) _ _ _ are)
     (omega (arith, a .1, m .1)) (m .2) (m .3) (m .4))
 

@@ -1,6 +1,6 @@
 -- `script::inserts::inserts_string` meets its contract. Assumes nothing.
 use Rattle.script.proofs.Inserting.{string-refused, string-written}
-use Rattle.reader.proofs.Given.{quoted-are}
+use Rattle.lexer.proofs.Given.{quoted-are}
 use native.Mathlib.Omega.{arith}
 use borrow.Author.Needs.{needs}
 use Rattle.script.proofs.inserts.inserts_string.Statement.{statement}
@@ -47,7 +47,7 @@ returns-2 c =
     let q = c .before .before .before .before .before .before .before .before .before .quoted .ensures in
     let sp = c .before .before .before .before .before .before .before .before .before .before .skip-spaces .ensures in
     rw (c .before .before .put-two .ensures)
-    (string-written _ _ _ _ _ (c .before .before .before .before .before .before .before .before .before .before .before .before .before .pre) _ (sp .0) (sp .1 .0) _ (q .0) _ _ _ _ _ (c .before .before .before .before .head .ensures .0) (c .before .before .before .string-word .ensures) is (quoted-are _ _ _ _ _ _ is (q .1)))
+    (string-written _ _ _ _ _ (c .before .before .before .before .before .before .before .before .before .before .before .before .before .pre) _ (sp .0) (sp .1 .0) _ (q .0) _ _ _ _ _ (c .before .before .before .before .head .ensures) (c .before .before .before .string-word .ensures) is (quoted-are _ _ _ _ _ _ is (q .1)))
 
 pub inserts-string-spec : {M : Type 1} → statement M
 inserts-string-spec =

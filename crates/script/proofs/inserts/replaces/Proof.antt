@@ -1,6 +1,6 @@
 -- `script::inserts::replaces` meets its contract. Assumes nothing.
 use Rattle.script.proofs.Inserting.{span-refused, span-read, lines-refused, lines-read, replaces-written}
-use Rattle.reader.proofs.Given.{span-are, inserted-are}
+use Rattle.lexer.proofs.Given.{span-are, inserted-are}
 use native.Mathlib.Omega.{arith}
 use borrow.Author.Needs.{needs}
 use Rattle.script.proofs.inserts.replaces.Statement.{statement}

@@ -1,8 +1,9 @@
 -- `script::qualified::alters` meets its contract. Assumes nothing.
+use Rattle.items.specs.Words.{head}
 use Rattle.script.proofs.Qualifying.{refused-pair, can-write, string-room, string-small, alters-written, alters-refused}
 use Rattle.strings.proofs.Callers.{pair-at}
 use lib.ListN.{length, length-set}
-use Prim.Native.Nat.{ℕ, _+_, _*_}
+use Prim.Native.Nat.{ℕ}
 use mathlib.Core.Path.{_≡_, ap, _∙_}
 use native.Mathlib.Omega.{arith}
 use borrow.Author.Needs.{needs}
@@ -80,7 +81,7 @@ same-length c =
     simp length-set (c .before .before .before .put-string .kept .0 ∙ length-set (a .w .now) (a .k) (c .before .before .before .before .before .head .result))
 
 returns-2 : tie.Need-returns-2
-returns-2 c = alters-written _ _ _ _ _ (c .before .before .before .before .before .before .before .before .before .before .before .before .before .pre) _ _ _ (c .before .before .before .before .before .before .before .before .before .before .two-strings .ensures) _ _ _ _ _ _ (c .before .before .before .before .before .before .before .before .both .given .1) _ _ _ _ (c .before .before .before .before .before .head .ensures .0 ∙ ap (λ (n : ℕ). n + 64 * c .before .before .before .before .before .before .before .before .before .before .before .before .before .args .place) (c .before .before .before .before .before .before .change-kind .ensures .0)) (c .before .before .before .put-string .ensures .0) (c .before .before .before .put-string .ensures .1) (c .string-word .ensures)
+returns-2 c = alters-written _ _ _ _ _ (c .before .before .before .before .before .before .before .before .before .before .before .before .before .pre) _ _ _ (c .before .before .before .before .before .before .before .before .before .before .two-strings .ensures) _ _ _ _ _ _ (c .before .before .before .before .before .before .before .before .both .given .1) _ _ _ _ (c .before .before .before .before .before .head .ensures ∙ ap (λ (n : ℕ). head n (c .before .before .before .before .before .before .before .before .before .before .before .before .before .args .place)) (c .before .before .before .before .before .before .change-kind .ensures .0)) (c .before .before .before .put-string .ensures .0) (c .before .before .before .put-string .ensures .1) (c .string-word .ensures)
 
 pub alters-spec : {M : Type 1} → statement M
 alters-spec =

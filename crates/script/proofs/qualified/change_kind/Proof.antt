@@ -1,6 +1,6 @@
 -- `script::qualified::change_kind` meets its contract. Assumes nothing.
-use Rattle.reader.specs.Shapes.{changeOf}
-use Rattle.script.specs.Words.{changeKind}
+use Rattle.lexer.specs.Shapes.{changeOf}
+use Rattle.items.specs.Kinds.{changeKind}
 use native.Mathlib.Omega.{arith}
 use borrow.Author.Needs.{needs}
 use Rattle.script.proofs.qualified.change_kind.Statement.{statement}

@@ -1,7 +1,6 @@
 -- `script::qualified::point_kind` meets its contract. Assumes nothing.
-use Rattle.script.specs.Words.{pointKind}
+use Rattle.items.specs.Kinds.{pointKind}
 use native.Mathlib.Omega.{arith}
-use borrow.Author.Needs.{needs}
 use Rattle.script.proofs.qualified.point_kind.Statement.{statement}
 use Rattle.script.proofs.qualified.point_kind.Tie as tie
 

@@ -1,8 +1,9 @@
 -- `script::qualified::points` meets its contract. Assumes nothing.
+use Rattle.items.specs.Words.{head}
 use Rattle.script.proofs.Qualifying.{refused-string, can-write, string-room, points-written, points-refused}
 use Rattle.strings.proofs.Callers.{string-at}
 use lib.ListN.{length-set}
-use Prim.Native.Nat.{ℕ, _+_, _*_}
+use Prim.Native.Nat.{ℕ}
 use mathlib.Core.Path.{ap, _∙_}
 use native.Mathlib.Omega.{arith}
 use borrow.Author.Needs.{needs}
@@ -53,7 +54,7 @@ same-length : tie.Need-same-length
 same-length c = c .before .before .put-string .kept .0 ∙ simp length-set
 
 returns-2 : tie.Need-returns-2
-returns-2 c = points-written _ _ _ _ _ (c .before .before .before .before .before .before .before .before .before .before .before .before .pre) _ _ (c .before .before .before .before .before .before .before .before .before .qualified-string .ensures) _ _ _ _ (c .before .before .before .before .before .before .before .string .given .1) _ _ _ (c .before .before .before .before .head .ensures .0 ∙ ap (λ (n : ℕ). n + 64 * c .before .before .before .before .before .before .before .before .before .before .before .before .args .place) (c .before .before .before .before .before .point-kind .ensures .0)) (c .before .before .put-string .ensures .0) (c .before .before .put-string .ensures .1)
+returns-2 c = points-written _ _ _ _ _ (c .before .before .before .before .before .before .before .before .before .before .before .before .pre) _ _ (c .before .before .before .before .before .before .before .before .before .qualified-string .ensures) _ _ _ _ (c .before .before .before .before .before .before .before .string .given .1) _ _ _ (c .before .before .before .before .head .ensures ∙ ap (λ (n : ℕ). head n (c .before .before .before .before .before .before .before .before .before .before .before .before .args .place)) (c .before .before .before .before .before .point-kind .ensures .0)) (c .before .before .put-string .ensures .0) (c .before .before .put-string .ensures .1)
 
 pub points-spec : {M : Type 1} → statement M
 points-spec =

@@ -48,7 +48,7 @@ use denote.Triple.Walked.{says, needs, Stays, stay-ref, stay-none, gave-slice, w
 use denote.Exit.{yes}
 use Rattle.definitions.specs.Control.{Item as Command-item}
 use Rattle.definitions.specs.Script.{readOne}
-use Rattle.script.specs.Reading.{readingOf, Stands, Comes}
+use Rattle.script.specs.Reading.{readingOf, ReadSoFar, RoundRead}
 use Rattle.script.specs.Placed.{standing, placeAfter}
 use Rattle.script.specs.declared.State.{State}
 use Rattle.script.specs.declared.Step.{Step}
@@ -97,10 +97,10 @@ module _ {M : Type 1} (𝓤 : URA M) (H : Heap 𝓤) (A : Atoms 𝓤) (W : Given
     (b o : ℕ) (γ : GName) (h : Reader) (w : RefT (List ℕ)) (room : Room u32 (length (w .now))) (st : State) (is-st : Is St.the-row st (St′.lowered st ∷ [])) where
   -- what the contract asks, and what it says of the words zs and the answer r
   abbrev Asked : Type 0
-  Asked = (acc : List Command-item) × Stands (now (h .script)) (now w) (standing st (h .at)) acc
+  Asked = (acc : List Command-item) × ReadSoFar (now (h .script)) (now w) (standing st (h .at)) acc
 
   abbrev Says : List ℕ → Step → Type 0
-  Says zs r = (acc : List Command-item) → Stands (now (h .script)) (now w) (standing st (h .at)) acc → Comes (now (h .script)) zs (h .at) (readOne (readingOf (now (h .script)) (now w) (standing st (h .at)) acc)) r
+  Says zs r = (acc : List Command-item) → ReadSoFar (now (h .script)) (now w) (standing st (h .at)) acc → RoundRead (now (h .script)) zs (h .at) (readOne (readingOf (now (h .script)) (now w) (standing st (h .at)) acc)) r
 
   abbrev x : RefT Reader × (RefT (List ℕ) × (State × Unit {0}))
   x = (record { ptr = (b, o); name = γ; now = h }, (w, (st, tt)))

@@ -49,7 +49,7 @@ use denote.Triple.Walked.{says, needs, Stays, stay-none, stay-none-slice, gave-s
 use denote.Exit.{yes}
 use Rattle.definitions.specs.Control.{Item as Command-item}
 use Rattle.definitions.specs.Script.{readOne}
-use Rattle.script.specs.Reading.{readingOf, Stands, Comes}
+use Rattle.script.specs.Reading.{readingOf, ReadSoFar, RoundRead}
 use Rattle.script.specs.Placed.{placeAfter, movedTo}
 use Rattle.script.specs.declared.State.{State}
 use Rattle.script.specs.declared.Step.{Step}
@@ -87,10 +87,10 @@ module _ {M : Type 1} (𝓤 : URA M) (H : Heap 𝓤) (A : Atoms 𝓤) (W : Given
     (s w : RefT (List ℕ)) (room : Room u32 (length (w .now))) (st : State) (is-st : Is St.the-row st (St′.lowered st ∷ [])) where
   -- what the contract asks, and what it says of the words zs and the answer r
   abbrev Asked : Type 0
-  Asked = (acc : List Command-item) × Stands (now s) (now w) st acc
+  Asked = (acc : List Command-item) × ReadSoFar (now s) (now w) st acc
 
   abbrev Says : List ℕ → Step → Type 0
-  Says zs r = (acc : List Command-item) → Stands (now s) (now w) st acc → Comes (now s) zs (st .at) (readOne (readingOf (now s) (now w) st acc)) r
+  Says zs r = (acc : List Command-item) → ReadSoFar (now s) (now w) st acc → RoundRead (now s) zs (st .at) (readOne (readingOf (now s) (now w) st acc)) r
 
   abbrev x : RefT (List ℕ) × (RefT (List ℕ) × (State × Unit {0}))
   x = (s, (w, (st, tt)))

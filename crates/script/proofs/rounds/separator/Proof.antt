@@ -1,13 +1,16 @@
 -- `script::rounds::separator` meets its contract. Assumes nothing.
-use Rattle.script.proofs.OneRound.{refusal-comes, separator-missing, passed}
+use borrow.Author.Tests.{eq-eqb, ne-eqb}
+use Rattle.script.specs.Placed.{separated}
 use Rattle.script.proofs.rounds.separator.Statement.{statement}
 use Rattle.script.proofs.rounds.separator.Tie as tie
 
 returns : tie.Need-returns
-returns c = λ s w acc h far within. refusal-comes s w _ _ _ _ (separator-missing s w _ acc h (c .if1 .taken) acc _)
+unfolding separated
+returns c = rw (ne-eqb _ _ (c .if1 .taken))
 
 returns-2 : tie.Need-returns-2
-returns-2 c = λ s w acc h far within. passed s w _ acc h _ (c .if1 .left) far within
+unfolding separated
+returns-2 c = rw (eq-eqb _ _ (c .if1 .left))
 
 pub separator-spec : {M : Type 1} → statement M
 separator-spec = tie.close (tie.spec returns returns-2)

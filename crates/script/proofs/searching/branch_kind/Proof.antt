@@ -1,7 +1,6 @@
 -- `script::searching::branch_kind` meets its contract. Assumes nothing.
-use Rattle.script.specs.Searches.{branchKind}
+use Rattle.items.specs.Kinds.{branchKind}
 use native.Mathlib.Omega.{arith}
-use borrow.Author.Needs.{needs}
 use Rattle.script.proofs.searching.branch_kind.Statement.{statement}
 use Rattle.script.proofs.searching.branch_kind.Tie as tie
 

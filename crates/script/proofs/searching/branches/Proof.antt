@@ -1,7 +1,8 @@
 -- `script::searching::branches` meets its contract. Assumes nothing.
+use Rattle.items.specs.Words.{head}
 use Rattle.script.proofs.Searched.{refused-search, found, branches-written, branches-refused}
 use mathlib.Core.Path.{ap}
-use Prim.Native.Nat.{ℕ, _+_, _*_}
+use Prim.Native.Nat.{ℕ}
 use borrow.Author.Needs.{needs}
 use Rattle.script.proofs.searching.branches.Statement.{statement}
 use Rattle.script.proofs.searching.branches.Tie as tie
@@ -34,7 +35,7 @@ same-length-2 : tie.Need-same-length-2
 same-length-2 c = search needs
 
 returns-2 : tie.Need-returns-2
-returns-2 c = branches-written _ _ _ _ _ _ (c .before .before .before .before .before .before .before .before .before .before .before .pre .0) _ _ (c .before .before .before .before .before .before .search-words .ensures) _ _ (c .before .before .found .given .1) _ _ (c .before .before .before .before .before .before .before .before .before .before .before .pre .1) (ap (λ (n : ℕ). n + 64 * c .before .before .before .before .before .before .before .before .before .before .before .args .place) (c .before .before .before .before .before .before .before .branch-kind .ensures .0)) (c .skip-then .ensures .0) (c .skip-then .ensures .1 .0) (c .skip-then .ensures .1 .1)
+returns-2 c = branches-written _ _ _ _ _ _ (c .before .before .before .before .before .before .before .before .before .before .before .pre .0) _ _ (c .before .before .before .before .before .before .search-words .ensures) _ _ (c .before .before .found .given .1) _ _ (c .before .before .before .before .before .before .before .before .before .before .before .pre .1) (ap (λ (n : ℕ). head n (c .before .before .before .before .before .before .before .before .before .before .before .args .place)) (c .before .before .before .before .before .before .before .branch-kind .ensures .0)) (c .skip-then .ensures .0) (c .skip-then .ensures .1 .0) (c .skip-then .ensures .1 .1)
 
 pub branches-spec : {M : Type 1} → statement M
 branches-spec =

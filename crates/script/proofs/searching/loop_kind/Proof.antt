@@ -1,7 +1,6 @@
 -- `script::searching::loop_kind` meets its contract. Assumes nothing.
-use Rattle.script.specs.Searches.{loopKind}
+use Rattle.items.specs.Kinds.{loopKind}
 use native.Mathlib.Omega.{arith}
-use borrow.Author.Needs.{needs}
 use Rattle.script.proofs.searching.loop_kind.Statement.{statement}
 use Rattle.script.proofs.searching.loop_kind.Tie as tie
 

@@ -1,7 +1,8 @@
 -- `script::searching::loops` meets its contract. Assumes nothing.
+use Rattle.items.specs.Words.{head}
 use Rattle.script.proofs.Searched.{refused-search, loops-written, loops-refused}
 use mathlib.Core.Path.{ap}
-use Prim.Native.Nat.{ℕ, _+_, _*_}
+use Prim.Native.Nat.{ℕ}
 use borrow.Author.Needs.{needs}
 use Rattle.script.proofs.searching.loops.Statement.{statement}
 use Rattle.script.proofs.searching.loops.Tie as tie
@@ -31,7 +32,7 @@ same-length-2 : tie.Need-same-length-2
 same-length-2 c = search needs
 
 returns-2 : tie.Need-returns-2
-returns-2 c = loops-written _ _ _ _ _ _ (c .before .before .before .before .before .before .before .before .before .before .pre .0) _ _ (c .before .before .before .before .before .search-words .ensures) _ _ (c .before .found .given .1) _ (c .before .before .before .before .before .before .before .before .before .before .pre .1) (ap (λ (n : ℕ). n + 64 * c .before .before .before .before .before .before .before .before .before .before .args .place) (c .before .before .before .before .before .before .loop-kind .ensures .0))
+returns-2 c = loops-written _ _ _ _ _ _ (c .before .before .before .before .before .before .before .before .before .before .pre .0) _ _ (c .before .before .before .before .before .search-words .ensures) _ _ (c .before .found .given .1) _ (c .before .before .before .before .before .before .before .before .before .before .pre .1) (ap (λ (n : ℕ). head n (c .before .before .before .before .before .before .before .before .before .before .args .place)) (c .before .before .before .before .before .before .loop-kind .ensures .0))
 
 pub loops-spec : {M : Type 1} → statement M
 loops-spec =

@@ -56,7 +56,7 @@ returns-2 c =
     let is = c .before .before .before .before .before .before .found .given .1 in
     let wr = c .before .before .before .before .before .before .before .before .before .before .search .ensures .reads _ _ is in
     searched-next _ _ _ _ _ _ _ _ _ _ refl
-    (rw (c .before .before .put-two .ensures) (search-found _ _ _ _ _ (c .before .before .before .before .before .before .before .before .before .before .before .before .before .before .pre .0) _ (c .before .before .before .before .before .before .before .before .before .before .search .kept .1 .1 .0) (wr .kept) _ _ _ _ _ (c .before .before .before .head .ensures .0) wr))
+    (rw (c .before .before .put-two .ensures) (search-found _ _ _ _ _ (c .before .before .before .before .before .before .before .before .before .before .before .before .before .before .pre .0) _ (c .before .before .before .before .before .before .before .before .before .before .search .kept .1 .1 .0) (wr .kept) _ _ _ _ _ (c .before .before .before .head .ensures) wr))
 
 pub search-words-spec : {M : Type 1} → statement M
 search-words-spec =

@@ -1,6 +1,6 @@
 -- `script::searching::seek_kind` meets its contract. Assumes nothing.
-use Rattle.reader.specs.Shapes.{seekOf}
-use Rattle.script.specs.Words.{seekKind}
+use Rattle.lexer.specs.Shapes.{seekOf}
+use Rattle.items.specs.Kinds.{seekKind}
 use native.Mathlib.Omega.{arith}
 use borrow.Author.Needs.{needs}
 use Rattle.script.proofs.searching.seek_kind.Statement.{statement}

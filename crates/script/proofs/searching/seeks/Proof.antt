@@ -1,7 +1,8 @@
 -- `script::searching::seeks` meets its contract. Assumes nothing.
+use Rattle.items.specs.Words.{head}
 use Rattle.script.proofs.Searched.{refused-search, seeks-written, seeks-refused}
 use mathlib.Core.Path.{ap}
-use Prim.Native.Nat.{ℕ, _+_, _*_}
+use Prim.Native.Nat.{ℕ}
 use borrow.Author.Needs.{needs}
 use Rattle.script.proofs.searching.seeks.Statement.{statement}
 use Rattle.script.proofs.searching.seeks.Tie as tie
@@ -31,7 +32,7 @@ same-length-2 : tie.Need-same-length-2
 same-length-2 c = search needs
 
 returns-2 : tie.Need-returns-2
-returns-2 c = seeks-written _ _ _ _ _ _ (c .before .before .before .before .before .before .before .before .before .before .pre) _ _ (c .before .before .before .before .before .search-words .ensures) _ _ (c .before .found .given .1) _ (ap (λ (n : ℕ). n + 64 * c .before .before .before .before .before .before .before .before .before .before .args .place) (c .before .before .before .before .before .before .seek-kind .ensures .0))
+returns-2 c = seeks-written _ _ _ _ _ _ (c .before .before .before .before .before .before .before .before .before .before .pre) _ _ (c .before .before .before .before .before .search-words .ensures) _ _ (c .before .found .given .1) _ (ap (λ (n : ℕ). head n (c .before .before .before .before .before .before .before .before .before .before .args .place)) (c .before .before .before .before .before .before .seek-kind .ensures .0))
 
 pub seeks-spec : {M : Type 1} → statement M
 seeks-spec =

@@ -12,8 +12,8 @@ use Rattle.searches.proofs.+alternatives+conjunction+part.Lts-conjuncti
 use Rattle.searches.proofs.part.Reads as part
 use Rattle.searches.proofs.part.Kinds as part-kinds
 use Rattle.searches.proofs.+alternatives+conjunction+part.Lts-part as part-lts
-use Rattle.reader.proofs.bytes.next_byte.Reads as next-byte-reads
-use Rattle.reader.proofs.spaces.skip_spaces.Reads as skip-spaces-reads
+use Rattle.lexer.proofs.bytes.next_byte.Reads as next-byte-reads
+use Rattle.lexer.proofs.spaces.skip_spaces.Reads as skip-spaces-reads
 use Rattle.searches.proofs.closed.Reads as closed-reads
 use Rattle.searches.proofs.closing.Reads as closing-reads
 use Rattle.searches.proofs.joint.Reads as joint-reads

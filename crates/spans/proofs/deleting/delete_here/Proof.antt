@@ -1,5 +1,5 @@
-use Rattle.spans.proofs.Ends.{goes-some}
-use Rattle.spans.proofs.Results.{found-to, span-ready, delete-on, delete-stop}
+use Rattle.definitions.specs.Given.{carried}
+use Rattle.spans.proofs.Wholes.{reached, reached-spanned, here-stop, delete-on}
 use borrow.Author.Needs.{needs}
 use Rattle.spans.proofs.deleting.delete_here.Statement.{statement}
 use Rattle.spans.proofs.deleting.delete_here.Tie as tie
@@ -17,14 +17,13 @@ strike-span-requires : tie.Need-strike-span-requires
 strike-span-requires c κs =
     let s = c .before .before .before .before .before .before .before in
     let w = s .pre in
-    let g = goes-some (s .args .through) in
-    span-ready (w .2 .holds) (found-to (g .0) (w .0) (w .1) (w .2) (c .before .before .found2 .given .1) (c .before .before .before .before .span-end .ensures (w .0) (w .1) (g .0) (w .2) (g .1)))
+    reached-spanned (reached _ (c .before .before .found2 .given .1) (c .before .before .before .before .span-end .ensures (w .0) carried (w .1) (w .2)))
 
 same-length : tie.Need-same-length
 same-length c = search needs
 
 returns : tie.Need-returns
-returns c = λ e t b h g. delete-stop b e t h (c .before .found .given .1) (c .before .before .before .span-end .ensures e t b h g)
+returns c = λ e x t h. here-stop x _ _ e t _ (c .before .found .given .1) (c .before .before .before .span-end .ensures e x t h)
 
 same-length-2 : tie.Need-same-length-2
 same-length-2 c = search needs
@@ -32,7 +31,7 @@ same-length-2 c = search needs
 returns-2 : tie.Need-returns-2
 returns-2 c =
     let r = c .before .before .strike-span in
-    λ e t b h g. delete-on b e t h (found-to b e t h (c .before .before .before .before .before .found2 .given .1) (c .before .before .before .before .before .before .before .span-end .ensures e t b h g)) (r .ensures .0) (r .ensures .1) (r .ensures .2) (r .kept .0)
+    λ e x t h. delete-on _ _ x _ e t (r .kept .0) (reached _ (c .before .before .before .before .before .found2 .given .1) (c .before .before .before .before .before .before .before .span-end .ensures e x t h)) (r .ensures)
 
 pub delete-here-spec : {M : Type 1} → statement M
 delete-here-spec =

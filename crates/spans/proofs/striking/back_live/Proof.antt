@@ -5,7 +5,7 @@ use native.Mathlib.Omega.{arith}
 use lib.ListN.{length}
 use Rattle.definitions.specs.Journal.{Record}
 use Rattle.editor.specs.Shows.{Holds, Stays}
-use Rattle.editor.proofs.Answers.{unpassable}
+use Rattle.editor.proofs.Walking.{unpassable}
 use Rattle.editor.proofs.Held.{stays-still, stays-on}
 use Rattle.spans.proofs.Struck.{Withdrawing, withdrawing-start, withdrawn-start, withdrawn-all, withdrawing-in, withdrawing-live, withdrawing-dead}
 use Rattle.spans.proofs.striking.back_live.Statement.{statement}

@@ -1,7 +1,5 @@
 use mathlib.Core.Path.{refl, sym, _∙_}
-use Rattle.editor.proofs.Held.{holds-lists, held-length}
-use Rattle.editor.proofs.Held.{stays-on}
-use Rattle.spans.proofs.Struck.{}
+use Rattle.editor.proofs.Held.{stays-on, holds-lists, held-length}
 use borrow.Author.Needs.{needs}
 use Rattle.spans.proofs.striking.strike_back.Statement.{statement}
 use Rattle.spans.proofs.striking.strike_back.Tie as tie

@@ -1,21 +1,20 @@
-use mathlib.Core.Path.{_∙_}
 use borrow.Author.Needs.{needs}
-use Rattle.spans.proofs.Struck.{landed-by}
+use Rattle.spans.proofs.Struck.{spanned-until, struck-span}
 use Rattle.spans.proofs.striking.strike_span.Statement.{statement}
 use Rattle.spans.proofs.striking.strike_span.Tie as tie
 
 strike-to-requires : tie.Need-strike-to-requires
-strike-to-requires c κs = search needs
+strike-to-requires c κs = spanned-until (c .before .before .pre)
 
 land-live-requires : tie.Need-land-live-requires
 land-live-requires c κs =
-    let w = c .before .before .before .before .before .before .pre in
+    let w = spanned-until (c .before .before .before .before .before .before .pre) in
     let s = c .before .before .before .strike-to in
     (_, _, s .ensures .0 (w .0) (w .1) (w .2) (w .3) (w .4))
 
 read-current-requires : tie.Need-read-current-requires
 read-current-requires c κs =
-    let w = c .before .before .before .before .before .before .before .before .before .before .pre in
+    let w = spanned-until (c .before .before .before .before .before .before .before .before .before .before .pre) in
     let s = c .before .before .before .before .before .before .before .strike-to in
     let l = c .before .before .before .land-live in
     (_, _, l .ensures .0 _ _ (s .ensures .0 (w .0) (w .1) (w .2) (w .3) (w .4)))
@@ -27,8 +26,7 @@ returns : tie.Need-returns
 returns c =
     let s = c .before .before .before .before .before .before .before .before .strike-to .ensures in
     let l = c .before .before .before .before .land-live .ensures in
-    let r = c .read-current .ensures in
-    ((λ b m d h q. landed-by _ d (s .0 b m d h q) (l .0) (r .0) (l .1 ∙ s .1 .furthest) (l .2 ∙ s .1 .lines) (r .1)), r .1 .lines ∙ l .2 ∙ s .1 .lines, r .2 ∙ l .3)
+    λ e x t n h w. struck-span _ x e t n h w s l (c .read-current .ensures)
 
 pub strike-span-spec : {M : Type 1} → statement M
 strike-span-spec =

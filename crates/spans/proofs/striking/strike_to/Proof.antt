@@ -5,9 +5,8 @@ use native.Mathlib.Omega.{arith}
 use lib.ListN.{length}
 use Rattle.definitions.specs.Journal.{Record, erase}
 use Rattle.editor.specs.Records.{encAll}
-use Rattle.editor.specs.Shows.{Holds, Stays}
+use Rattle.editor.specs.Shows.{Holds, Stays, strikeOver}
 use Rattle.editor.proofs.Held.{stays-still, stays-on}
-use Rattle.spans.specs.Spans.{strikeOver}
 use Rattle.spans.proofs.Struck.{Going, going-start, going-first, going-done, going-on, strike-one, strike-none, strike-still}
 use Rattle.spans.proofs.striking.strike_to.Statement.{statement}
 use Rattle.spans.proofs.striking.strike_to.Tie as tie

@@ -18,8 +18,8 @@ no-qualifier-requires c κs = search needs
 
 returns : tie.Need-returns
 returns c =
-    let start = c .before .before .before .before .before in
     let number = c .before .before .before .number in
+    let start = c .before .before .before .before .before in
     let told = c .before .enum-told in
     let no-qualifier = c .no-qualifier in
     count-refused (start .args .s .now) (start .args .at) (start .args .q) _ (number .ensures .0) _ _ _ (told .given .1) (no-qualifier .ensures)

@@ -77,14 +77,8 @@ loop-less : tie.Need-loop-less Inv-loop μ-loop
 loop-less c =
     let start = c .before .before .before .before .before .before .before .before .before .before .before .before in
     let loop = c .before .before .before .before .before .before .before .before .loop in
-    let next-byte = c .before .before .before .before .before .before .before .next-byte in
-    let is-delimiter = c .before .before .before .before .before .before .is-delimiter in
-    let else1 = c .before .before .before .before .before .if1 in
-    let read-qualifier = c .before .before .before .before .read-qualifier in
-    let step = c .before .before .step in
-    let skip-spaces2 = c .skip-spaces2 in
-    let on = further (start .args .s .now) (start .args .at) (start .args .in-search) (loop .q) (loop .i) (loop .inv) (rw (← next-byte .ensures) (sym (is-delimiter .ensures) ∙ else1 .left)) _ (read-qualifier .ensures) _ _ (step .given .1) in
-    omega (arith, on .0, skip-spaces2 .ensures .1 .0, skip-spaces2 .ensures .1 .1)
+    let on = further (start .args .s .now) (start .args .at) (start .args .in-search) (loop .q) (loop .i) (loop .inv) (rw (← c .before .before .before .before .before .before .before .next-byte .ensures) (sym (c .before .before .before .before .before .before .is-delimiter .ensures) ∙ c .before .before .before .before .before .if1 .left)) _ (c .before .before .before .before .read-qualifier .ensures) _ _ (c .before .before .step .given .1) in
+    omega (arith, on .0, c .skip-spaces2 .ensures .1 .0, c .skip-spaces2 .ensures .1 .1)
 
 loop-again : tie.Need-loop-again Inv-loop μ-loop
 loop-again c =

@@ -5,7 +5,8 @@ use native.Mathlib.Omega.{arith}
 use lib.ListN.{take, drop}
 use Rattle.text.specs.Words.{textRun}
 use Rattle.text.proofs.Texts.{run-here, run-next, run-none}
-use Rattle.text.proofs.Ends.{is-text, text-low, text-high}
+use Rattle.theorems.specs.Lines.{text-of}
+use Rattle.text.proofs.Ends.{text-low, text-high}
 use Rattle.text.proofs.runs.text_by_bytes.Statement.{statement}
 use Rattle.text.proofs.runs.text_by_bytes.Tie as tie
 
@@ -43,7 +44,7 @@ loop-less c = omega arith
 loop-again : tie.Need-loop-again Inv-loop μ-loop
 loop-again c =
     let l = c .before .before .before .before .before .loop in
-    (omega arith, l .inv .1 ∙ run-next _ (l .i) _ (omega arith) (omega arith) (is-text _ (omega arith) (omega arith)))
+    (omega arith, l .inv .1 ∙ run-next _ (l .i) _ (omega arith) (omega arith) (text-of _ (omega arith) (omega arith)))
 
 returns-3 : tie.Need-returns-3 Inv-loop μ-loop
 returns-3 c = let l = c .before .loop in sym (l .inv .1 ∙ run-none _ (l .i) _ (omega arith))

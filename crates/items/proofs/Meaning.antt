@@ -1,0 +1,246 @@
+-- What the words of a simple command say, by its kind. Assumes nothing.
+use mathlib.Core.Path.{_≡_, refl, ap, sym, _∙_, subst}
+use mathlib.Core.Logic.{inl, inr}
+use mathlib.Core.Bool.{Bool, true, false, cond, _&&_}
+use mathlib.Core.Option.{Option, none}
+use mathlib.Core.List.{List, [], _∷_}
+use Prim.Native.Nat.{ℕ, _+_, _*_, _/_, _%_, _<_}
+use native.Mathlib.Omega.{arith}
+use lib.ListN.{length, getD}
+use lib.Dec.{eqb}
+use borrow.Author.Tests.{ne-eqb, eqb-true}
+use Rattle.definitions.specs.Bytes.{Line, isLine, allLines}
+use Rattle.definitions.specs.Matching.{Qualified}
+use Rattle.definitions.specs.Editor.{Target, Through, alone, upTo, toEof}
+use Rattle.definitions.specs.Edit.{Change, Op, round, quit, test, begin, beginBack, find, findBack, findDelete, move, next, previous, delete, replace, insert, copy, alter, point, pointStart, right, left, cutByte, recase}
+use Rattle.theorems.specs.Lines.{and-left, and-right}
+use Rattle.theorems.specs.GoodItems.{goodTarget, goodThrough, goodOption, goodQualified, goodOp}
+use Rattle.matching.proofs.Reading.{ReadsAs, one-reads}
+use Rattle.items.specs.Kinds.{wordShape, pairShape, fourShape, stringShape, changeShape, shapeOf, quitKind, nextKind, previousKind, copyKind, pointStartKind, rightKind, leftKind, cutByteKind, moveKind, deleteKind, insertStringKind, replaceKind, insertLinesKind, caseKind, pointKind, changeKind}
+use Rattle.items.specs.Words.{head, kindAt, numberAt, targetCode, spotCode, endBit, lastCode, StringIn, LinesIn, SpanAt, OpAt}
+use Rattle.items.specs.Ends.{isOneWord}
+use Rattle.items.specs.Arguments.{spanFrom, spanThrough}
+use Rattle.items.specs.Simple.{byteOp, wordOp, CommandAt}
+use Rattle.items.proofs.FirstWords.{head-kind, head-number}
+use Rattle.items.proofs.Reading.{case-shape, point-shape, change-shape, op-reads}
+
+-- how far D and R go, as it is read
+unfoldable pub throughCode : Through → ℕ
+throughCode alone = 0
+throughCode (upTo b) = b
+throughCode toEof = 65536
+
+-- the lines of D and R, as they are read
+pub record SpanRead (w : List ℕ) (k : ℕ) (a : Target) (b : Through) : Type 0 where
+  pub from : spanFrom (getD w (k + 1) 0) ≡ targetCode a
+  pub before : targetCode a < 65536
+  pub through : spanThrough (numberAt w k) (getD w (k + 1) 0) ≡ throughCode b
+  pub good-from : goodTarget a ≡ true
+  pub good-through : goodThrough b ≡ true
+
+-- ---- the forms of simple commands
+
+pub data Form : Type 0 where
+  words moving deleting stringing replacing lining changing pointing unknown : Form
+
+unfoldable pub formOf : ℕ → Form
+formOf kind =
+    cond (eqb (shapeOf kind) wordShape) words
+    (cond (eqb (shapeOf kind) changeShape) changing
+    (cond (eqb (shapeOf kind) stringShape) pointing
+    (cond (eqb kind moveKind) moving
+    (cond (eqb kind deleteKind) deleting
+    (cond (eqb kind insertStringKind) stringing
+    (cond (eqb kind replaceKind) replacing
+    (cond (eqb kind insertLinesKind) lining unknown)))))))
+
+-- what the words from k up to m say of a command of this kind
+unfoldable pub Means : (s w : List ℕ) (k m kind : ℕ) → Form → Op → Type 0
+Means s w k m kind words op = (m ≡ k + 1) × (op ≡ wordOp kind)
+Means s w k m kind moving op = (a : Target) × (op ≡ move a) × (m ≡ k + 2) × (getD w (k + 1) 0 ≡ targetCode a) × (goodTarget a ≡ true)
+Means s w k m kind deleting op = (a : Target) × (b : Through) × (op ≡ delete a b) × (m ≡ k + 2) × SpanRead w k a b
+Means s w k m kind stringing op = (l : Line) × (op ≡ insert none (l ∷ [])) × (m ≡ k + 2) × StringIn s (getD w (k + 1) 0) l × (isLine l ≡ true)
+Means s w k m kind replacing op =
+    (a : Target) × (b : Through) × (ls : List Line) × (op ≡ replace a b ls) × (m ≡ k + 4) × SpanRead w k a b × LinesIn s (getD w (k + 2) 0) (getD w (k + 3) 0) ls × (allLines ls ≡ true)
+Means s w k m kind lining op =
+    (a : Option Target) × (ls : List Line) × (op ≡ insert a ls) × (m ≡ k + 4) × (getD w (k + 1) 0 ≡ spotCode a) × (goodOption a ≡ true)
+    × LinesIn s (getD w (k + 2) 0) (getD w (k + 3) 0) ls × (allLines ls ≡ true)
+Means s w k m kind changing op =
+    (c : Change) × (pointed : Bool) × (q : Qualified) × (new : Line) × (n : ℕ) × (op ≡ alter c pointed q new) × (kind ≡ changeKind c pointed) × (m ≡ n + 1)
+    × ReadsAs s w (k + 1) n q × StringIn s (getD w n 0) new × (isLine new ≡ true)
+Means s w k m kind pointing op = (after : Bool) × (q : Qualified) × (op ≡ point after q) × (kind ≡ pointKind after) × ReadsAs s w (k + 1) m q
+Means s w k m kind unknown op = ⊥
+
+-- ---- a span
+
+span-from : (x n code : ℕ) → code < 65536 → x ≡ code + 65536 * n → x % 65536 ≡ code
+span-from x n code small h = omega (arith, h, small)
+
+span-last : (x n code : ℕ) → code < 65536 → x ≡ code + 65536 * n → x / 65536 ≡ n
+span-last x n code small h = omega (arith, h, small)
+
+through-at : (b : Through) (n x : ℕ) → n ≡ endBit b → x / 65536 ≡ lastCode b → spanThrough n x ≡ throughCode b
+unfolding endBit lastCode throughCode spanThrough
+through-at alone n x e f = rw e f
+through-at (upTo b) n x e f = rw e f
+through-at toEof n x e f = rw e
+
+module _ (s w : List ℕ) (k kind place : ℕ) (small : kind < 256) where
+  pub span-reads : (a : Target) (b : Through) → SpanAt s w k kind place a b → goodTarget a ≡ true → goodThrough b ≡ true → (kindAt w k ≡ kind) × SpanRead w k a b
+  span-reads a b h good far = (
+    head-kind (getD w k 0) kind place (endBit b) small (h .first),
+    record {
+      from = span-from (getD w (k + 1) 0) (lastCode b) (targetCode a) (h .before) (h .second);
+      before = h .before;
+      through = through-at b (numberAt w k) (getD w (k + 1) 0) (head-number (getD w k 0) kind place (endBit b) small (h .first) (h .low)) (span-last (getD w (k + 1) 0) (lastCode b) (targetCode a) (h .before) (h .second));
+      good-from = good;
+      good-through = far;
+    },
+  )
+
+-- ---- commands
+
+module _ (s w : List ℕ) (k m place : ℕ) where
+  kinds : (kind : ℕ) → kind < 256 → getD w k 0 ≡ head kind place → kindAt w k ≡ kind
+  kinds kind small h = head-kind (getD w k 0) kind place 0 small (h ∙ omega arith)
+
+  abbrev Says : Op → Type 0
+  Says op = Means s w k m (kindAt w k) (formOf (kindAt w k)) op
+
+  -- a command of one word
+  word : (kind : ℕ) (op : Op) → kind < 256 → shapeOf kind ≡ wordShape → op ≡ wordOp kind → (m ≡ k + 1) × (getD w k 0 ≡ head kind place) → Says op
+  unfolding formOf Means
+  word kind op small shape e h = rw (kinds kind small (h .1), shape) (h .0, e)
+
+  case-op : (up : Bool) → recase up ≡ wordOp (caseKind up)
+  unfolding caseKind wordOp byteOp
+  case-op false = refl
+  case-op true = refl
+
+  string-line : (a : Option Target) (ls : List Line) (l : Line) → a ≡ none → ls ≡ l ∷ [] → allLines ls ≡ true → (insert a ls ≡ insert none (l ∷ [])) × (isLine l ≡ true)
+  unfolding allLines
+  string-line a ls l none-is is-one good = (rw (none-is, is-one), and-left (isLine l) true (rw is-one at good))
+
+  deleted : (a : Target) (b : Through) → m ≡ k + 2 → kindAt w k ≡ deleteKind → SpanRead w k a b → Says (delete a b)
+  unfolding formOf Means
+  deleted a b ends e x = rw e (a, b, refl, ends, x)
+
+  replaced : (a : Target) (b : Through) (ls : List Line) → m ≡ k + 4 → kindAt w k ≡ replaceKind → SpanRead w k a b → LinesIn s (getD w (k + 2) 0) (getD w (k + 3) 0) ls → allLines ls ≡ true
+      → Says (replace a b ls)
+  unfolding formOf Means
+  replaced a b ls ends e x l good = rw e (a, b, ls, refl, ends, x, l, good)
+
+  changed : (c : Change) (pointed : Bool) (q : Qualified) (new : Line) (n : ℕ) → kindAt w k ≡ changeKind c pointed → shapeOf (changeKind c pointed) ≡ changeShape → m ≡ n + 1
+      → ReadsAs s w (k + 1) n q → StringIn s (getD w n 0) new → isLine new ≡ true → Says (alter c pointed q new)
+  unfolding formOf Means
+  changed c pointed q new n e shape ends reads x good = rw (e, shape) (c, pointed, q, new, n, refl, refl, ends, reads, x, good)
+
+  pointed-at : (after : Bool) (q : Qualified) → kindAt w k ≡ pointKind after → shapeOf (pointKind after) ≡ stringShape → ReadsAs s w (k + 1) m q → Says (point after q)
+  unfolding formOf Means
+  pointed-at after q e shape reads = rw (e, shape) (after, q, refl, refl, reads)
+
+  -- THE LAW: the kind says which command it is
+  pub means : (op : Op) → OpAt s w k m place op → goodOp op ≡ true → Means s w k m (kindAt w k) (formOf (kindAt w k)) op
+  unfolding OpAt wordOp byteOp goodOp formOf Means
+  means quit h good = word quitKind quit (omega arith) refl refl h
+  means next h good = word nextKind next (omega arith) refl refl h
+  means previous h good = word previousKind previous (omega arith) refl refl h
+  means copy h good = word copyKind copy (omega arith) refl refl h
+  means pointStart h good = word pointStartKind pointStart (omega arith) refl refl h
+  means right h good = word rightKind right (omega arith) refl refl h
+  means left h good = word leftKind left (omega arith) refl refl h
+  means cutByte h good = word cutByteKind cutByte (omega arith) refl refl h
+  means (recase up) h good = word (caseKind up) (recase up) (case-shape up .0) (case-shape up .1) (case-op up) h
+  means (move a) h good = rw (kinds moveKind (omega arith) (h .1)) (a, refl, h .0, h .2, good)
+  means (delete a b) h good =
+      let x = span-reads s w k deleteKind place (omega arith) a b (h .1) (and-left (goodTarget a) (goodThrough b) good) (and-right (goodTarget a) (goodThrough b) good) in
+      deleted a b (h .0) (x .0) (x .1)
+  means (replace a b ls) h good =
+      let span = and-left (goodTarget a && goodThrough b) (allLines ls) good in
+      let x = span-reads s w k replaceKind place (omega arith) a b (h .1) (and-left (goodTarget a) (goodThrough b) span) (and-right (goodTarget a) (goodThrough b) span) in
+      replaced a b ls (h .0) (x .0) (x .1) (h .2) (and-right (goodTarget a && goodThrough b) (allLines ls) good)
+  means (insert a ls) (inl h) good =
+      let x = string-line a ls (h .3 .0) (h .2) (h .3 .2) (and-right (goodOption a) (allLines ls) good) in
+      rw (kinds insertStringKind (omega arith) (h .1)) (h .3 .0, x .0, h .0, h .3 .1, x .1)
+  means (insert a ls) (inr h) good =
+      rw (kinds insertLinesKind (omega arith) (h .1)) (a, ls, refl, h .0, h .2, and-left (goodOption a) (allLines ls) good, h .3, and-right (goodOption a) (allLines ls) good)
+  means (alter c pointed q new) h good =
+      let x = change-shape c pointed in
+      changed c pointed q new (h .0) (kinds (changeKind c pointed) (x .0) (h .2)) (x .1) (h .1) (one-reads s w (k + 1) (h .0) q (h .3)) (h .4) (and-right (goodQualified q) (isLine new) good)
+  means (point after q) h good =
+      let x = point-shape after in
+      pointed-at after q (kinds (pointKind after) (x .0) (h .0)) (x .1) (one-reads s w (k + 1) m q (h .1))
+  means round h good = absurd h
+  means (test c) h good = absurd h
+  means begin h good = absurd h
+  means beginBack h good = absurd h
+  means (find se) h good = absurd h
+  means (findBack se) h good = absurd h
+  means (findDelete se n) h good = absurd h
+
+-- ---- which form it is
+
+module _ (s w : List ℕ) (k m kind : ℕ) (op : Op) where
+  abbrev Meant : Form → Type 0
+  Meant f = Means s w k m kind f op
+
+  -- what is left of two words
+  pub pair-left : shapeOf kind ≡ pairShape → (kind ≡ moveKind → ⊥) → (kind ≡ deleteKind → ⊥) → Means s w k m kind (formOf kind) op → Means s w k m kind stringing op
+  unfolding formOf Means
+  pair-left shape a b h = go (eqb kind insertStringKind) (eqb kind replaceKind) (eqb kind insertLinesKind) refl refl (rw (shape, ne-eqb kind moveKind a, ne-eqb kind deleteKind b) at h)
+    where
+      go : (t u v : Bool) → eqb kind replaceKind ≡ u → eqb kind insertLinesKind ≡ v → Meant (cond t stringing (cond u replacing (cond v lining unknown))) → Meant stringing
+      go true u v e f x = x
+      go false true v e f x = absurd (omega (arith, shape, eqb-true kind replaceKind e))
+      go false false true e f x = absurd (omega (arith, shape, eqb-true kind insertLinesKind f))
+      go false false false e f x = absurd x
+
+  -- of four
+  pub four-left : shapeOf kind ≡ fourShape → (kind ≡ replaceKind → ⊥) → Means s w k m kind (formOf kind) op → Means s w k m kind lining op
+  unfolding formOf Means
+  four-left shape a h =
+      go (eqb kind moveKind) (eqb kind deleteKind) (eqb kind insertStringKind) (eqb kind insertLinesKind) refl refl refl (rw (shape, ne-eqb kind replaceKind a) at h)
+    where
+      go : (t u v z : Bool) → eqb kind moveKind ≡ t → eqb kind deleteKind ≡ u → eqb kind insertStringKind ≡ v
+          → Meant (cond t moving (cond u deleting (cond v stringing (cond z lining unknown)))) → Meant lining
+      go true u v z e f g x = absurd (omega (arith, shape, eqb-true kind moveKind e))
+      go false true v z e f g x = absurd (omega (arith, shape, eqb-true kind deleteKind f))
+      go false false true z e f g x = absurd (omega (arith, shape, eqb-true kind insertStringKind g))
+      go false false false true e f g x = x
+      go false false false false e f g x = absurd x
+
+  -- of all simple commands
+  pub shape-left : (shapeOf kind ≡ wordShape → ⊥) → (shapeOf kind ≡ pairShape → ⊥) → (shapeOf kind ≡ fourShape → ⊥) → (shapeOf kind ≡ stringShape → ⊥)
+      → Means s w k m kind (formOf kind) op → shapeOf kind ≡ changeShape
+  unfolding formOf Means
+  shape-left a b c d h =
+      go (eqb (shapeOf kind) changeShape) (eqb kind moveKind) (eqb kind deleteKind) (eqb kind insertStringKind) (eqb kind replaceKind) (eqb kind insertLinesKind) refl refl refl refl refl refl
+      (rw (ne-eqb (shapeOf kind) wordShape a, ne-eqb (shapeOf kind) stringShape d) at h)
+    where
+      go : (z t u v x y : Bool) → eqb (shapeOf kind) changeShape ≡ z → eqb kind moveKind ≡ t → eqb kind deleteKind ≡ u → eqb kind insertStringKind ≡ v → eqb kind replaceKind ≡ x → eqb kind insertLinesKind ≡ y
+          → Meant (cond z changing (cond t moving (cond u deleting (cond v stringing (cond x replacing (cond y lining unknown)))))) → shapeOf kind ≡ changeShape
+      go true t u v x y e e₁ e₂ e₃ e₄ e₅ p = eqb-true (shapeOf kind) changeShape e
+      go false true u v x y e e₁ e₂ e₃ e₄ e₅ p = absurd (b (ap shapeOf (eqb-true kind moveKind e₁)))
+      go false false true v x y e e₁ e₂ e₃ e₄ e₅ p = absurd (b (ap shapeOf (eqb-true kind deleteKind e₂)))
+      go false false false true x y e e₁ e₂ e₃ e₄ e₅ p = absurd (b (ap shapeOf (eqb-true kind insertStringKind e₃)))
+      go false false false false true y e e₁ e₂ e₃ e₄ e₅ p = absurd (c (ap shapeOf (eqb-true kind replaceKind e₄)))
+      go false false false false false true e e₁ e₂ e₃ e₄ e₅ p = absurd (c (ap shapeOf (eqb-true kind insertLinesKind e₅)))
+      go false false false false false false e e₁ e₂ e₃ e₄ e₅ p = absurd p
+
+-- ---- a command in the work area, whose kind was read
+
+module _ (s w : List ℕ) (k kind : ℕ) (kind-is : kind ≡ kindAt w k) where
+  pub meant : (op : Op) (h : CommandAt s w k op) → Means s w k (h .end) kind (formOf kind) op
+  meant op h = subst (λ (x : ℕ). Means s w k (h .end) x (formOf x) op) (sym kind-is) (means s w k (h .end) (h .place) op (h .words) (h .good))
+
+  pub meant-as : (f : Form) → formOf kind ≡ f → (op : Op) (h : CommandAt s w k op) → Means s w k (h .end) kind f op
+  meant-as f e op h = subst (λ (g : Form). Means s w k (h .end) kind g op) e (meant op h)
+
+  -- its words can be read
+  pub first-in : ((op : Op) × CommandAt s w k op) → k < length w
+  first-in (op, h) = omega (arith, op-reads s w k (h .end) (h .place) op (h .words) .further, h .inside)
+
+  pub second-in : (shape : ℕ) → shapeOf kind ≡ shape → isOneWord shape ≡ false → ((op : Op) × CommandAt s w k op) → k + 1 < length w
+  second-in shape e more (op, h) =
+      let long = op-reads s w k (h .end) (h .place) op (h .words) .long in
+      omega (arith, long (ap (λ (x : ℕ). isOneWord (shapeOf x)) (sym kind-is) ∙ ap isOneWord e ∙ more), h .inside)

@@ -1,0 +1,2 @@
+-- `Runs`: laws of runs of bytes that pass a test.
+pub mod Runs

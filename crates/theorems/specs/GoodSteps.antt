@@ -1,0 +1,187 @@
+-- Every step of a script writes lines: what it inserts is a line, and so is the text that it puts in place of another. So records stay good.
+use mathlib.Core.Path.{_≡_, refl}
+use mathlib.Core.Bool.{Bool, true, false, _&&_, false≢true}
+use mathlib.Core.Option.{none, some}
+use mathlib.Core.List.{List, [], _∷_}
+use Prim.Native.Nat.{ℕ}
+use native.Mathlib.Omega.{arith}
+use lib.ListN.{length}
+use lib.Dec.{leb, ltb}
+use borrow.Author.Tests.{leb-false, ltb-false}
+use Rattle.definitions.specs.Bytes.{Line, allText, allLines, isLine}
+use Rattle.definitions.specs.Journal.{Record, kept, erase}
+use Rattle.definitions.specs.Matching.{placeOf, stringIn}
+use Rattle.definitions.specs.Search.{Search, holds}
+use Rattle.definitions.specs.Tape.{Tape, restLines}
+use Rattle.definitions.specs.Given.{Given, Carried}
+use Rattle.definitions.specs.Editor.{Ed, ed, current, Stop, n20, n21, n22, n24, n25, strike, strikeBack, put, retext}
+use Rattle.definitions.specs.StepProgram.{Program, gives, _>>=_, _>>_, runs, Did, answers, changes}
+use Rattle.definitions.specs.Edit.{Op, round, quit, test, begin, beginBack, find, findBack, findDelete, move, next, previous, delete, replace, insert, copy, alter, point, pointStart, right, left, cutByte, recase}
+use Rattle.definitions.specs.Edit.{either, goesOn, lineOr, lookOn, lookBack, placeOr24, byteHere, write, span, program}
+use Rattle.definitions.specs.Control.{Item}
+use Rattle.theorems.specs.Each.{Each, each-append}
+use Rattle.theorems.specs.Lines.{and-right}
+use Rattle.theorems.specs.ComesTo.{Gives, Stops, ComesTo, line-comes, byte-comes, test-comes, some-comes, either-comes}
+use Rattle.theorems.specs.Runs.{Inner, ItemsOf}
+use Rattle.theorems.specs.Changes.{Statement, Closed, HoldsEd, DoesWell, Keeps, then-keeps, and-keeps}
+use Rattle.theorems.specs.JournalBytes.{IsLine, GoodRecord, line-text, line-of, all-lines}
+use Rattle.theorems.specs.GoodItems.{goodTarget, goodThrough, goodOption, goodQualified, goodOp}
+use Rattle.theorems.specs.GoodLines.{splice-text, altered-text, recased-text, current-line, current-text, rewrite-good, erase-good}
+
+-- ---- good records
+
+abbrev pub GoodRecords : List Record → Type 0
+GoodRecords rs = Each GoodRecord rs
+
+-- the records are good, and the lines that are not read are lines
+abbrev pub Good : Statement
+Good before after t = GoodRecords before × GoodRecords after × Each IsLine (restLines t)
+
+-- the text put in place of a line is a line, if that line is text
+abbrev pub IsLineAfter : Line → Line → Type 0
+IsLineAfter old new = allText old ≡ true → IsLine new
+
+pub good-closed : Closed IsLine IsLineAfter Good
+unfolding restLines
+good-closed = record {
+  over = λ before r after t h. ((h .1 .0, h .0), h .1 .1, h .2);
+  back = λ before r after t h. (h .0 .1, (h .0 .0, h .1), h .2);
+  erases = λ before r after t h. (each-append GoodRecord (erase r) before (erase-good r (h .1 .0)) (h .0), h .1 .1, h .2);
+  rewrites = λ before r after t l k h. (h .0, (rewrite-good r l (h .1 .0) (k (current-text r (h .1 .0))), h .1 .1), h .2);
+  inserts = λ before after t l k h. ((k, h .0), h .1, h .2);
+  reads = λ before after l ls h. (h .0, each-append GoodRecord after (kept l ∷ []) (h .1) (h .2 .0, tt), h .2 .1);
+  ends = λ before after h. (h .0, h .1, tt);
+}
+
+-- ---- parts of programs
+
+-- a program that writes lines only
+abbrev pub WritesLines : Program Did → Type 0
+WritesLines m = Keeps IsLine IsLineAfter Good m
+
+abbrev WritesWell : Gives Did
+WritesWell d e t = DoesWell IsLine IsLineAfter Good d e t
+
+abbrev StopsWell : Stops
+StopsWell n e t = HoldsEd Good e t
+
+-- the same, begun at `e`
+abbrev From : Given → Carried → Program Did → Ed → Tape → Type 0
+From g c m e t = ComesTo g c WritesWell StopsWell m e t
+
+then-lines : {A : Type 0} (m : Program A) (k : A → Program Did) → ((a : A) → WritesLines (k a)) → WritesLines (_>>=_ m k)
+then-lines m k f = then-keeps IsLine IsLineAfter Good good-closed m k f
+
+and-lines : {A : Type 0} (m : Program A) (k : Program Did) → WritesLines k → WritesLines (_>>_ m k)
+and-lines m k f = and-keeps IsLine IsLineAfter Good good-closed m k f
+
+answer-lines : (b : Bool) → WritesLines (gives (answers b))
+unfolding runs
+answer-lines b g c e t h = (tt, h)
+
+goes-lines : WritesLines goesOn
+unfolding goesOn
+goes-lines = answer-lines true
+
+put-lines : (ls : List Line) → Each IsLine ls → WritesLines (gives (changes (put ls ∷ [])))
+unfolding runs
+put-lines ls k g c e t h = ((k, tt), h)
+
+strike-lines : (k : ℕ) → WritesLines (gives (changes (strike k ∷ [])))
+unfolding runs
+strike-lines k g c e t h = ((tt, tt), h)
+
+strikeBack-lines : (k : ℕ) → WritesLines (gives (changes (strikeBack k ∷ [])))
+unfolding runs
+strikeBack-lines k g c e t h = ((tt, tt), h)
+
+replace-lines : (k : ℕ) (ls : List Line) → Each IsLine ls → WritesLines (gives (changes (strike k ∷ put ls ∷ [])))
+unfolding runs
+replace-lines k ls l g c e t h = ((tt, (l, tt)), h)
+
+either-lines : (b : Bool) (m k : Program Did) → WritesLines m → WritesLines k → WritesLines (either b m k)
+either-lines b m k f i g c e t h = either-comes g c WritesWell StopsWell b m k e t (f g c e t h) (i g c e t h)
+
+-- with the current line
+line-lines : (n : Stop) (k : Line × ℕ → Program Did)
+    → ((g : Given) (c : Carried) (before : List Record) (r : Record) (after : List Record) (p : ℕ) (t : Tape) → Good before (r ∷ after) t → From g c (k (current r, p)) (ed before (r ∷ after) p) t)
+    → WritesLines (_>>=_ (lineOr n) k)
+line-lines n k f g c (ed before [] p) t h = line-comes g c WritesWell StopsWell n k (ed before [] p) t h
+line-lines n k f g c (ed before (r ∷ after) p) t h = line-comes g c WritesWell StopsWell n k (ed before (r ∷ after) p) t (f g c before r after p t h)
+
+-- with a byte at p
+byte-lines : (k : Line × ℕ → Program Did)
+    → ((g : Given) (c : Carried) (before : List Record) (r : Record) (after : List Record) (p : ℕ) (t : Tape) → leb (length (current r)) p ≡ false → Good before (r ∷ after) t
+    → From g c (k (current r, p)) (ed before (r ∷ after) p) t)
+    → WritesLines (_>>=_ byteHere k)
+byte-lines k f g c (ed before [] p) t h = byte-comes g c WritesWell StopsWell k (ed before [] p) t h h
+byte-lines k f g c (ed before (r ∷ after) p) t h =
+    byte-comes g c WritesWell StopsWell k (ed before (r ∷ after) p) t h (λ x. f g c before r after p t x h)
+
+-- the text `l` is written, if it is not over 255
+write-lines : (g : Given) (c : Carried) (before : List Record) (r : Record) (after : List Record) (p : ℕ) (t : Tape) (l : Line) (q : ℕ) → (allText (current r) ≡ true → allText l ≡ true)
+    → Good before (r ∷ after) t → From g c (write l q) (ed before (r ∷ after) p) t
+unfolding write
+write-lines g c before r after p t l q k h =
+    test-comes g c WritesWell StopsWell n25 (ltb 255 (length l)) (gives (changes (retext l q ∷ []))) (ed before (r ∷ after) p) t (λ x. h)
+    (λ x. unfold runs in ((λ o. line-of l (k o) (omega (arith, ltb-false 255 (length l) x)), tt), h))
+
+lookOn-lines : WritesLines lookOn
+unfolding lookOn
+lookOn-lines = and-lines _ _ (and-lines (lineOr n21) _ (answer-lines false))
+
+lookBack-lines : WritesLines lookBack
+unfolding lookBack
+lookBack-lines = and-lines _ _ (answer-lines false)
+
+-- ---- the steps of searches, tests and rounds
+
+find-lines : (n : Stop) (se : Search) (m k : Program Did) → WritesLines m → WritesLines k → WritesLines (_>>=_ (lineOr n) (λ x. either (holds se (x .1) (x .0)) m k))
+find-lines n se m k f i = then-lines (lineOr n) _ (λ x. either-lines (holds se (x .1) (x .0)) m k f i)
+
+pub inner-lines : Inner (λ op. WritesLines (program op))
+unfolding program
+inner-lines = record {
+  rounds = goes-lines;
+  tests = λ x. then-lines _ _ (λ b. answer-lines b);
+  begins = and-lines _ _ goes-lines;
+  beginsBack = then-lines _ _ (λ b. and-lines _ _ goes-lines);
+  finds = λ se. find-lines n21 se _ _ goes-lines lookOn-lines;
+  findsBack = λ se. find-lines n22 se _ _ goes-lines lookBack-lines;
+  findsDelete = λ se k. find-lines n21 se _ _ (strikeBack-lines k) lookOn-lines;
+}
+
+-- ---- the commands
+
+-- the items of a script: each command that they ask for is within document 01's bounds
+abbrev pub GoodItems : List Item → Type 0
+GoodItems items = ItemsOf (λ op. goodOp op ≡ true) items
+
+pub good-lines : (op : Op) → goodOp op ≡ true → WritesLines (program op)
+unfolding goodOp program
+good-lines round h = absurd (false≢true h)
+good-lines quit h = unfold runs in (λ g c e t k. (tt, k))
+good-lines (test x) h = absurd (false≢true h)
+good-lines begin h = absurd (false≢true h)
+good-lines beginBack h = absurd (false≢true h)
+good-lines (find se) h = absurd (false≢true h)
+good-lines (findBack se) h = absurd (false≢true h)
+good-lines (findDelete se k) h = absurd (false≢true h)
+good-lines (move a) h = and-lines _ _ goes-lines
+good-lines next h = and-lines _ _ (and-lines _ _ goes-lines)
+good-lines previous h = and-lines _ _ goes-lines
+good-lines (delete a b) h = then-lines (span a b) _ strike-lines
+good-lines (replace a b ls) h = then-lines (span a b) _ (λ k. replace-lines k ls (all-lines ls (and-right (goodTarget a && goodThrough b) (allLines ls) h)))
+good-lines (insert none ls) h = put-lines ls (all-lines ls (and-right (goodOption none) (allLines ls) h))
+good-lines (insert (some a) ls) h = and-lines _ _ (put-lines ls (all-lines ls (and-right (goodOption (some a)) (allLines ls) h)))
+good-lines copy h = line-lines n20 _ (λ g c before r after p t k. put-lines (current r ∷ []) (current-line r (k .1 .0), tt) g c (ed before (r ∷ after) p) t k)
+good-lines (alter d pointing q new) h =
+    line-lines n20 _ (λ g c before r after p t k. unfold placeOr24 in
+    (some-comes g c WritesWell StopsWell n24 (placeOf q p (current r)) _ (ed before (r ∷ after) p) t k
+    (λ i. write-lines g c before r after p t _ _ (λ o. altered-text d (current r) i (length (stringIn q)) new o (line-text new (and-right (goodQualified q) (isLine new) h))) k)))
+good-lines (point b q) h = then-lines (lineOr n20) _ (λ x. then-lines (placeOr24 q (x .0) (x .1)) _ (λ i. and-lines _ _ goes-lines))
+good-lines pointStart h = and-lines _ _ (and-lines _ _ goes-lines)
+good-lines right h = then-lines byteHere _ (λ x. and-lines _ _ goes-lines)
+good-lines left h = then-lines (lineOr n20) _ (λ x. and-lines _ _ (and-lines _ _ goes-lines))
+good-lines cutByte h = byte-lines _ (λ g c before r after p t x k. write-lines g c before r after p t _ _ (λ o. splice-text (current r) p 1 [] o (unfold allText in refl)) k)
+good-lines (recase up) h = byte-lines _ (λ g c before r after p t x k. write-lines g c before r after p t _ _ (recased-text up (current r) p (leb-false (length (current r)) p x)) k)
