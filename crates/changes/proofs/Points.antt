@@ -377,7 +377,7 @@ module _ (g : Given) (c : Carried) where
 
   program-in : (op : Op) → Step (program op)
   unfolding program
-  program-in Op.round e t h = goes-step e t h
+  program-in Op.onlyStep e t h = goes-step e t h
   program-in Op.quit e t h = unfold runs in tt
   program-in (Op.test x) e t h = part-then _ _ (see-part g c _) (λ b. on-step b) e t h
   program-in Op.begin e t h = part-and (lineOr n21) _ (line-part g c n21) goes-step e t h
@@ -388,8 +388,8 @@ module _ (g : Given) (c : Carried) where
   program-in (Op.findBack se) e t h = looked n22 se _ _ goes-step look-back-step e t h
   program-in (Op.findDelete se k) e t h = looked n21 se _ _ (strike-back-step k) look-on-step e t h
   program-in (Op.move a) e t h = part-and (goTo a) _ (to-part g c a) goes-step e t h
-  program-in Op.next e t h = part-and (lineOr n20) _ (line-part g c n20) (part-and goAhead _ (ahead-part g c) goes-step) e t h
-  program-in Op.previous e t h = part-and (go back) _ (back-part g c) goes-step e t h
+  program-in Op.nextLine e t h = part-and (lineOr n20) _ (line-part g c n20) (part-and goAhead _ (ahead-part g c) goes-step) e t h
+  program-in Op.previousLine e t h = part-and (go back) _ (back-part g c) goes-step e t h
   program-in (Op.delete a b) e t h = part-then (span a b) _ (span-part g c a b) strike-step e t h
   program-in (Op.replace a b ls) e t h = part-then (span a b) _ (span-part g c a b) (replace-step ls) e t h
   program-in (Op.insert none ls) e t h = put-step ls e t h

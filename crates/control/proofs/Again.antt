@@ -6,7 +6,7 @@ use mathlib.Core.List.{List, _∷_}
 use Prim.Native.Nat.{ℕ, zero, suc, _+_, _-_, _*_, _/_, _%_}
 use native.Mathlib.Omega.{arith}
 use lib.ListN.{length, getD, set}
-use Rattle.definitions.specs.Edit.{round, test}
+use Rattle.definitions.specs.Edit.{onlyStep, test}
 use Rattle.definitions.specs.Control.{Opener, times, forever, bare, branch, loop, Item, close, Frame, frame, running, wantOne, bodyEnd, pullAt, pull}
 use Rattle.items.specs.Words.{kindAt, placeAt}
 use Rattle.items.specs.Ends.{endBy, counting, repeating, looping, wayOf, wayBy}
@@ -100,7 +100,7 @@ module _ (w : List ℕ) (end next depth word item kind way : ℕ) (word-is : wor
     again-forever does er (loop c) body frames h = absurd (omega (arith, does, top-way (loop c) body frames h))
     again-forever does er forever body frames h =
         let sh = again-shows s w end at next depth items g place forever body frames h y (y-again forever body frames h) in
-        gives s w end at (running (close ∷ items) (frame g place forever body ∷ frames)) r (wantedAt 0 p item y y) place round (running body (frame g place forever body ∷ frames))
+        gives s w end at (running (close ∷ items) (frame g place forever body ∷ frames)) r (wantedAt 0 p item y y) place onlyStep (running body (frame g place forever body ∷ frames))
         (running body (frame g place forever body ∷ frames)) refl er (record {
           at-place = p-place forever body frames h;
           asks = a-round refl;
@@ -144,7 +144,7 @@ module _ (w : List ℕ) (end next depth word item kind way : ℕ) (word-is : wor
     again-times does left left-is some w′ written er (loop c) body frames h = absurd (omega (arith, does, top-way (loop c) body frames h))
     again-times does left left-is some w′ written er (times (suc n)) body frames h =
         let sh = fewer-shows s w end at next depth items g place n word body frames h word-is w′ written y (y-again (times (suc n)) body frames h) in
-        gives s w′ end at (running (close ∷ items) (frame g place (times (suc n)) body ∷ frames)) r (wantedAt 0 p item y y) place round (running body (frame g place (times n) body ∷ frames))
+        gives s w′ end at (running (close ∷ items) (frame g place (times (suc n)) body ∷ frames)) r (wantedAt 0 p item y y) place onlyStep (running body (frame g place (times n) body ∷ frames))
         (running body (frame g place (times n) body ∷ frames)) refl er (record {
           at-place = p-place (times (suc n)) body frames h;
           asks = a-round refl;

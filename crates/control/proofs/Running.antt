@@ -5,7 +5,7 @@ use mathlib.Core.List.{List, _∷_}
 use Prim.Native.Nat.{ℕ, _<_}
 use native.Mathlib.Omega.{arith}
 use lib.ListN.{length}
-use Rattle.definitions.specs.Edit.{round}
+use Rattle.definitions.specs.Edit.{onlyStep}
 use Rattle.definitions.specs.Control.{Opener, Item, simple, seek, opens, bracket, close, otherwise, leave, lineEnd, Frame, frame, running, seeking, Pull, wantOne, leaveTo, beginOp, pullAt, pull}
 use Rattle.theorems.specs.NestingLaws.{mayBracket}
 use Rattle.items.specs.Kinds.{lineEndKind, bracketKind, closeKind, elseKind, leaveKind}
@@ -133,7 +133,7 @@ module _ (w : List ℕ) (end at next depth class : ℕ) (reads : Reading w at cl
       unfolding ItemAt placeOf openAfter pull pullAt wantOne
       run-leave q left none e =
           as-leave s w end at next depth depth class frames (λ l. ShowsStep s w end at r (running l frames)) q items here-is
-          (λ place rest x. gives s w end at (running (leave place ∷ rest) frames) r (wantedAt 0 p at y y) place round (leaveTo 0 rest frames) (leaveTo 0 rest frames) refl e (record {
+          (λ place rest x. gives s w end at (running (leave place ∷ rest) frames) r (wantedAt 0 p at y y) place onlyStep (leaveTo 0 rest frames) (leaveTo 0 rest frames) refl e (record {
             at-place = p-is ∙ item-reads s w at next (leave place) (x .item) .place (x .small);
             asks = a-round refl;
             yes-shows = left s rest frames (x .rest);

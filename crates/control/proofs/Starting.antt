@@ -6,7 +6,7 @@ use mathlib.Core.List.{List, _∷_}
 use Prim.Native.Nat.{ℕ, zero, suc, _+_, _-_, _*_, _%_, _≤_, _<_}
 use native.Mathlib.Omega.{arith}
 use lib.ListN.{length, set}
-use Rattle.definitions.specs.Edit.{Op, round, test}
+use Rattle.definitions.specs.Edit.{Op, onlyStep, test}
 use Rattle.definitions.specs.Control.{Opener, times, forever, bare, branch, loop, Item, opens, Frame, frame, Ctl, running, skipping, failing, want, wantOne, bodyStart, pullAt, pull}
 use Rattle.items.specs.Words.{kindAt, placeAt, OpenerAt}
 use Rattle.items.specs.Kinds.{longCountKind}
@@ -105,11 +105,11 @@ module _ (w : List ℕ) (end at next depth kind way : ℕ) (kind-is : kind ≡ k
         )
 
     a-round-starts : (o o′ : Opener) (items : List Item) (frames : List Frame) → Opening s w end at next depth place o items frames → OpenedAt s w at next place o′ left
-        → pull (running (opens place o ∷ items) frames) ≡ want place round (running items (frame false place o′ items ∷ frames)) (running items (frame false place o′ items ∷ frames))
+        → pull (running (opens place o ∷ items) frames) ≡ want place onlyStep (running items (frame false place o′ items ∷ frames)) (running items (frame false place o′ items ∷ frames))
         → r ≡ Gives (Want (wantedAt 0 p at y y)) → ShowsStep s w′ end at r (running (opens place o ∷ items) frames)
     a-round-starts o o′ items frames h opened pulls e =
         let sh = starts o o′ items frames h opened in
-        gives s w′ end at (running (opens place o ∷ items) frames) r (wantedAt 0 p at y y) place round (running items (frame false place o′ items ∷ frames))
+        gives s w′ end at (running (opens place o ∷ items) frames) r (wantedAt 0 p at y y) place onlyStep (running items (frame false place o′ items ∷ frames))
         (running items (frame false place o′ items ∷ frames)) pulls e (record {
           at-place = p-is ∙ opening-place s w end at next depth place o items frames h;
           asks = a-round refl;

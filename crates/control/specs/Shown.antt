@@ -7,7 +7,7 @@ use Prim.Native.Nat.{ℕ, _+_, _-_, _*_, _≤_, _<_}
 use lib.ListN.{length, getD}
 use lib.Dec.{eqb}
 use Rattle.definitions.specs.Search.{Search}
-use Rattle.definitions.specs.Edit.{is, isNot, isEof, Op, round, test, begin, beginBack, find, findBack, findDelete}
+use Rattle.definitions.specs.Edit.{is, isNot, isEof, Op, onlyStep, test, begin, beginBack, find, findBack, findDelete}
 use Rattle.definitions.specs.Control.{Opener, times, forever, bare, branch, loop, Item, opens, close, otherwise, Frame, frame, Ctl, running, skipping, failing, leaving, seeking, leaveTo, Pull, finished, want, pull}
 use Rattle.matching.specs.Words.{Encodes}
 use Rattle.items.specs.Kinds.{findKind, findBackKind, ifKind, unlessKind, whileKind, untilKind, seekKind}
@@ -131,7 +131,7 @@ SearchOf s w k se = Encodes s w (k + 2) (getD w (k + 1) 0) se
 
 -- what is asked of the editor; the words of a simple command lie inside the work area
 pub data Asks (s w : List ℕ) (x : Wanted) : Op → Type 0 where
-  a-round : x .what ≡ 0 → Asks s w x round
+  a-round : x .what ≡ 0 → Asks s w x onlyStep
   holds : (se : Search) → x .what ≡ 1 → SearchOf s w (x .item) se → Asks s w x (test (is se))
   holds-not : (se : Search) → x .what ≡ 2 → SearchOf s w (x .item) se → Asks s w x (test (isNot se))
   at-eof : x .what ≡ 3 → Asks s w x (test isEof)

@@ -9,16 +9,26 @@ use Rattle.definitions.specs.Run.{Answer, answer, refusal, workLength, r
 use Rattle.definitions.specs.Program.{printed, programPrints}
 use Rattle.definitions.specs.Everything.{everything}
 
--- a case: the budget, the table, the script, and the answer: number, steps, furthest, place, records
+-- A case: the budget, the table, the script, and the answer: number, steps, furthest, place, records. Or a table, a script, and what the test program
+-- prints of them.
 pub data Case : Type 0 where
   case : ℕ → String → String → Answer → Case
+  prints : String → String → String → Case
 
--- the answer with the least work area and a journal buffer of 65,536 bytes
-unfoldable pub computed : Case → Answer
-computed (case budget table script a) = runAnswer (bytes table) (bytes script) budget (workLength (bytes script)) 65536
+-- what is compared: an answer, or printed bytes
+pub data Shown : Type 0 where
+  ends : Answer → Shown
+  shows : List ℕ → Shown
 
-unfoldable pub stated : Case → Answer
-stated (case budget table script a) = a
+-- by the definitions, with the least work area and a journal buffer of 65,536 bytes
+unfoldable pub computed : Case → Shown
+computed (case budget table script a) = ends (runAnswer (bytes table) (bytes script) budget (workLength (bytes script)) 65536)
+computed (prints table script out) = shows (programPrints (bytes table) (bytes script))
+
+-- as document 01 has it
+unfoldable pub stated : Case → Shown
+stated (case budget table script a) = ends a
+stated (prints table script out) = shows (bytes out)
 
 -- the largest budget
 unfoldable pub largest : ℕ
@@ -35,8 +45,10 @@ same s = kept (bytes s)
 
 unfoldable pub cases : List Case
 cases =
-    -- K1
-    case largest k1Table k1Script
+    -- K1, as it is printed and as an answer
+    prints k1Table k1Script
+    "    1  R01 open 06:10 90\n    2 +R02 open 06:25 120\n ****  R04 open 07:15 60\nend 0 steps 10 read 4 at 0\n"
+    ∷ case largest k1Table k1Script
     (answer 0 10 4 0 (same "R01 open 06:10 90" ∷ changed (bytes "R02 open 06:25 90") (bytes "R02 open 06:25 120")
     ∷ deleted (bytes "R03 open 07:00 60") ∷ inserted (bytes "R04 open 07:15 60") ∷ []))
     -- K2
@@ -58,15 +70,10 @@ cases =
     ∷ case largest "b\n" "E/b/c/; E/c/b/\n" (answer 0 2 1 0 (same "b" ∷ []))
     ∷ []
 
+-- document 01's marked cases: "gathered in a single list with a single theorem"
 pub K1-to-K12 : map computed cases ≡ map stated cases
-unfolding everything computed stated largest k1Table k1Script same cases
+unfolding everything printed programPrints computed stated largest k1Table k1Script same cases
 K1-to-K12 = refl
-
--- K1 as it is printed
-pub K1-printed : programPrints (bytes k1Table) (bytes k1Script)
-    ≡ bytes "    1  R01 open 06:10 90\n    2 +R02 open 06:25 120\n ****  R04 open 07:15 60\nend 0 steps 10 read 4 at 0\n"
-unfolding everything printed programPrints k1Table k1Script
-K1-printed = refl
 
 -- ---- more
 
@@ -96,5 +103,5 @@ moreCases =
     ∷ []
 
 pub more-cases : map computed moreCases ≡ map stated moreCases
-unfolding everything computed stated largest same moreCases
+unfolding everything printed programPrints computed stated largest same moreCases
 more-cases = refl

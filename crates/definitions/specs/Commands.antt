@@ -8,10 +8,10 @@ use lib.ListN.{length, drop}
 use lib.Dec.{eqb}
 use Rattle.definitions.specs.Bytes.{Line, linesOf}
 use Rattle.definitions.specs.Editor.{Target, here, line, eof, Through, alone, upTo, toEof}
-use Rattle.definitions.specs.Edit.{Change, afterIt, beforeIt, exchange, Test, is, isNot, isEof, Op, quit, move, next, previous, delete, replace, insert, copy, alter, point, pointStart, right, left, cutByte, recase}
+use Rattle.definitions.specs.Edit.{Change, afterIt, beforeIt, exchange, Test, is, isNot, isEof, Op, quit, move, nextLine, previousLine, delete, replace, insert, copy, alter, point, pointStart, right, left, cutByte, recase}
 use Rattle.definitions.specs.Search.{Search}
 use Rattle.definitions.specs.Control.{Seek, forward, backward, deleting, forever, branch, loop, Item, simple, seek, opens, leave}
-use Rattle.definitions.specs.Reader.{Cursor, cursor, Got, got, refused, andThen, placeAt, afterByte, isNext, skipSpaces, skipComment, isDigitNext, number, name, packed, isWord, afterWord, quoted}
+use Rattle.definitions.specs.Reader.{Cursor, cursor, Got, got, refused, andThen, placeAt, afterByte, isNext, skipSpaces, skipComment, isDigitNext, number, name, packed, isToken, afterToken, quoted}
 use Rattle.definitions.specs.Strings.{Pair, pair, qualifiedString, twoStrings, searchExpression}
 
 -- ---- names
@@ -50,10 +50,10 @@ pub data Shape : Type 0 where
 pub data Row : Type 0 where
   row : String → Shape → Row
 
--- the names of the commands: letters, or one byte of another kind
+-- the names of the commands: letters, or one byte of another kind (R4); THEN and ELSE are none of them (R7)
 unfoldable pub commandTable : List Row
 commandTable =
-    row "M" moves ∷ row "N" (plain next) ∷ row "P" (plain previous)
+    row "M" moves ∷ row "N" (plain nextLine) ∷ row "P" (plain previousLine)
     ∷ row "F" (seeks forward) ∷ row "BF" (seeks backward) ∷ row "DF" (seeks deleting)
     ∷ row "D" deletes ∷ row "IS" insertsString ∷ row "IC" (plain copy) ∷ row "I" insertsLines ∷ row "R" replaces
     ∷ row "A" (alters afterIt false) ∷ row "B" (alters beforeIt false) ∷ row "E" (alters exchange false)
@@ -83,7 +83,7 @@ target c =
     cond (isNext 46 c) (got here (afterByte c))
     (cond (isNext 42 c) (got eof (afterByte c)) (andThen (number c) (λ a c₁. got (line a) c₁)))
 
--- how far D goes, after its first line: "b a number or *"
+-- how far D goes, after its first line: "b a number or *"; once a digit stands there, it must be right (R2)
 unfoldable pub through : Cursor → Got Through
 through c =
     cond (isNext 42 (skipSpaces c)) (got toEof (afterByte (skipSpaces c)))
@@ -93,7 +93,7 @@ through c =
 pub data Span : Type 0 where
   span : Target → Through → Span
 
--- "D [a [b]]": a byte that cannot begin a line number ends the command
+-- "D [a [b]]": a byte that cannot begin a line number ends the command (R3)
 unfoldable pub lineSpan : Cursor → Got Span
 lineSpan c =
     cond (startsTarget false (skipSpaces c))
@@ -107,13 +107,13 @@ optionalTarget c =
 
 -- ---- the lines of I and R
 
--- "it must end its line": only spaces and a comment may follow, anything else is 3 at it; the cursor is then after the line's end
+-- "it must end its line": only spaces and a comment may follow, anything else is 3 at it (R10); the cursor is then after the line's end
 unfoldable pub endOfLine : Cursor → Got (Unit {0})
 endOfLine c =
     cond (isNext 10 (skipSpaces c)) (got tt (afterByte (skipSpaces c)))
     (cond (isNext 92 (skipSpaces c)) (got tt (afterByte (skipComment (skipSpaces c)))) (refused 3 (placeAt (skipSpaces c))))
 
--- "a line Z or z"
+-- "a line Z or z": that one byte (R10)
 unfoldable pub isZ : Line → Bool
 isZ [] = false
 isZ (b ∷ []) = eqb b 90 || eqb b 122
@@ -132,7 +132,7 @@ unfoldable pub linesUpToZ : List Line → UpToZ
 linesUpToZ [] = noZ
 linesUpToZ (l ∷ ls) = elim (isZ l) [ true ↦ upToZ [] 1 | false ↦ addLine l (linesUpToZ ls) ]
 
--- the following script lines; the cursor is then at the end of the line Z. No Z line: 6 at the script's length, but 5 there in an open group
+-- the following script lines; the cursor is then at the end of the line Z. No Z line: 6 at the script's length, but 5 there in an open group (R11)
 unfoldable pub linesAfter : Bool → Cursor → UpToZ → Got (List Line)
 linesAfter inGroup (cursor at bs) (upToZ ls n) = got ls (cursor (at + n) (drop n bs))
 linesAfter inGroup (cursor at bs) noZ = refused (cond inGroup 5 6) (at + length bs)
@@ -150,9 +150,9 @@ pub data Decoded : Type 0 where
   whole : Item → Decoded
   prefix : Bool → Item → Decoded
 
--- "IF se [THEN]"
+-- "IF se [THEN]" (R7)
 unfoldable pub skipThen : Cursor → Cursor
-skipThen c = cond (isWord (packed "THEN") (name (skipSpaces c))) (afterWord (name (skipSpaces c))) c
+skipThen c = cond (isToken (packed "THEN") (name (skipSpaces c))) (afterToken (name (skipSpaces c))) c
 
 -- IF and WH (true); UL and UT, "the opposite"
 unfoldable pub testOf : Bool → Search → Test

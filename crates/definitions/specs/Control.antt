@@ -3,7 +3,7 @@ use mathlib.Core.Bool.{Bool, true, false}
 use mathlib.Core.List.{List, [], _∷_}
 use Prim.Native.Nat.{ℕ, zero, suc}
 use Rattle.definitions.specs.Search.{Search}
-use Rattle.definitions.specs.Edit.{Test, Op, round, test, begin, beginBack, find, findBack, findDelete}
+use Rattle.definitions.specs.Edit.{Test, Op, onlyStep, test, begin, beginBack, find, findBack, findDelete}
 
 -- F, BF, DF
 pub data Seek : Type 0 where
@@ -50,26 +50,26 @@ pub data Pull : Type 0 where
 unfoldable pub wantOne : ℕ → Op → Ctl → Pull
 wantOne at op c = want at op c c
 
--- "one for each round of a count, RPT or bare group; one for each test"; `skip` is what comes after the body
+-- "one for each round of a count, RPT or bare group; one for each test" (R26: a count of 0 takes none); `skip` is what comes after the body
 unfoldable pub bodyStart : Opener → ℕ → List Item → List Frame → Pull → Pull
 bodyStart (times zero) at body frames skip = skip
-bodyStart (times (suc n)) at body frames skip = wantOne at round (running body (frame false at (times n) body ∷ frames))
-bodyStart forever at body frames skip = wantOne at round (running body (frame false at forever body ∷ frames))
-bodyStart bare at body frames skip = wantOne at round (running body (frame false at bare body ∷ frames))
+bodyStart (times (suc n)) at body frames skip = wantOne at onlyStep (running body (frame false at (times n) body ∷ frames))
+bodyStart forever at body frames skip = wantOne at onlyStep (running body (frame false at forever body ∷ frames))
+bodyStart bare at body frames skip = wantOne at onlyStep (running body (frame false at bare body ∷ frames))
 bodyStart (branch c) at body frames skip = want at (test c) (running body (frame false at (branch c) body ∷ frames)) (failing 1 body frames)
 bodyStart (loop c) at body frames skip = want at (test c) (running body (frame false at (loop c) body ∷ frames)) (skipping 1 body frames)
 
--- a body has run to its close, `items` stand after it; `next` is what comes after it
+-- a body has run to its close, `items` stand after it; `skip` is what comes after the body
 unfoldable pub bodyEnd : Opener → Bool → ℕ → List Item → List Item → List Frame → Pull → Pull
-bodyEnd (times zero) g at body items frames next = next
-bodyEnd (times (suc n)) g at body items frames next = wantOne at round (running body (frame g at (times n) body ∷ frames))
-bodyEnd forever g at body items frames next = wantOne at round (running body (frame g at forever body ∷ frames))
-bodyEnd bare g at body items frames next = next
-bodyEnd (branch c) g at body items frames next = next
-bodyEnd (loop c) g at body items frames next = want at (test c) (running body (frame g at (loop c) body ∷ frames)) (running items frames)
+bodyEnd (times zero) g at body items frames skip = skip
+bodyEnd (times (suc n)) g at body items frames skip = wantOne at onlyStep (running body (frame g at (times n) body ∷ frames))
+bodyEnd forever g at body items frames skip = wantOne at onlyStep (running body (frame g at forever body ∷ frames))
+bodyEnd bare g at body items frames skip = skip
+bodyEnd (branch c) g at body items frames skip = skip
+bodyEnd (loop c) g at body items frames skip = want at (test c) (running body (frame g at (loop c) body ∷ frames)) (running items frames)
 
 -- "AGP leaves the innermost group and what it is the body of, outside a group all to the next line end outside groups"; k bodies that are no
--- groups are left on the way
+-- groups are left on the way (R24, R25)
 unfoldable pub leaveTo : ℕ → List Item → List Frame → Ctl
 leaveTo k items [] = leaving items
 leaveTo k items (frame true at o body ∷ frames) = skipping (suc k) items frames
@@ -88,7 +88,7 @@ lookOp deleting se k = findDelete se k
 unfoldable mutual
   unfolding bodyStart bodyEnd leaveTo wantOne beginOp
 
-  -- at items
+  -- at items; that no frame is missing at a bracket, close or ELSE is a theorem (theorems, Frames: frames-suffice)
   pub pullAt : List Item → List Frame → Pull
   pullAt [] frames = finished
   pullAt (simple at op ∷ items) frames = wantOne at op (running items frames)
@@ -97,10 +97,10 @@ unfoldable mutual
   pullAt (bracket ∷ items) [] = finished
   pullAt (bracket ∷ items) (frame g at o body ∷ frames) = pullAt items (frame true at o body ∷ frames)
   pullAt (close ∷ items) [] = finished
-  pullAt (close ∷ items) (frame g at o body ∷ frames) = let next = pullAt items frames in bodyEnd o g at body items frames next
+  pullAt (close ∷ items) (frame g at o body ∷ frames) = let skip = pullAt items frames in bodyEnd o g at body items frames skip
   pullAt (otherwise ∷ items) [] = finished
   pullAt (otherwise ∷ items) (f ∷ frames) = pullAfter items 1 frames
-  pullAt (leave at ∷ items) frames = wantOne at round (leaveTo 0 items frames)
+  pullAt (leave at ∷ items) frames = wantOne at onlyStep (leaveTo 0 items frames)
   pullAt (lineEnd ∷ items) frames = pullAt items frames
 
   -- after the kth close

@@ -27,8 +27,8 @@ pub data Test : Type 0 where
 
 -- What one step asks of the editor. F, BF and DF take a step to begin and one for each line they test (R26); `findDelete se k`: DF has passed k lines.
 pub data Op : Type 0 where
-  -- a round of a count, RPT or bare group; AGP
-  round : Op
+  -- nothing but the step is taken: a round of a count, RPT or bare group; AGP
+  onlyStep : Op
   -- W
   quit : Op
   test : Test → Op
@@ -37,7 +37,7 @@ pub data Op : Type 0 where
   findDelete : Search → ℕ → Op
   -- M, N, P
   move : Target → Op
-  next previous : Op
+  nextLine previousLine : Op
   -- D, R
   delete : Target → Through → Op
   replace : Target → Through → List Line → Op
@@ -122,7 +122,7 @@ passes (is se) e = searchHolds se e
 passes (isNot se) e = not (searchHolds se e)
 passes isEof e = isAtEof e
 
--- F and DF go on with the next live line: "21 F, DF, or a line number, meets EOF unfound"
+-- F and DF go on with the next live line: "21 F, DF, or a line number, meets EOF unfound" (R29)
 unfoldable pub lookOn : Program Did
 lookOn = do
   goAhead
@@ -172,7 +172,7 @@ recased up l p = splice l p 1 (cased up (getD l p 0) ∷ [])
 unfoldable pub placeOr24 : Qualified → Line → ℕ → Program ℕ
 placeOr24 q l p = orStop n24 (placeOf q p l)
 
--- the current line and p; "27 p at the line's end (>, #, $, %)"
+-- the current line and p; "27 p at the line's end (>, #, $, %)" (R36)
 unfoldable pub byteHere : Program (Line × ℕ)
 byteHere = do
   (l, p) ← lineOr n20
@@ -223,8 +223,8 @@ span a b = do
 -- ---- every command
 
 unfoldable pub program : Op → Program Did
--- a round; W; the tests
-program round = goesOn
+-- the step alone; W (R37); the tests
+program onlyStep = goesOn
 program quit = gives quits
 program (test c) = do
   t ← see (passes c)
@@ -236,7 +236,7 @@ program begin = do
 program (find se) = do
   (l, p) ← lineOr n21
   either (holds se p l) goesOn lookOn
--- "BF se likewise backward"
+-- "BF se likewise backward"; from EOF it starts with the last live line (R29)
 program beginBack = do
   t ← see isAtEof
   either t (go back) (gives tt)
@@ -248,25 +248,25 @@ program (findBack se) = do
 program (findDelete se k) = do
   (l, p) ← lineOr n21
   either (holds se p l) (gives (changes (strikeBack k ∷ []))) lookOn
--- M, N, P
+-- M, N, P (R29)
 program (move a) = do
   goTo a
   goesOn
-program next = do
+program nextLine = do
   lineOr n20
   goAhead
   goesOn
-program previous = do
+program previousLine = do
   go back
   goesOn
--- D; "R is D, then I"
+-- D; "R is D, then I": one command, its changes tested once (R33)
 program (delete a b) = do
   k ← span a b
   gives (changes (strike k ∷ []))
 program (replace a b ls) = do
   k ← span a b
   gives (changes (strike k ∷ put ls ∷ []))
--- IS, I alone; I with a line (R30); IC
+-- IS, I alone, which leave p; I with a line, which is moved to (R30); IC
 program (insert none ls) = gives (changes (put ls ∷ []))
 program (insert (some a) ls) = do
   goTo a

@@ -148,6 +148,6 @@ unfoldable pub fewOldLines : Option (List Record) → Option (List Record)
 fewOldLines none = none
 fewOldLines (some rs) = cond (leb (length (oldSide rs)) 65535) (some rs) none
 
--- the records of a journal; none: "bytes that are no list of records as above, or an old side of over 65,535 lines" (11)
+-- the records of a journal; none: "bytes that are no list of records as above, or an old side of over 65,535 lines" (11; R42)
 unfoldable pub recordsOf : List ℕ → Option (List Record)
 recordsOf j = cond (eqb (lastByte 10 j) 10) (fewOldLines (recordsIn none (linesOf j))) none

@@ -35,7 +35,7 @@ markIf false b = 32
 unfoldable pub listedLine : ℕ → Bool → Bool → Line → List ℕ
 listedLine n gap new l = inFive n ++ (markIf gap 45 ∷ markIf new 43 ∷ lineBytes l)
 
--- the listing of records after `n` source lines; `gap`: the last of them is deleted
+-- the listing of records after `n` source lines; `gap`: the last of them is deleted, whatever is inserted after it (R43)
 unfoldable pub listingFrom : ℕ → Bool → List Record → List ℕ
 listingFrom n gap [] = []
 listingFrom n gap (kept l ∷ rs) = listedLine (suc n) gap false l ++ listingFrom (suc n) false rs
@@ -61,7 +61,7 @@ lengthOf (written n len dest) = len
 unfoldable pub bytesOf : Written → List ℕ
 bytesOf (written n len dest) = dest
 
--- `out` written into `dest`: "bytes past the written length are untouched"; 10 where it is too long
+-- `out` written into `dest`: "bytes past the written length are untouched"; 10 where it is too long (R42: just the length is enough)
 unfoldable pub writtenTo : List ℕ → List ℕ → Written
 writtenTo dest out = cond (leb (length out) (length dest)) (written 0 (length out) (out ++ drop (length out) dest)) (written 10 0 dest)
 

@@ -18,9 +18,9 @@ pub data Columns : Type 0 where
   allColumns : Columns
   columns : ℕ → ℕ → Columns
 
--- B, E or P; the count (0 where none is given); then whether L, N, W, U and S are given; and the columns
+-- the qualifiers of a string: B, E or P; the count, 0 where none is given; are L (last), N (negated), W (apart), U (anyCase) and S (skip) given; the columns
 pub data Qualifiers : Type 0 where
-  qualifiers : Anchor → ℕ → Bool → Bool → Bool → Bool → Bool → Columns → Qualifiers
+  qualifiers : (anchor : Anchor) (count : ℕ) (last negated apart anyCase skip : Bool) (cols : Columns) → Qualifiers
 
 pub data Qualified : Type 0 where
   qualified : Qualifiers → Line → Qualified
@@ -31,11 +31,12 @@ pub data Qualified : Type 0 where
 pub data Text : Type 0 where
   text : ℕ → ℕ → Text
 
--- "an empty cut lies at the later of p and n - 1, at most at the line's end"
+-- from a start to an end; where the end is before it, empty at the start
 unfoldable pub cut : ℕ → ℕ → Text
 cut start end = text start (max start end)
 
--- "The window of the current line starts after p bytes .. and runs to the line's end. Text T is the window, cut to the line's columns n to m"
+-- "The window of the current line starts after p bytes .. and runs to the line's end. Text T is the window, cut to the line's columns n to m (from 1)
+-- where given; an empty cut lies at the later of p and n - 1, at most at the line's end" (R38)
 unfoldable pub window : Columns → ℕ → Line → Text
 window allColumns p l = text p (length l)
 window (columns n m) p l = cut (min (max p (n - 1)) (length l)) (min m (length l))
@@ -45,14 +46,14 @@ unfoldable pub leadingSpaces : List ℕ → ℕ
 leadingSpaces [] = 0
 leadingSpaces (b ∷ bs) = elim (eqb b 32) [ true ↦ suc (leadingSpaces bs) | false ↦ 0 ]
 
--- "S then drops T's leading spaces"
+-- "S then drops T's leading spaces" (R38)
 unfoldable pub afterSpaces : Bool → Line → Text → Text
 afterSpaces false l t = t
 afterSpaces true l (text start end) = text (start + min (leadingSpaces (drop start l)) (end - start)) end
 
 -- ---- the string at a place
 
--- "U compares upper-cased"
+-- "U compares upper-cased" (R41)
 unfoldable pub folded : Bool → ℕ → ℕ
 folded true b = upper b
 folded false b = b
@@ -70,7 +71,7 @@ unfoldable pub byteBefore : Line → ℕ → ℕ
 byteBefore l zero = 0
 byteBefore l (suc i) = getD l i 0
 
--- "W: the bytes before and after in the whole line are no letters or digits"; no byte is none (0)
+-- "W: the bytes before and after in the whole line are no letters or digits" (R39); no byte is none (0)
 unfoldable pub isApart : Bool → Line → ℕ → ℕ → Bool
 isApart false l i j = true
 isApart true l i j = not (isWordByte (byteBefore l i)) && not (isWordByte (getD l j 0))
@@ -108,12 +109,13 @@ unfoldable pub onlyAt : Bool → ℕ → Option ℕ
 onlyAt true i = some i
 onlyAt false i = none
 
--- the place of the kth occurrence, counted "from the left, with L from the right"
+-- the place of the kth occurrence, counted "from the left, with L from the right" (R39); a count that is not given (0) is the first
 unfoldable pub counted : (ℕ → Bool) → ℕ → ℕ → Bool → Text → Option ℕ
 counted stands width k last t =
     located (placeFrom last width t) (occurrence (λ j. stands (placeFrom last width t j)) width (k - 1) 0 (places width t) 0)
 
--- "Plain: the string occurs in T. B: at its start. E: at its end. P: T is the string."
+-- "Plain: the string occurs in T. B: at its start. E: at its end. P: T is the string." E with L: E decides (R17). The empty string has one place more
+-- than T has bytes: "An empty string occurs at the start of T, with L or E at its end" (R40).
 unfoldable pub placeIn : Anchor → (ℕ → Bool) → ℕ → ℕ → Bool → Text → Option ℕ
 placeIn anywhere stands width k last t = counted stands width k last t
 placeIn atStart stands width k last t = onlyAt (leb 1 (places width t) && stands (placeFrom false width t 0)) (placeFrom false width t 0)
@@ -122,8 +124,8 @@ placeIn precisely stands width k last t = onlyAt (eqb (places width t) 1 && stan
 
 -- The place where the qualified string occurs in the line with the window from p: the byte of the line that it begins at. N is not looked at.
 unfoldable pub placeOf : Qualified → ℕ → Line → Option ℕ
-placeOf (qualified (qualifiers anchor k last n w u skip cols) s) p l =
-    placeIn anchor (standsAt w u s l) (length s) k last (afterSpaces skip l (window cols p l))
+placeOf (qualified (qualifiers anchor count last negated apart anyCase skip cols) s) p l =
+    placeIn anchor (standsAt apart anyCase s l) (length s) count last (afterSpaces skip l (window cols p l))
 
 unfoldable pub isFound : Option ℕ → Bool
 isFound none = false
@@ -135,7 +137,7 @@ turned true b = not b
 turned false b = b
 
 unfoldable pub isNegated : Qualified → Bool
-isNegated (qualified (qualifiers anchor k last n w u skip cols) s) = n
+isNegated (qualified (qualifiers anchor count last negated apart anyCase skip cols) s) = negated
 
 unfoldable pub stringIn : Qualified → Line
 stringIn (qualified q s) = s

@@ -40,7 +40,7 @@ afterByte (cursor at (b ∷ bs)) = cursor (suc at) bs
 unfoldable pub isNext : ℕ → Cursor → Bool
 isNext b c = eqb b (nextByte c)
 
--- the byte `b` must stand next; else 3 at what stands there
+-- the byte `b` must stand next; else 3 at what stands there (R9)
 unfoldable pub expect : ℕ → Cursor → Got (Unit {0})
 expect b c = cond (isNext b c) (got tt (afterByte c)) (refused 3 (placeAt c))
 
@@ -50,7 +50,7 @@ unfoldable pub spacesAt : ℕ → List ℕ → Cursor
 spacesAt at [] = cursor at []
 spacesAt at (b ∷ bs) = elim (eqb b 32) [ true ↦ spacesAt (suc at) bs | false ↦ cursor at (b ∷ bs) ]
 
--- "Spaces may stand between items"
+-- "Spaces may stand between items": a line end is none (R1, R9)
 unfoldable pub skipSpaces : Cursor → Cursor
 skipSpaces (cursor at bs) = spacesAt at bs
 
@@ -72,45 +72,45 @@ blankAt false at (b ∷ bs) =
       | false ↦ elim (eqb b 32 || eqb b 10) [ true ↦ blankAt false (suc at) bs | false ↦ cursor at (b ∷ bs) ]
     ]
 
--- "Line ends may stand .. beside & or | in a bracketed search"
+-- "Line ends may stand .. beside & or | in a bracketed search" (R19)
 unfoldable pub skipBlank : Cursor → Cursor
 skipBlank (cursor at bs) = blankAt false at bs
 
 -- ---- numbers and names
 
--- a number read, with the cursor after it
-pub data Word : Type 0 where
-  word : ℕ → Cursor → Word
+-- what stands next as one number, the value of digits or the packed letters of a name, with the cursor after it
+pub data Token : Type 0 where
+  token : ℕ → Cursor → Token
 
-unfoldable pub digitsAt : ℕ → ℕ → List ℕ → Word
-digitsAt n at [] = word n (cursor at [])
-digitsAt n at (b ∷ bs) = elim (isDigit b) [ true ↦ digitsAt (n * 10 + (b - 48)) (suc at) bs | false ↦ word n (cursor at (b ∷ bs)) ]
+unfoldable pub digitsAt : ℕ → ℕ → List ℕ → Token
+digitsAt n at [] = token n (cursor at [])
+digitsAt n at (b ∷ bs) = elim (isDigit b) [ true ↦ digitsAt (n * 10 + (b - 48)) (suc at) bs | false ↦ token n (cursor at (b ∷ bs)) ]
 
--- the digits that stand next, as a number
-unfoldable pub digits : Cursor → Word
+-- the digits that stand next, as a number, any number of them (R13)
+unfoldable pub digits : Cursor → Token
 digits (cursor at bs) = digitsAt 0 at bs
 
 unfoldable pub isDigitNext : Cursor → Bool
 isDigitNext c = isDigit (nextByte c)
 
 -- "Numbers are 1 to 65,535": else 3 at the number
-unfoldable pub inRange : ℕ → Word → Got ℕ
-inRange at (word n c) = cond (leb 1 n && leb n 65535) (got n c) (refused 3 at)
+unfoldable pub inRange : ℕ → Token → Got ℕ
+inRange at (token n c) = cond (leb 1 n && leb n 65535) (got n c) (refused 3 at)
 
 -- a number must stand next
 unfoldable pub number : Cursor → Got ℕ
 number c = cond (isDigitNext c) (inRange (placeAt c) (digits c)) (refused 3 (placeAt c))
 
-unfoldable pub lettersAt : ℕ → ℕ → ℕ → List ℕ → Word
-lettersAt k n at [] = word n (cursor at [])
+unfoldable pub lettersAt : ℕ → ℕ → ℕ → List ℕ → Token
+lettersAt k n at [] = token n (cursor at [])
 lettersAt k n at (b ∷ bs) =
     elim (isLetter b) [
       | true ↦ elim k [ zero ↦ lettersAt zero n (suc at) bs | suc j ↦ lettersAt j (n * 256 + upper b) (suc at) bs ]
-      | false ↦ word n (cursor at (b ∷ bs))
+      | false ↦ token n (cursor at (b ∷ bs))
     ]
 
--- "Command names: first four letters significant, any case, ended by a non-letter": the four letters packed in a number, the first highest
-unfoldable pub name : Cursor → Word
+-- "Command names: first four letters significant, any case, ended by a non-letter" (R4): the four letters packed in a number, the first highest
+unfoldable pub name : Cursor → Token
 name (cursor at bs) = lettersAt 4 0 at bs
 
 unfoldable pub packedFrom : ℕ → String → ℕ
@@ -121,11 +121,11 @@ packedFrom n (String._∷_ c s) = packedFrom (n * 256 + code c) s
 unfoldable pub packed : String → ℕ
 packed s = packedFrom 0 s
 
-unfoldable pub isWord : ℕ → Word → Bool
-isWord w (word n c) = eqb w n
+unfoldable pub isToken : ℕ → Token → Bool
+isToken w (token n c) = eqb w n
 
-unfoldable pub afterWord : Word → Cursor
-afterWord (word n c) = c
+unfoldable pub afterToken : Token → Cursor
+afterToken (token n c) = c
 
 -- ---- strings
 
@@ -153,7 +153,7 @@ pastDelimiter d c = cond (isNext d c) (afterByte c) c
 unfoldable pub afterString : ℕ → Cursor → Cursor
 afterString d c = pastDelimiter d (advance (length (stringNext d c)) c)
 
--- a string with its delimiters, the opening one next; else 3
+-- a string with its delimiters, the opening one next; else 3 (R12)
 unfoldable pub quoted : Cursor → Got Line
 quoted c =
     cond (isDelimiter (nextByte c)) (got (stringNext (nextByte c) (afterByte c)) (afterString (nextByte c) (afterByte c))) (refused 3 (placeAt c))

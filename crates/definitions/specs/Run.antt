@@ -30,7 +30,7 @@ unfoldable pub endPlace : ℕ → ℕ → ℕ
 endPlace zero at = 0
 endPlace (suc n) at = at
 
--- the budget is spent: "The run stops when its next step would exceed the budget" (29), at the place of that step
+-- the budget is spent: "The run stops when its next step would exceed the budget" (29), at the place of that step (R27); done where none is wanted (R28)
 unfoldable pub spent : ℕ → RunState → Pull → End
 spent steps s finished = end 0 steps 0 s
 spent steps s (want at op c₁ c₀) = end 29 steps at s
@@ -71,7 +71,7 @@ ranItems take-step budget is ls = let r = runItems take-step budget is (unread l
 unfoldable pub openingLength : List Line → ℕ
 openingLength ls = journalLength (map kept ls)
 
--- the least length of the work area: "twice the script's bytes plus 64" 32-bit numbers
+-- the least length of the work area: "twice the script's bytes plus 64" 32-bit numbers (R45)
 unfoldable pub workLength : List ℕ → ℕ
 workLength script = 2 * length script + 64
 
@@ -83,7 +83,7 @@ unfoldable pub ranScript : List ℕ → ℕ → ℕ → Script → Answer
 ranScript table budget size (items is) = cond (isTable table) (ranTable table budget size is) (refusal 7 0)
 ranScript table budget size (refusedAt n at) = refusal n at
 
--- "Order: 1, 8, then 2 to 6 by place in reading order, 7, 9"
+-- "Order: 1, 8, then 2 to 6 by place in reading order (ties to the lower), 7, 9" (R45)
 unfoldable pub runAnswer : List ℕ → List ℕ → ℕ → ℕ → ℕ → Answer
 runAnswer table script budget work size =
     cond (isScript script)

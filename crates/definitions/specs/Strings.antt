@@ -20,7 +20,7 @@ isAnchored atStart = true
 isAnchored atEnd = true
 isAnchored precisely = true
 
--- "nor L with B"; "A count or L may not stand with P": L with E may
+-- "nor L with B"; "A count or L may not stand with P": L with E may (R17)
 unfoldable pub clashesWithL : Anchor → Bool
 clashesWithL anywhere = false
 clashesWithL atStart = true
@@ -37,36 +37,40 @@ unless false a = some a
 
 -- each of these adds a qualifier, "each at most once"; none where it "cannot stand with earlier ones"
 unfoldable pub addAnchor : Anchor → Qualifiers → Option Qualifiers
-addAnchor a (qualifiers b k l n w u s c) = unless (isAnchored b || not (eqb k 0) || (l && clashesWithL a)) (qualifiers a k l n w u s c)
+addAnchor a (qualifiers b count last negated apart anyCase skip cols) =
+    unless (isAnchored b || not (eqb count 0) || (last && clashesWithL a)) (qualifiers a count last negated apart anyCase skip cols)
 
 unfoldable pub addCount : ℕ → Qualifiers → Option Qualifiers
-addCount i (qualifiers a k l n w u s c) = unless (isAnchored a || not (eqb k 0)) (qualifiers a i l n w u s c)
+addCount i (qualifiers anchor count last negated apart anyCase skip cols) =
+    unless (isAnchored anchor || not (eqb count 0)) (qualifiers anchor i last negated apart anyCase skip cols)
 
 unfoldable pub addL : Qualifiers → Option Qualifiers
-addL (qualifiers a k l n w u s c) = unless (l || clashesWithL a) (qualifiers a k true n w u s c)
+addL (qualifiers anchor count last negated apart anyCase skip cols) =
+    unless (last || clashesWithL anchor) (qualifiers anchor count true negated apart anyCase skip cols)
 
--- "N only in searches"
+-- "N only in searches" (R17)
 unfoldable pub addN : Bool → Qualifiers → Option Qualifiers
-addN inSearch (qualifiers a k l n w u s c) = unless (n || not inSearch) (qualifiers a k l true w u s c)
+addN inSearch (qualifiers anchor count last negated apart anyCase skip cols) =
+    unless (negated || not inSearch) (qualifiers anchor count last true apart anyCase skip cols)
 
 unfoldable pub addW : Qualifiers → Option Qualifiers
-addW (qualifiers a k l n w u s c) = unless w (qualifiers a k l n true u s c)
+addW (qualifiers anchor count last negated apart anyCase skip cols) = unless apart (qualifiers anchor count last negated true anyCase skip cols)
 
 unfoldable pub addU : Qualifiers → Option Qualifiers
-addU (qualifiers a k l n w u s c) = unless u (qualifiers a k l n w true s c)
+addU (qualifiers anchor count last negated apart anyCase skip cols) = unless anyCase (qualifiers anchor count last negated apart true skip cols)
 
 unfoldable pub addS : Qualifiers → Option Qualifiers
-addS (qualifiers a k l n w u s c) = unless s (qualifiers a k l n w u true c)
+addS (qualifiers anchor count last negated apart anyCase skip cols) = unless skip (qualifiers anchor count last negated apart anyCase true cols)
 
 unfoldable pub setColumns : ℕ → ℕ → Qualifiers → Qualifiers
-setColumns i j (qualifiers a k l n w u s c) = qualifiers a k l n w u s (columns i j)
+setColumns i j (qualifiers anchor count last negated apart anyCase skip cols) = qualifiers anchor count last negated apart anyCase skip (columns i j)
 
 unfoldable pub hasColumns : Qualifiers → Bool
-hasColumns (qualifiers a k l n w u s c) = isGiven c
+hasColumns (qualifiers anchor count last negated apart anyCase skip cols) = isGiven cols
 
--- "an empty string takes no count and no W"
+-- "an empty string takes no count and no W" (R18)
 unfoldable pub wantsBytes : Qualifiers → Bool
-wantsBytes (qualifiers a k l n w u s c) = not (eqb k 0) || w
+wantsBytes (qualifiers anchor count last negated apart anyCase skip cols) = not (eqb count 0) || apart
 
 -- ---- one qualifier
 
@@ -83,7 +87,7 @@ letterOf b =
 unfoldable pub qualifierByte : ℕ → QualifierByte
 qualifierByte b = cond (isDigit b) byteDigit (cond (eqb b 95) byteColumns (letterOf (upper b)))
 
--- 4 at the qualifier that cannot stand
+-- 4 at the qualifier that cannot stand; a count out of range was 3 before (R16)
 unfoldable pub added : ℕ → Option Qualifiers → Cursor → Got Qualifiers
 added at none c = refused 4 at
 added at (some q) c = got q c
@@ -92,7 +96,7 @@ added at (some q) c = got q c
 unfoldable pub readCount : Qualifiers → Cursor → Got Qualifiers
 readCount q c = andThen (number c) (λ k c₁. added (placeAt c) (addCount k q) c₁)
 
--- "_n,m_ with n ≤ m": after the first `_`; n > m is 3 at m
+-- "_n,m_ with n ≤ m": after the first `_`; n > m is 3 at m (R16)
 unfoldable pub readColumns : Qualifiers → Cursor → Got Qualifiers
 readColumns q c =
     andThen (number (skipSpaces c)) (λ n c₁.
@@ -100,7 +104,7 @@ readColumns q c =
     andThen (number (skipSpaces c₂)) (λ m c₃.
     cond (leb n m) (andThen (expect 95 (skipSpaces c₃)) (λ end c₄. got (setColumns n m q) c₄)) (refused 3 (placeAt (skipSpaces c₂))))))
 
--- the qualifier at the cursor; "a letter or byte that is none" is 3 at it
+-- the qualifier at the cursor; a letter or byte that is none is 3 at it (R15); a second `_n,m_` is 4 at its `_` (R16)
 unfoldable pub readQualifier : Bool → Qualifiers → Cursor → QualifierByte → Got Qualifiers
 readQualifier inSearch q c byteB = added (placeAt c) (addAnchor atStart q) (afterByte c)
 readQualifier inSearch q c byteE = added (placeAt c) (addAnchor atEnd q) (afterByte c)
@@ -115,7 +119,7 @@ readQualifier inSearch q c byteColumns = cond (hasColumns q) (refused 4 (placeAt
 readQualifier inSearch q c byteOther = refused 3 (placeAt c)
 
 -- qualifiers up to the opening delimiter, where the cursor then stands. Each reads a byte at least, so one round more than there are
--- bytes is enough; 0 is no number of document 01's.
+-- bytes is enough: the first clause never comes (theorems, ReadScript: fuel-suffices); 0 is no number of document 01's.
 unfoldable pub readQualifiers : ℕ → Bool → Qualifiers → Cursor → Got Qualifiers
 readQualifiers zero inSearch q c = refused 0 (placeAt c)
 readQualifiers (suc rounds) inSearch q c =
@@ -133,7 +137,7 @@ unfoldable pub isEmpty : Line → Bool
 isEmpty [] = true
 isEmpty (b ∷ l) = false
 
--- the string at its opening delimiter: "for the empty string, at its delimiter" (4)
+-- the string at its opening delimiter: "for the empty string, at its delimiter" (4; R18)
 unfoldable pub readString : Qualifiers → Cursor → Got Qualified
 readString q c =
     cond (isEmpty (stringNext (nextByte c) (afterByte c)) && wantsBytes q)
@@ -146,7 +150,7 @@ startQualifiers inSearch c = readQualifiers (suc (bytesLeft c)) inSearch noQuali
 unfoldable pub qualifiedString : Bool → Cursor → Got Qualified
 qualifiedString inSearch c = andThen (startQualifiers inSearch c) (λ q c₁. readString q c₁)
 
--- a qualified string and a second string: "Two-string commands share the middle delimiter; a missing second string is empty"
+-- a qualified string and a second string: "Two-string commands share the middle delimiter; a missing second string is empty" (R14)
 pub data Pair : Type 0 where
   pair : Qualified → Line → Pair
 
@@ -159,18 +163,19 @@ twoStrings c =
 
 -- ---- search expressions
 
--- Where & , | or `)` must follow: `)`; or 5 at the script's length where nothing but spaces, comments and line ends is left ("never closed"); or 3
+-- Where &, | or `)` must follow: `)`; or 5 at the script's length where nothing but spaces, comments and line ends is left ("never closed", R22);
+-- or 3 at what stands there (R21)
 unfoldable pub closing : Search → Cursor → Got Search
 closing se c =
     cond (isNext 41 c) (got se (afterByte c))
     (cond (eqb (bytesLeft (skipBlank c)) 0) (refused 5 (placeAt (skipBlank c))) (refused 3 (placeAt c)))
 
--- "Line ends may stand .. beside & or |": the operator `b` if it is the next thing but for them
+-- "Line ends may stand .. beside & or |" (R19): the operator `b` if it is the next thing but for them; what must follow is looked for after them (R20)
 unfoldable pub operator : ℕ → Cursor → Option Cursor
 operator b c = cond (isNext b (skipBlank c)) (some (skipBlank (afterByte (skipBlank c)))) none
 
--- Alternatives, conjunctions and parts; `fuel` bounds how deep they call each other (0 is no number of document 01's), `deep` brackets may
--- still be opened. "& binding more"
+-- Alternatives, conjunctions and parts: "& binding more". `deep` brackets may still be opened. `fuel` bounds how deep they call each other: there is
+-- always enough (theorems, ReadScript: fuel-suffices); 0 is no number of document 01's.
 unfoldable mutual
   unfolding operator closing qualifiedString isNext
 
@@ -198,7 +203,7 @@ unfoldable mutual
         | some c₁ ↦ elim (part fuel deep c₁) [ got tf c₂ ↦ moreConjunction fuel deep (both se tf) c₂ | refused n at ↦ refused n at ]
       ]
 
-  -- a bracketed part or one qualified string; "brackets (also round one alone or a part) at most 8 deep": the one too many is 5 at it
+  -- a bracketed part or one qualified string; "brackets (also round one alone or a part) at most 8 deep": the one too many is 5 at it (R23)
   pub part : ℕ → ℕ → Cursor → Got Search
   part zero deep c = refused 0 (placeAt c)
   part (suc fuel) deep c =

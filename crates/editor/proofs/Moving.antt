@@ -278,16 +278,16 @@ here-by {j} {st} g c e t r n h z q = target-by g c e t j r n (target-here n z) (
 
 -- ---- N, P and M
 
-pub next-eof : {j : List ℕ} {st : State} (g : Given) (c : Carried) (e : Ed) (t : Tape) → Shows j st e t → length j ≤ st .back → Answered j (Stop 20 st) (step g Op.next (state e c) t)
+pub next-eof : {j : List ℕ} {st : State} (g : Given) (c : Carried) (e : Ed) (t : Tape) → Shows j st e t → length j ≤ st .back → Answered j (Stop 20 st) (step g Op.nextLine (state e c) t)
 unfolding step program _>>_ stopNumber
 next-eof g c e t h end = perform-no-line g c n20 (λ x. _>>=_ goAhead (λ a. goesOn)) e t h 20 refl end
 
 pub next-on : {j : List ℕ} {st : State} (g : Given) (c : Carried) (e : Ed) (t : Tape) (k : List ℕ) (r : Moved) → Shows j st e t → st .back < length j → Came k r (runs g c goAhead e t)
-    → Answered k r (step g Op.next (state e c) t)
+    → Answered k r (step g Op.nextLine (state e c) t)
 unfolding step program _>>_
 next-on g c e t k r h more ahead = rw (perform-line g c n20 (λ x. _>>=_ goAhead (λ a. goesOn)) e t h more) (goes-on g c goAhead e t k r ahead)
 
-pub previous-by : (g : Given) (c : Carried) (e : Ed) (t : Tape) (k : List ℕ) (r : Moved) → Came k r (runs g c (go Move.back) e t) → Answered k r (step g Op.previous (state e c) t)
+pub previous-by : (g : Given) (c : Carried) (e : Ed) (t : Tape) (k : List ℕ) (r : Moved) → Came k r (runs g c (go Move.back) e t) → Answered k r (step g Op.previousLine (state e c) t)
 unfolding step program
 previous-by g c e t k r h = goes-on g c (go Move.back) e t k r h
 

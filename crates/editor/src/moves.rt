@@ -100,7 +100,7 @@ pub fn go_to(j: &mut [u8], st: State, target: usize) -> Moved
 // N
 pub fn next_line(j: &mut [u8], st: State) -> Moved
     requires { ⌜ ShowsText (now j) st ⌝ }
-    ensures { λ r. ⌜ Performs (now (j .entry)) st Op.next (now (j .exit)) r ⌝ }
+    ensures { λ r. ⌜ Performs (now (j .entry)) st Op.nextLine (now (j .exit)) r ⌝ }
 {
     let at = st.back;
     if at >= j.len() {
@@ -112,7 +112,7 @@ pub fn next_line(j: &mut [u8], st: State) -> Moved
 // P
 pub fn previous_line(j: &mut [u8], st: State) -> Moved
     requires { ⌜ ShowsText (now j) st ⌝ }
-    ensures { λ r. ⌜ Performs (now (j .entry)) st Op.previous (now (j .exit)) r ⌝ }
+    ensures { λ r. ⌜ Performs (now (j .entry)) st Op.previousLine (now (j .exit)) r ⌝ }
 {
     go_back(j, st)
 }

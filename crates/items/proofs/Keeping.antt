@@ -7,7 +7,7 @@ use native.Mathlib.Omega.{arith}
 use lib.ListN.{length, getD}
 use Rattle.definitions.specs.Search.{Search, one}
 use Rattle.definitions.specs.Editor.{Target, Through}
-use Rattle.definitions.specs.Edit.{is, isNot, isEof, Op, round, quit, test, begin, beginBack, find, findBack, findDelete, move, next, previous, delete, replace, insert, copy, alter, point, pointStart, right, left, cutByte, recase}
+use Rattle.definitions.specs.Edit.{is, isNot, isEof, Op, onlyStep, quit, test, begin, beginBack, find, findBack, findDelete, move, nextLine, previousLine, delete, replace, insert, copy, alter, point, pointStart, right, left, cutByte, recase}
 use Rattle.definitions.specs.Control.{Opener, times, forever, bare, branch, loop, Item, simple, seek, opens, bracket, close, otherwise, leave, lineEnd}
 use Rattle.matching.specs.Words.{Encodes}
 use Rattle.matching.proofs.Running.{forward}
@@ -32,8 +32,8 @@ module _ (s w w′ : List ℕ) (n : ℕ) (same : (j : ℕ) → j < n → getD w�
   pub op-kept : (k m place : ℕ) (op : Op) → m ≤ n → OpAt s w k m place op → OpAt s w′ k m place op
   unfolding OpAt
   op-kept k m place quit le h = one-kept k m _ le h
-  op-kept k m place next le h = one-kept k m _ le h
-  op-kept k m place previous le h = one-kept k m _ le h
+  op-kept k m place nextLine le h = one-kept k m _ le h
+  op-kept k m place previousLine le h = one-kept k m _ le h
   op-kept k m place copy le h = one-kept k m _ le h
   op-kept k m place pointStart le h = one-kept k m _ le h
   op-kept k m place right le h = one-kept k m _ le h
@@ -59,7 +59,7 @@ module _ (s w w′ : List ℕ) (n : ℕ) (same : (j : ℕ) → j < n → getD w�
   op-kept k m place (point after q) le h =
       let f = forward s w (k + 1) m (one q) (h .1) .0 in
       (same k (omega (arith, f)) ∙ h .0, encodes-kept (k + 1) m (one q) le (h .1))
-  op-kept k m place round le h = h
+  op-kept k m place onlyStep le h = h
   op-kept k m place (test c) le h = h
   op-kept k m place begin le h = h
   op-kept k m place beginBack le h = h

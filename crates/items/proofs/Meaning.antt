@@ -12,7 +12,7 @@ use borrow.Author.Tests.{ne-eqb, eqb-true}
 use Rattle.definitions.specs.Bytes.{Line, isLine, allLines}
 use Rattle.definitions.specs.Matching.{Qualified}
 use Rattle.definitions.specs.Editor.{Target, Through, alone, upTo, toEof}
-use Rattle.definitions.specs.Edit.{Change, Op, round, quit, test, begin, beginBack, find, findBack, findDelete, move, next, previous, delete, replace, insert, copy, alter, point, pointStart, right, left, cutByte, recase}
+use Rattle.definitions.specs.Edit.{Change, Op, onlyStep, quit, test, begin, beginBack, find, findBack, findDelete, move, nextLine, previousLine, delete, replace, insert, copy, alter, point, pointStart, right, left, cutByte, recase}
 use Rattle.theorems.specs.Lines.{and-left, and-right}
 use Rattle.theorems.specs.GoodItems.{goodTarget, goodThrough, goodOption, goodQualified, goodOp}
 use Rattle.matching.proofs.Reading.{ReadsAs, one-reads}
@@ -143,8 +143,8 @@ module _ (s w : List ℕ) (k m place : ℕ) where
   pub means : (op : Op) → OpAt s w k m place op → goodOp op ≡ true → Means s w k m (kindAt w k) (formOf (kindAt w k)) op
   unfolding OpAt wordOp byteOp goodOp formOf Means
   means quit h good = word quitKind quit (omega arith) refl refl h
-  means next h good = word nextKind next (omega arith) refl refl h
-  means previous h good = word previousKind previous (omega arith) refl refl h
+  means nextLine h good = word nextKind nextLine (omega arith) refl refl h
+  means previousLine h good = word previousKind previousLine (omega arith) refl refl h
   means copy h good = word copyKind copy (omega arith) refl refl h
   means pointStart h good = word pointStartKind pointStart (omega arith) refl refl h
   means right h good = word rightKind right (omega arith) refl refl h
@@ -170,7 +170,7 @@ module _ (s w : List ℕ) (k m place : ℕ) where
   means (point after q) h good =
       let x = point-shape after in
       pointed-at after q (kinds (pointKind after) (x .0) (h .0)) (x .1) (one-reads s w (k + 1) m q (h .1))
-  means round h good = absurd h
+  means onlyStep h good = absurd h
   means (test c) h good = absurd h
   means begin h good = absurd h
   means beginBack h good = absurd h

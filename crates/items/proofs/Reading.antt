@@ -8,7 +8,7 @@ use native.Mathlib.Omega.{arith}
 use lib.ListN.{length, getD}
 use lib.Dec.{ltb}
 use Rattle.definitions.specs.Search.{Search, one}
-use Rattle.definitions.specs.Edit.{Change, afterIt, beforeIt, exchange, is, isNot, isEof, Op, round, quit, test, begin, beginBack, find, findBack, findDelete, move, next, previous, delete, replace, insert, copy, alter, point, pointStart, right, left, cutByte, recase}
+use Rattle.definitions.specs.Edit.{Change, afterIt, beforeIt, exchange, is, isNot, isEof, Op, onlyStep, quit, test, begin, beginBack, find, findBack, findDelete, move, nextLine, previousLine, delete, replace, insert, copy, alter, point, pointStart, right, left, cutByte, recase}
 use Rattle.definitions.specs.Control.{Seek, forward, backward, deleting, Opener, times, forever, bare, branch, loop, Item, simple, seek, opens, bracket, close, otherwise, leave, lineEnd}
 use Rattle.matching.specs.Words.{endAt, flagsAt}
 use Rattle.matching.proofs.Reading.{one-reads}
@@ -100,8 +100,8 @@ module _ (s w : List ℕ) (k m : ℕ) where
     pub op-reads : (op : Op) → OpAt s w k m place op → ReadsBack w k m (simple place op)
     unfolding OpAt classIn endIn isOneWord classOf placeOf
     op-reads quit h = plain-reads quit quitKind (omega arith) refl h
-    op-reads next h = plain-reads next nextKind (omega arith) refl h
-    op-reads previous h = plain-reads previous previousKind (omega arith) refl h
+    op-reads nextLine h = plain-reads nextLine nextKind (omega arith) refl h
+    op-reads previousLine h = plain-reads previousLine previousKind (omega arith) refl h
     op-reads copy h = plain-reads copy copyKind (omega arith) refl h
     op-reads pointStart h = plain-reads pointStart pointStartKind (omega arith) refl h
     op-reads right h = plain-reads right rightKind (omega arith) refl h
@@ -121,7 +121,7 @@ module _ (s w : List ℕ) (k m : ℕ) where
         let x = point-shape after in
         reads-more w k m (simple place (point after q)) (pointKind after) place 0 (x .0) (h .0 ∙ omega arith) refl stringShape (x .1) refl
         (one-reads s w (k + 1) m q (h .1) .ends) (omega (arith, ahead s w (k + 1) m (one q) (h .1)))
-    op-reads round h = absurd h
+    op-reads onlyStep h = absurd h
     op-reads (test c) h = absurd h
     op-reads begin h = absurd h
     op-reads beginBack h = absurd h

@@ -6,7 +6,7 @@ use Prim.Native.Nat.{ℕ, _≤_}
 use lib.ListN.{length}
 use lib.Dec.{eqb}
 use Rattle.definitions.specs.Table.{isScript}
-use Rattle.definitions.specs.Edit.{Op, quit, next, previous, copy, pointStart, right, left, cutByte, recase}
+use Rattle.definitions.specs.Edit.{Op, quit, nextLine, previousLine, copy, pointStart, right, left, cutByte, recase}
 use Rattle.theorems.specs.GoodItems.{goodOp}
 use Rattle.items.specs.Kinds.{quitKind, nextKind, previousKind, copyKind, pointStartKind, rightKind, leftKind, cutByteKind, lowerKind}
 use Rattle.items.specs.Words.{OpAt}
@@ -23,8 +23,8 @@ byteOp kind =
 unfoldable pub wordOp : ℕ → Op
 wordOp kind =
     cond (eqb kind quitKind) quit
-    (cond (eqb kind nextKind) next
-    (cond (eqb kind previousKind) previous
+    (cond (eqb kind nextKind) nextLine
+    (cond (eqb kind previousKind) previousLine
     (cond (eqb kind copyKind) copy (byteOp kind))))
 
 -- the words from k on hold the simple command `op` of the script

@@ -8,7 +8,7 @@ use lib.ListN.{length, take, drop, getD}
 use Rattle.definitions.specs.Bytes.{Line, linesOf}
 use Rattle.definitions.specs.Search.{Search, one}
 use Rattle.definitions.specs.Editor.{Target, here, line, eof, Through, alone, upTo, toEof}
-use Rattle.definitions.specs.Edit.{is, isNot, isEof, Op, round, quit, test, begin, beginBack, find, findBack, findDelete, move, next, previous, delete, replace, insert, copy, alter, point, pointStart, right, left, cutByte, recase}
+use Rattle.definitions.specs.Edit.{is, isNot, isEof, Op, onlyStep, quit, test, begin, beginBack, find, findBack, findDelete, move, nextLine, previousLine, delete, replace, insert, copy, alter, point, pointStart, right, left, cutByte, recase}
 use Rattle.definitions.specs.Control.{Opener, times, forever, bare, branch, loop, Item, simple, seek, opens, bracket, close, otherwise, leave, lineEnd}
 use Rattle.matching.specs.Words.{Encodes}
 use Rattle.items.specs.Kinds.{lineEndKind, bracketKind, closeKind, elseKind, leaveKind, quitKind, nextKind, previousKind, copyKind, pointStartKind, rightKind, leftKind, cutByteKind, moveKind, deleteKind, insertStringKind, replaceKind, insertLinesKind, ifKind, unlessKind, whileKind, untilKind, countKind, repeatKind, bareKind, ifEofKind, longCountKind, caseKind, pointKind, changeKind, seekKind}
@@ -97,8 +97,8 @@ module _ (s w : List ℕ) where
   -- a simple command at `place`, in the words from k up to m
   unfoldable pub OpAt : ℕ → ℕ → ℕ → Op → Type 0
   OpAt k m place quit = Words1 k m (head quitKind place)
-  OpAt k m place next = Words1 k m (head nextKind place)
-  OpAt k m place previous = Words1 k m (head previousKind place)
+  OpAt k m place nextLine = Words1 k m (head nextKind place)
+  OpAt k m place previousLine = Words1 k m (head previousKind place)
   OpAt k m place copy = Words1 k m (head copyKind place)
   OpAt k m place pointStart = Words1 k m (head pointStartKind place)
   OpAt k m place right = Words1 k m (head rightKind place)
@@ -114,7 +114,7 @@ module _ (s w : List ℕ) where
   OpAt k m place (alter c pointing q new) =
       (n : ℕ) × (m ≡ n + 1) × (at k ≡ head (changeKind c pointing) place) × Encodes s w (k + 1) n (one q) × StringIn s (at n) new
   OpAt k m place (point after q) = (at k ≡ head (pointKind after) place) × Encodes s w (k + 1) m (one q)
-  OpAt k m place round = ⊥
+  OpAt k m place onlyStep = ⊥
   OpAt k m place (test c) = ⊥
   OpAt k m place begin = ⊥
   OpAt k m place beginBack = ⊥

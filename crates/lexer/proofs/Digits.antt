@@ -10,7 +10,7 @@ use lib.Seq.{drop-cons}
 use lib.Dec.{leb}
 use borrow.Author.Tests.{le-leb, lt-leb, leb-true, leb-false}
 use Rattle.definitions.specs.Bytes.{isDigit}
-use Rattle.definitions.specs.Reader.{Cursor, cursor, got, refused, Word, word, placeAt, afterWord, nextByte, digitsAt, digits, isDigitNext, inRange, number}
+use Rattle.definitions.specs.Reader.{Cursor, cursor, got, refused, Token, token, placeAt, afterToken, nextByte, digitsAt, digits, isDigitNext, inRange, number}
 use Rattle.lexer.specs.Places.{cursorAt}
 use Rattle.lexer.specs.Answers.{capped, answers, itself, Numbered}
 use Rattle.lexer.specs.declared.Answer.{Answer}
@@ -22,29 +22,29 @@ cap-more : (n d : ℕ) → min (min n 65536 * 10 + d) 65536 ≡ min (n * 10 + d)
 cap-more n d = omega arith
 
 once-more : (n i b : ℕ) (bs : List ℕ) (t : Bool) → ((m : ℕ) → capped (digitsAt (min m 65536) (suc i) bs) ≡ capped (digitsAt m (suc i) bs))
-    → capped (elim t [ true ↦ digitsAt (min n 65536 * 10 + (b - 48)) (suc i) bs | false ↦ word (min n 65536) (cursor i (b ∷ bs)) ])
-    ≡ capped (elim t [ true ↦ digitsAt (n * 10 + (b - 48)) (suc i) bs | false ↦ word n (cursor i (b ∷ bs)) ])
+    → capped (elim t [ true ↦ digitsAt (min n 65536 * 10 + (b - 48)) (suc i) bs | false ↦ token (min n 65536) (cursor i (b ∷ bs)) ])
+    ≡ capped (elim t [ true ↦ digitsAt (n * 10 + (b - 48)) (suc i) bs | false ↦ token n (cursor i (b ∷ bs)) ])
 unfolding capped
 once-more n i b bs true h =
     sym (h (min n 65536 * 10 + (b - 48))) ∙ ap (λ (m : ℕ). capped (digitsAt m (suc i) bs)) (cap-more n (b - 48)) ∙ h (n * 10 + (b - 48))
-once-more n i b bs false h = ap (λ (m : ℕ). word m (cursor i (b ∷ bs))) (omega arith)
+once-more n i b bs false h = ap (λ (m : ℕ). token m (cursor i (b ∷ bs))) (omega arith)
 
 capped-once : (n i : ℕ) (bs : List ℕ) → capped (digitsAt (min n 65536) i bs) ≡ capped (digitsAt n i bs)
 unfolding capped digitsAt
-capped-once n i [] = ap (λ (m : ℕ). word m (cursor i [])) (omega arith)
+capped-once n i [] = ap (λ (m : ℕ). token m (cursor i [])) (omega arith)
 capped-once n i (b ∷ bs) = once-more n i b bs (isDigit b) (λ m. capped-once m (suc i) bs)
 
 -- ---- the digits at a place
 
 module _ (s : List ℕ) (i n : ℕ) where
-  pub digits-end : n ≤ 65536 → length s ≤ i → capped (digitsAt n i (drop i s)) ≡ word n (cursorAt s i)
+  pub digits-end : n ≤ 65536 → length s ≤ i → capped (digitsAt n i (drop i s)) ≡ token n (cursorAt s i)
   unfolding capped digitsAt
-  digits-end h e = rw (drop-of-length-le s {i = i} e) (ap (λ (m : ℕ). word m (cursor i [])) (omega arith))
+  digits-end h e = rw (drop-of-length-le s {i = i} e) (ap (λ (m : ℕ). token m (cursor i [])) (omega arith))
 
   module _ (more : i < length s) where
-    pub digits-stop : n ≤ 65536 → isDigit (getD s i 0) ≡ false → capped (digitsAt n i (drop i s)) ≡ word n (cursorAt s i)
+    pub digits-stop : n ≤ 65536 → isDigit (getD s i 0) ≡ false → capped (digitsAt n i (drop i s)) ≡ token n (cursorAt s i)
     unfolding capped digitsAt
-    digits-stop h e = rw (drop-cons s i 0 more, e, digitsAt, capped) (ap (λ (m : ℕ). word m (cursor i (getD s i 0 ∷ drop (suc i) s))) (omega arith))
+    digits-stop h e = rw (drop-cons s i 0 more, e, digitsAt, capped) (ap (λ (m : ℕ). token m (cursor i (getD s i 0 ∷ drop (suc i) s))) (omega arith))
 
     pub digits-more : isDigit (getD s i 0) ≡ true
         → capped (digitsAt n i (drop i s)) ≡ capped (digitsAt (min (n * 10 + (getD s i 0 - 48)) 65536) (i + 1) (drop (i + 1) s))
@@ -53,25 +53,25 @@ module _ (s : List ℕ) (i n : ℕ) where
 
 -- ---- what a capped value says of the value
 
-pub capped-small : (w : Word) (v : ℕ) (c : Cursor) → capped w ≡ word v c → v ≤ 65535 → w ≡ word v c
+pub capped-small : (w : Token) (v : ℕ) (c : Cursor) → capped w ≡ token v c → v ≤ 65535 → w ≡ token v c
 unfolding capped
-capped-small (word n c₁) v c e h =
+capped-small (token n c₁) v c e h =
     let p : min n 65536 ≡ v = cc in
     let q : c₁ ≡ c = cc in
     let m : n ≡ v = omega arith in
     rw (m, q)
 
-pub capped-large : (w : Word) (v : ℕ) (c : Cursor) → capped w ≡ word v c → 65535 < v → (n : ℕ) × (w ≡ word n c) × (65535 < n)
+pub capped-large : (w : Token) (v : ℕ) (c : Cursor) → capped w ≡ token v c → 65535 < v → (n : ℕ) × (w ≡ token n c) × (65535 < n)
 unfolding capped
-capped-large (word n c₁) v c e h =
+capped-large (token n c₁) v c e h =
     let p : min n 65536 ≡ v = cc in
     let q : c₁ ≡ c = cc in
     (n, rw q, omega arith)
 
 -- the range test sees no difference
-range-capped : (at : ℕ) (w : Word) → inRange at (capped w) ≡ inRange at w
+range-capped : (at : ℕ) (w : Token) → inRange at (capped w) ≡ inRange at w
 unfolding inRange capped
-range-capped at (word n c) = go (leb n 65535) refl
+range-capped at (token n c) = go (leb n 65535) refl
   where
     go : (t : Bool) → leb n 65535 ≡ t → cond (leb 1 (min n 65536) && leb (min n 65536) 65535) (got (min n 65536) c) (refused 3 at)
         ≡ cond (leb 1 n && leb n 65535) (got n c) (refused 3 at)
@@ -87,17 +87,17 @@ range-capped at (word n c) = go (leb n 65535) refl
 -- ---- the number at a place
 
 -- the digits' end is not before their start
-far : (n i : ℕ) (bs : List ℕ) → i ≤ placeAt (afterWord (capped (digitsAt n i bs)))
-unfolding capped afterWord placeAt digitsAt
+far : (n i : ℕ) (bs : List ℕ) → i ≤ placeAt (afterToken (capped (digitsAt n i bs)))
+unfolding capped afterToken placeAt digitsAt
 far n i [] = omega arith
 far n i (b ∷ bs) = go (isDigit b) (far (n * 10 + (b - 48)) (suc i) bs)
   where
-    go : (t : Bool) → suc i ≤ placeAt (afterWord (capped (digitsAt (n * 10 + (b - 48)) (suc i) bs)))
-        → i ≤ placeAt (afterWord (capped (elim t [ true ↦ digitsAt (n * 10 + (b - 48)) (suc i) bs | false ↦ word n (cursor i (b ∷ bs)) ])))
+    go : (t : Bool) → suc i ≤ placeAt (afterToken (capped (digitsAt (n * 10 + (b - 48)) (suc i) bs)))
+        → i ≤ placeAt (afterToken (capped (elim t [ true ↦ digitsAt (n * 10 + (b - 48)) (suc i) bs | false ↦ token n (cursor i (b ∷ bs)) ])))
     go true h = omega arith
     go false h = omega arith
 
-far-digit : (i : ℕ) (bs : List ℕ) → isDigit (nextByte (cursor i bs)) ≡ true → i < placeAt (afterWord (capped (digits (cursor i bs))))
+far-digit : (i : ℕ) (bs : List ℕ) → isDigit (nextByte (cursor i bs)) ≡ true → i < placeAt (afterToken (capped (digits (cursor i bs))))
 unfolding digits digitsAt nextByte isDigit
 far-digit i [] e = absurd (false≢true e)
 far-digit i (b ∷ bs) e = rw (e, digitsAt) (far (0 * 10 + (b - 48)) (suc i) bs)
@@ -111,16 +111,16 @@ module _ (s : List ℕ) (at : ℕ) where
   unfolding number isDigitNext placeAt answers Numbered
   no-number e = (rw e, tt)
 
-  module _ (v r : ℕ) (first : isDigit (nextByte (cursorAt s at)) ≡ true) (read : capped (digits (cursorAt s at)) ≡ word v (cursorAt s r)) where
-    ranged : number (cursorAt s at) ≡ inRange at (word v (cursorAt s r))
+  module _ (v r : ℕ) (first : isDigit (nextByte (cursorAt s at)) ≡ true) (read : capped (digits (cursorAt s at)) ≡ token v (cursorAt s r)) where
+    ranged : number (cursorAt s at) ≡ inRange at (token v (cursorAt s r))
     unfolding number isDigitNext placeAt
     ranged = rw (first, ← range-capped at (digits (cursorAt s at)), read)
 
     -- a number has a digit at least
     pub number-far : at < r
-    unfolding afterWord placeAt
+    unfolding afterToken placeAt
     number-far =
-        let e : placeAt (afterWord (capped (digits (cursorAt s at)))) ≡ r = ap (λ (w : Word). placeAt (afterWord w)) read in
+        let e : placeAt (afterToken (capped (digits (cursorAt s at)))) ≡ r = ap (λ (w : Token). placeAt (afterToken w)) read in
         omega (arith, far-digit at (drop at s) first)
 
     pub number-zero : v < 1 → IsNumber s at (Refused 3 at)

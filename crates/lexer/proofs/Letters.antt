@@ -9,7 +9,7 @@ use native.Mathlib.Omega.{arith}
 use lib.ListN.{length, drop, getD, drop-of-length-le}
 use lib.Seq.{drop-cons}
 use Rattle.definitions.specs.Bytes.{isCapital, isSmall, isLetter, upper}
-use Rattle.definitions.specs.Reader.{cursor, Word, word, placeAt, afterWord, nextByte, lettersAt, name}
+use Rattle.definitions.specs.Reader.{cursor, Token, token, placeAt, afterToken, nextByte, lettersAt, name}
 use Rattle.lexer.specs.Places.{cursorAt}
 use Rattle.lexer.specs.Steps.{limit, withLetter}
 use Rattle.lexer.proofs.OneByte.{upper-below}
@@ -29,12 +29,12 @@ unfolding withLetter
 letter-over k n b e = rw e
 
 module _ (s : List ℕ) (i k n : ℕ) where
-  pub letters-end : length s ≤ i → lettersAt k n i (drop i s) ≡ word n (cursorAt s i)
+  pub letters-end : length s ≤ i → lettersAt k n i (drop i s) ≡ token n (cursorAt s i)
   unfolding lettersAt
   letters-end h = rw (drop-of-length-le s {i = i} h)
 
   module _ (more : i < length s) where
-    pub letters-stop : isLetter (getD s i 0) ≡ false → lettersAt k n i (drop i s) ≡ word n (cursorAt s i)
+    pub letters-stop : isLetter (getD s i 0) ≡ false → lettersAt k n i (drop i s) ≡ token n (cursorAt s i)
     unfolding lettersAt
     letters-stop e = rw (drop-cons s i 0 more, e, lettersAt)
 
@@ -68,30 +68,30 @@ letters-below (suc k) n b h p = rw sub-one (below k n (upper b) h (upper-below b
 
 -- ---- a name has a letter at least
 
-far : (k n i : ℕ) (bs : List ℕ) → i ≤ placeAt (afterWord (lettersAt k n i bs))
-unfolding afterWord placeAt lettersAt
+far : (k n i : ℕ) (bs : List ℕ) → i ≤ placeAt (afterToken (lettersAt k n i bs))
+unfolding afterToken placeAt lettersAt
 far k n i [] = omega arith
 far k n i (b ∷ bs) = go (isLetter b) k (λ j m. far j m (suc i) bs)
   where
-    go : (t : Bool) (k : ℕ) → ((j m : ℕ) → suc i ≤ placeAt (afterWord (lettersAt j m (suc i) bs)))
+    go : (t : Bool) (k : ℕ) → ((j m : ℕ) → suc i ≤ placeAt (afterToken (lettersAt j m (suc i) bs)))
         → i
         ≤ placeAt
-        (afterWord
+        (afterToken
         (elim t [
           | true ↦ elim k [ zero ↦ lettersAt zero n (suc i) bs | suc j ↦ lettersAt j (n * 256 + upper b) (suc i) bs ]
-          | false ↦ word n (cursor i (b ∷ bs))
+          | false ↦ token n (cursor i (b ∷ bs))
         ]))
     go true zero h = omega (arith, h zero n)
     go true (suc j) h = omega (arith, h j (n * 256 + upper b))
     go false k h = omega arith
 
-far-letter : (i : ℕ) (bs : List ℕ) → isLetter (nextByte (cursor i bs)) ≡ true → i < placeAt (afterWord (name (cursor i bs)))
+far-letter : (i : ℕ) (bs : List ℕ) → isLetter (nextByte (cursor i bs)) ≡ true → i < placeAt (afterToken (name (cursor i bs)))
 unfolding name nextByte isLetter isCapital isSmall
 far-letter i [] e = absurd (false≢true e)
 far-letter i (b ∷ bs) e = rw (more-letters 4 0 i b bs e) (far (4 - 1) (withLetter 4 0 b) (suc i) bs)
 
-pub name-far : (s : List ℕ) (at n r : ℕ) → isLetter (nextByte (cursorAt s at)) ≡ true → name (cursorAt s at) ≡ word n (cursorAt s r) → at < r
-unfolding afterWord placeAt
+pub name-far : (s : List ℕ) (at n r : ℕ) → isLetter (nextByte (cursorAt s at)) ≡ true → name (cursorAt s at) ≡ token n (cursorAt s r) → at < r
+unfolding afterToken placeAt
 name-far s at n r first read =
-    let e : placeAt (afterWord (name (cursorAt s at))) ≡ r = ap (λ (w : Word). placeAt (afterWord w)) read in
+    let e : placeAt (afterToken (name (cursorAt s at))) ≡ r = ap (λ (w : Token). placeAt (afterToken w)) read in
     omega (arith, far-letter at (drop at s) first)

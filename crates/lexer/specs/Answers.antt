@@ -2,7 +2,7 @@
 use mathlib.Core.Path.{_≡_}
 use mathlib.Core.List.{List}
 use Prim.Native.Nat.{ℕ, suc, _≤_, min}
-use Rattle.definitions.specs.Reader.{Got, got, refused, Word, word}
+use Rattle.definitions.specs.Reader.{Got, got, refused, Token, token}
 use Rattle.lexer.specs.Places.{cursorAt}
 use Rattle.lexer.specs.declared.Answer.{Answer}
 use Rattle.lexer.specs.declared.Answer.the-variants.{Is, Refused}
@@ -31,8 +31,8 @@ Numbered at n (Is k next) = (1 ≤ k) × (k ≤ 65535) × (suc at ≤ next) × (
 Numbered at n (Refused k p) = Unit {0}
 
 -- a value over 65,535 counts as 65,536
-unfoldable pub capped : Word → Word
-capped (word n c) = word (min n 65536) c
+unfoldable pub capped : Token → Token
+capped (token n c) = token (min n 65536) c
 
 -- ---- readers of the commands' arguments
 

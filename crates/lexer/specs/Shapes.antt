@@ -1,6 +1,6 @@
 -- The commands' shapes as the reader answers them.
 use mathlib.Core.Bool.{true, false}
-use Rattle.definitions.specs.Edit.{Change, afterIt, beforeIt, exchange, Op, quit, next, previous, copy, pointStart, right, left, cutByte, recase}
+use Rattle.definitions.specs.Edit.{Change, afterIt, beforeIt, exchange, Op, quit, nextLine, previousLine, copy, pointStart, right, left, cutByte, recase}
 use Rattle.definitions.specs.Control.{Seek, forward, backward, deleting}
 use Rattle.definitions.specs.Commands.{Shape, plain, leaves, seeks, moves, deletes, insertsString, insertsLines, replaces, alters, points, repeats, branches, branchesEof, loops, unknown}
 use Rattle.lexer.specs.declared.shapes.Plain.{Plain as PlainHere}
@@ -13,8 +13,8 @@ use Rattle.lexer.specs.declared.shapes.Shape.{Shape as ShapeHere}
 use Rattle.lexer.specs.declared.shapes.Shape.the-variants.{Plain, Leaves, Seeks, Moves, Deletes, InsertsString, InsertsLines, Replaces, Alters, Points, Repeats, Branches, BranchesEof, Loops, Unknown}
 
 unfoldable pub plainOf : PlainHere → Op
-plainOf Next = next
-plainOf Previous = previous
+plainOf Next = nextLine
+plainOf Previous = previousLine
 plainOf Copy = copy
 plainOf PointStart = pointStart
 plainOf Right = right

@@ -2,7 +2,7 @@
 ghost use mathlib.Core.Path.{_≡_};
 ghost use Prim.Native.Nat.{_+_, _-_, _≤_, _<_};
 ghost use lib.ListN.{length};
-ghost use Rattle.definitions.specs.Reader.{name as «name-of», word};
+ghost use Rattle.definitions.specs.Reader.{name as «name-of», token};
 ghost use Rattle.lexer.specs.Places.{cursorAt};
 ghost use Rattle.lexer.specs.Steps.{limit, withLetter};
 use crate::Name;
@@ -36,7 +36,7 @@ fn one_less(left: usize) -> usize
 // The letters that stand next: the first four, upper-cased, packed with the first one highest.
 pub fn name(s: &[u8], at: usize) -> Name
     requires { ⌜ at ≤ length (now s) ⌝ }
-    ensures { λ r. ⌜ «name-of» (cursorAt (now (s .entry)) at) ≡ word (r .letters) (cursorAt (now (s .entry)) (r .next)) ⌝ }
+    ensures { λ r. ⌜ «name-of» (cursorAt (now (s .entry)) at) ≡ token (r .letters) (cursorAt (now (s .entry)) (r .next)) ⌝ }
     ensures { λ r. ⌜ (at ≤ r .next) × (r .next ≤ length (now (s .entry))) ⌝ }
 {
     let mut n: u32 = 0;

@@ -2,7 +2,7 @@
 ghost use mathlib.Core.Path.{_≡_};
 ghost use Prim.Native.Nat.{_+_, _-_, _*_, _≤_, min};
 ghost use lib.ListN.{length};
-ghost use Rattle.definitions.specs.Reader.{digits as «digits-of», number as «number-of», word};
+ghost use Rattle.definitions.specs.Reader.{digits as «digits-of», number as «number-of», token};
 ghost use Rattle.lexer.specs.Places.{cursorAt};
 ghost use Rattle.lexer.specs.Answers.{capped, answers, itself, Numbered};
 use crate::Answer;
@@ -28,7 +28,7 @@ fn with_digit(n: usize, b: u8) -> usize
 // The digits that stand next. A value over 65,535, which no number of a script has, counts as 65,536.
 pub fn digits(s: &[u8], at: usize) -> Count
     requires { ⌜ at ≤ length (now s) ⌝ }
-    ensures { λ r. ⌜ capped («digits-of» (cursorAt (now (s .entry)) at)) ≡ word (r .value) (cursorAt (now (s .entry)) (r .next)) ⌝ }
+    ensures { λ r. ⌜ capped («digits-of» (cursorAt (now (s .entry)) at)) ≡ token (r .value) (cursorAt (now (s .entry)) (r .next)) ⌝ }
     ensures { λ r. ⌜ (at ≤ r .next) × (r .next ≤ length (now (s .entry))) × (r .value ≤ 65536) ⌝ }
 {
     let mut n: usize = 0;

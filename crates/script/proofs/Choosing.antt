@@ -9,7 +9,7 @@ use lib.Dec.{eqb}
 use borrow.Author.Tests.{ne-eqb}
 use Rattle.definitions.specs.Edit.{isEof}
 use Rattle.definitions.specs.Control.{Item, simple, opens, leave, forever, branch}
-use Rattle.definitions.specs.Reader.{Cursor, got, refused, Word, word}
+use Rattle.definitions.specs.Reader.{Cursor, got, refused, Token, token}
 use Rattle.definitions.specs.Commands.{prefix, moves, deletes, seeks, insertsString, insertsLines, replaces, alters, points, branches, loops, skipThen, shapeOf, decode}
 use Rattle.definitions.specs.Script.{Due, Group, isInGroup, decoded, named, countRead}
 use Rattle.lexer.specs.Places.{cursorAt}
@@ -137,10 +137,10 @@ in-groups w zero = refl
 in-groups w (suc d) = rw (ne-eqb (suc d) 0 (λ e. omega (arith, e)))
 
 pub named-is : (due : Due) (groups : List Group) (acc : List Item) (at letters : ℕ) (c : Cursor) (shape : ShapeHere) (g : Bool) → isInGroup groups ≡ g → shapeOf letters ≡ shapeIn shape
-    → named due groups acc at (word letters c) ≡ decoded due groups acc (decode g at (shapeIn shape) c)
+    → named due groups acc at (token letters c) ≡ decoded due groups acc (decode g at (shapeIn shape) c)
 unfolding named
 named-is due groups acc at letters c shape g e f = rw (e, f)
 
-pub count-is : (due : Due) (groups : List Group) (acc : List Item) (at : ℕ) (x : Word) → countRead due groups acc at x ≡ decoded due groups acc (counted at x)
+pub count-is : (due : Due) (groups : List Group) (acc : List Item) (at : ℕ) (x : Token) → countRead due groups acc at x ≡ decoded due groups acc (counted at x)
 unfolding countRead counted
-count-is due groups acc at (word n c) = refl
+count-is due groups acc at (token n c) = refl

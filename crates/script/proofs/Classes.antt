@@ -9,8 +9,8 @@ use lib.Seq.{drop-cons}
 use borrow.Author.Tests.{eq-eqb, ne-eqb}
 use Rattle.definitions.specs.Bytes.{isDigit, isLetter}
 use Rattle.definitions.specs.Control.{Item}
-use Rattle.definitions.specs.Reader.{placeAt, skipSpaces, skipComment, word, digits, name}
-use Rattle.definitions.specs.Script.{Due, Group, Next, done, openGroup, closeGroup, separator, lineItems, scriptEnd, countRead, named, classOf, byClass, readAt, readOne}
+use Rattle.definitions.specs.Reader.{placeAt, skipSpaces, skipComment, token, digits, name}
+use Rattle.definitions.specs.Script.{Due, Group, AfterRound, done, openGroup, closeGroup, separator, lineItems, scriptEnd, countRead, named, classOf, byClass, readAt, readOne}
 use Rattle.lexer.specs.Places.{cursorAt}
 use Rattle.lexer.proofs.AtPlace.{next-in, after-in}
 use Rattle.lexer.proofs.Blanks.{comment-more}
@@ -51,8 +51,8 @@ module _ (due : Due) (groups : List Group) (acc : List Item) (s : List ℕ) (at 
       at-digit e = by-byte ∙ rw (ne-eqb (getD s at 0) 59 a, ne-eqb (getD s at 0) 10 b, ne-eqb (getD s at 0) 40 c, ne-eqb (getD s at 0) 41 d, e)
 
       module _ (e : isDigit (getD s at 0) ≡ false) where
-        pub at-letter : (n r : ℕ) → isLetter (getD s at 0) ≡ true → name (cursorAt s at) ≡ word n (cursorAt s r)
-            → readAt due groups acc (cursorAt s at) ≡ named due groups acc at (word n (cursorAt s r))
+        pub at-letter : (n r : ℕ) → isLetter (getD s at 0) ≡ true → name (cursorAt s at) ≡ token n (cursorAt s r)
+            → readAt due groups acc (cursorAt s at) ≡ named due groups acc at (token n (cursorAt s r))
         unfolding classOf byClass placeAt
         at-letter n r f is = by-byte ∙ rw (ne-eqb (getD s at 0) 59 a, ne-eqb (getD s at 0) 10 b, ne-eqb (getD s at 0) 40 c, ne-eqb (getD s at 0) 41 d, e, f, is)
 
@@ -63,7 +63,7 @@ module _ (due : Due) (groups : List Group) (acc : List Item) (s : List ℕ) (at 
           at-comment r is to = by-byte
               ∙ rw (ne-eqb (getD s at 0) 59 a, ne-eqb (getD s at 0) 10 b, ne-eqb (getD s at 0) 40 c, ne-eqb (getD s at 0) 41 d, e, f, eq-eqb (getD s at 0) 92 is, comment-more s at less b, to)
 
-          pub at-sign : (getD s at 0 ≡ 92 → ⊥) → readAt due groups acc (cursorAt s at) ≡ named due groups acc at (word (getD s at 0) (cursorAt s (at + 1)))
+          pub at-sign : (getD s at 0 ≡ 92 → ⊥) → readAt due groups acc (cursorAt s at) ≡ named due groups acc at (token (getD s at 0) (cursorAt s (at + 1)))
           unfolding classOf byClass placeAt
           at-sign is = by-byte
               ∙ rw (ne-eqb (getD s at 0) 59 a, ne-eqb (getD s at 0) 10 b, ne-eqb (getD s at 0) 40 c, ne-eqb (getD s at 0) 41 d, e, f, ne-eqb (getD s at 0) 92 is, after-in s at less, next-in s at less)
@@ -79,7 +79,7 @@ module _ (s w : List ℕ) (st : State) (acc : List Item) (i : ℕ) where
   pub stands-on : ReadSoFar s w st acc → st .at ≤ i → i ≤ length s → ReadSoFar s w (record { at = i; k = st .k; due = st .due; elses = st .elses; depth = st .depth }) acc
   stands-on h from to = record { inside = to; deep = h .deep; gathered = h .gathered; affords = affords-on (h .affords) i from; fits = h .fits }
 
-pub comes-from : (s w : List ℕ) (at i : ℕ) (x : Next) (r : Step) → at ≤ i → RoundRead s w i x r → RoundRead s w at x r
+pub comes-from : (s w : List ℕ) (at i : ℕ) (x : AfterRound) (r : Step) → at ≤ i → RoundRead s w i x r → RoundRead s w at x r
 unfolding RoundRead
 comes-from s w at i x (Step.More st) le (acc, e, h, far) = (acc, e, h, omega arith)
 comes-from s w at i x (Step.Done n) le h = h

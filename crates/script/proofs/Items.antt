@@ -13,7 +13,7 @@ use Rattle.definitions.specs.Bytes.{isDigit}
 use Rattle.definitions.specs.Editor.{Target, here, line, eof}
 use Rattle.definitions.specs.Edit.{move}
 use Rattle.definitions.specs.Control.{times, Item, simple, opens}
-use Rattle.definitions.specs.Reader.{Cursor, Got, got, refused, andThen, skipSpaces, word, digits}
+use Rattle.definitions.specs.Reader.{Cursor, Got, got, refused, andThen, skipSpaces, token, digits}
 use Rattle.definitions.specs.Commands.{Decoded, whole, prefix, moves, target, decode}
 use Rattle.lexer.specs.Places.{cursorAt}
 use Rattle.lexer.specs.Answers.{answers, answersTwo, capped}
@@ -106,7 +106,7 @@ module _ (s w : List ℕ) (place at k : ℕ) (r : CommandRoom s w place at k) (x
 
 -- ---- counts
 
-module _ (s w : List ℕ) (place k v next : ℕ) (r : CommandRoom s w place (place + 1) k) (read : capped (digits (cursorAt s place)) ≡ word v (cursorAt s next)) where
+module _ (s w : List ℕ) (place k v next : ℕ) (r : CommandRoom s w place (place + 1) k) (read : capped (digits (cursorAt s place)) ≡ token v (cursorAt s next)) where
   is-counted : v ≤ 65535 → counted place (digits (cursorAt s place)) ≡ got (prefix false (opens place (times v))) (cursorAt s next)
   unfolding counted
   is-counted h = rw (capped-small (digits (cursorAt s place)) v (cursorAt s next) read h, counted, le-leb v 65535 h)
@@ -117,7 +117,7 @@ module _ (s w : List ℕ) (place k v next : ℕ) (r : CommandRoom s w place (pla
       let l = capped-large (digits (cursorAt s place)) v (cursorAt s next) read h in
       over (l .0) (l .1) (l .2)
     where
-      over : (n : ℕ) → digits (cursorAt s place) ≡ word n (cursorAt s next) → 65535 < n → counted place (digits (cursorAt s place)) ≡ refused 3 place
+      over : (n : ℕ) → digits (cursorAt s place) ≡ token n (cursorAt s next) → 65535 < n → counted place (digits (cursorAt s place)) ≡ refused 3 place
       over n e m = rw (e, counted, lt-leb n 65535 m)
 
   pub small-count : Apart s place k next (k + 1) → (a : ℕ) → a ≡ headWith countKind place v → v < 512 → place < next → next ≤ length s

@@ -12,7 +12,7 @@ use borrow.Author.Tests.{eqb-true, eqb-false}
 use Rattle.definitions.specs.Control.{Item, lineEnd}
 use Rattle.definitions.specs.Reader.{Cursor, Got, refused}
 use Rattle.definitions.specs.Commands.{Decoded}
-use Rattle.definitions.specs.Script.{nothing, body, Group, reading, refusedAt, Next, more, done, bodies, closes, decoded, separator, lineItems, scriptEnd}
+use Rattle.definitions.specs.Script.{nothing, body, Group, reading, refusedAt, AfterRound, more, done, bodies, closes, decoded, separator, lineItems, scriptEnd}
 use Rattle.lexer.specs.Places.{cursorAt}
 use Rattle.items.specs.Kinds.{lineEndKind}
 use Rattle.items.specs.Words.{ItemAt, Closed}
@@ -60,7 +60,7 @@ unfolding groupsIn
 many-groups w zero = refl
 many-groups w (suc d) = ap suc (many-groups w d)
 
-pub refusal-comes : (s w : List ℕ) (at : ℕ) (x : Next) (n p : ℕ) → x ≡ done (refusedAt n p) → RoundRead s w at x (Step.Refused n p)
+pub refusal-comes : (s w : List ℕ) (at : ℕ) (x : AfterRound) (n p : ℕ) → x ≡ done (refusedAt n p) → RoundRead s w at x (Step.Refused n p)
 unfolding RoundRead
 refusal-comes s w at x n p e = e
 

@@ -8,9 +8,9 @@ use lib.Dec.{eqb, leb}
 use Rattle.definitions.specs.Bytes.{isDigit}
 use Rattle.definitions.specs.Control.{times, Item, opens}
 use Rattle.definitions.specs.Table.{isScript}
-use Rattle.definitions.specs.Reader.{Got, got, refused, Word, word}
+use Rattle.definitions.specs.Reader.{Got, got, refused, Token, token}
 use Rattle.definitions.specs.Commands.{Decoded as Command-read, whole, prefix}
-use Rattle.definitions.specs.Script.{Due, nothing, body, Group, group, Reading, reading, Script, items, refusedAt, Next, more, done, decoded}
+use Rattle.definitions.specs.Script.{Due, nothing, body, Group, group, Reading, reading, Script, items, refusedAt, AfterRound, more, done, decoded}
 use Rattle.lexer.specs.Places.{cursorAt}
 use Rattle.items.specs.Words.{ItemAt}
 use Rattle.items.specs.Reserve.{ItemsReady}
@@ -119,13 +119,13 @@ pub record CommandRead (s w w' : List ℕ) (place k : ℕ) (x : Got Command-read
   pub is : CommandIs s w' place k x r
 
 -- a repeat count at `place`
-unfoldable pub counted : ℕ → Word → Got Command-read
-counted place (word n c) = cond (leb n 65535) (got (prefix false (opens place (times n))) c) (refused 3 place)
+unfoldable pub counted : ℕ → Token → Got Command-read
+counted place (token n c) = cond (leb n 65535) (got (prefix false (opens place (times n))) c) (refused 3 place)
 
 -- ---- one round
 
 -- the answer r of a round that began at place `at`, with the words after it
-unfoldable pub RoundRead : List ℕ → List ℕ → ℕ → Next → Step → Type 0
+unfoldable pub RoundRead : List ℕ → List ℕ → ℕ → AfterRound → Step → Type 0
 RoundRead s w at x (Step.More st) = (acc : List Item) × (x ≡ more (readingOf s w st acc)) × ReadSoFar s w st acc × (at < st .at)
 RoundRead s w at x (Step.Done n) = (is : List Item) × (x ≡ done (items is)) × ItemsReady s w n is
 RoundRead s w at x (Step.Refused n p) = x ≡ done (refusedAt n p)
@@ -147,15 +147,15 @@ abbrev pub HalfwayIn : List ℕ → State → Type 0
 HalfwayIn w st = (s : List ℕ) × (acc : List Item) × ReadSoFar s w st acc × (st .at < length s)
 
 -- a round from the state st on, in which the words w become w′, answers `next` of what is due, of the open groups and of the items: of one script, or of any
-abbrev pub RoundOf : List ℕ → List ℕ → List ℕ → State → (Due → List Group → List Item → Next) → Step → Type 0
+abbrev pub RoundOf : List ℕ → List ℕ → List ℕ → State → (Due → List Group → List Item → AfterRound) → Step → Type 0
 RoundOf s w w′ st next r = (acc : List Item) → ReadSoFar s w st acc → RoundRead s w′ (st .at) (next (dueOf (st .due) (st .elses)) (groupsIn w (st .depth)) acc) r
 
-abbrev pub RoundIn : List ℕ → List ℕ → State → (List ℕ → Due → List Group → List Item → Next) → Step → Type 0
+abbrev pub RoundIn : List ℕ → List ℕ → State → (List ℕ → Due → List Group → List Item → AfterRound) → Step → Type 0
 RoundIn w w′ st next r =
     (s : List ℕ) (acc : List Item) → ReadSoFar s w st acc → st .at < length s → RoundRead s w′ (st .at) (next s (dueOf (st .due) (st .elses)) (groupsIn w (st .depth)) acc) r
 
 -- reading goes on at a place, nothing due
-abbrev pub goesOn : List ℕ → ℕ → List Group → List Item → Next
+abbrev pub goesOn : List ℕ → ℕ → List Group → List Item → AfterRound
 goesOn s at groups acc = more (reading (cursorAt s at) nothing groups acc)
 
 -- the groups around the innermost one

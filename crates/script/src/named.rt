@@ -1,7 +1,7 @@
 // The command that a name selects: its arguments are read by its shape.
 ghost use Prim.Native.Nat.{_+_, _≤_, _<_};
 ghost use lib.ListN.{length};
-ghost use Rattle.definitions.specs.Reader.{word};
+ghost use Rattle.definitions.specs.Reader.{token};
 ghost use Rattle.definitions.specs.Commands.{decode as «decode-of»};
 ghost use Rattle.definitions.specs.Script.{named as «named-of»};
 ghost use Rattle.lexer.specs.Places.{cursorAt};
@@ -67,7 +67,7 @@ fn decode(
 // A command with this name, which stands at the state's place and ends at `next`.
 pub fn named(s: &[u8], w: &mut [u32], st: State, letters: u32, next: usize) -> Step
     requires { ⌜ Halfway (now s) (now w) st × (st .at < next) × (next ≤ length (now s)) × (256 ≤ letters → st .at + 2 ≤ next) ⌝ }
-    ensures { λ r. ⌜ RoundOf (now (s .entry)) (now (w .entry)) (now (w .exit)) st (λ due groups acc. «named-of» due groups acc (st .at) (word letters (cursorAt (now (s .entry)) next))) r ⌝ }
+    ensures { λ r. ⌜ RoundOf (now (s .entry)) (now (w .entry)) (now (w .exit)) st (λ due groups acc. «named-of» due groups acc (st .at) (token letters (cursorAt (now (s .entry)) next))) r ⌝ }
 {
     let shape = command(letters);
     let c = decode(s, w, st.k, st.at, next, shape, st.depth != 0);

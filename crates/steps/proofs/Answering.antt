@@ -7,7 +7,7 @@ use Rattle.definitions.specs.Tape.{Tape}
 use Rattle.definitions.specs.Given.{Carried}
 use Rattle.definitions.specs.Editor.{Ed}
 use Rattle.definitions.specs.StepProgram.{runs, state, textOf}
-use Rattle.definitions.specs.Edit.{Op, round, begin, beginBack, goesOn, program, step}
+use Rattle.definitions.specs.Edit.{Op, onlyStep, begin, beginBack, goesOn, program, step}
 use Rattle.definitions.specs.Control.{Ctl}
 use Rattle.items.specs.Words.{OpAt}
 use Rattle.items.specs.Simple.{CommandAt}
@@ -40,7 +40,7 @@ command-at s w x from op c₁ c₀ q h = by (asks-command s w x op (h .asks) q)
     }
 
 -- a round changes nothing
-round-looks : (j : List ℕ) (st : State) → LooksOnce j st round j (Yes st)
+round-looks : (j : List ℕ) (st : State) → LooksOnce j st onlyStep j (Yes st)
 unfolding step program goesOn runs
 round-looks j st e c t h i = says-yes (lent j) c goesOn e t refl h i
 

@@ -5,7 +5,7 @@ use mathlib.Core.List.{List}
 use Prim.Native.Nat.{ℕ, suc}
 use native.Mathlib.Omega.{arith}
 use Rattle.definitions.specs.Search.{Search}
-use Rattle.definitions.specs.Edit.{Test, Op, round, test}
+use Rattle.definitions.specs.Edit.{Test, Op, onlyStep, test}
 use Rattle.definitions.specs.Control.{Seek, forward, backward, deleting, Item, Frame, Ctl, running, seeking, want, beginOp, lookOp, pull}
 use Rattle.theorems.specs.GoodItems.{goodOp}
 use Rattle.theorems.specs.Runs.{Asking, pull-asks}
@@ -48,11 +48,11 @@ look-same deleting deleting se sf i k q = (refl, cc)
 
 -- what the run asks by itself is no simple command
 module _ (at : ℕ) (c₁ c₀ : Ctl) where
-  round-asked : Asked at round c₁ c₀
+  round-asked : Asked at onlyStep c₁ c₀
   unfolding OpAt lookOp
   round-asked = record { good = λ s w k m place h. absurd h; look = never }
     where
-      never : (f : Seek) (se : Search) (k : ℕ) → round ≡ lookOp f se k → Searching at f se round c₁ c₀
+      never : (f : Seek) (se : Search) (k : ℕ) → onlyStep ≡ lookOp f se k → Searching at f se onlyStep c₁ c₀
       never forward se k q = let y : _≡_ {A = ℕ} 0 1 = cc in absurd (omega arith)
       never backward se k q = let y : _≡_ {A = ℕ} 0 1 = cc in absurd (omega arith)
       never deleting se k q = let y : _≡_ {A = ℕ} 0 1 = cc in absurd (omega arith)

@@ -5,7 +5,7 @@ use Prim.Native.Nat.{ℕ, _+_, _≤_, _<_}
 use native.Mathlib.Omega.{arith}
 use lib.ListN.{length, getD}
 use Rattle.definitions.specs.Search.{Search}
-use Rattle.definitions.specs.Edit.{is, isNot, isEof, Op, round, test, begin, beginBack, find, findBack, findDelete}
+use Rattle.definitions.specs.Edit.{is, isNot, isEof, Op, onlyStep, test, begin, beginBack, find, findBack, findDelete}
 use Rattle.definitions.specs.Control.{Seek, forward, backward, deleting, lookOp}
 use Rattle.matching.specs.Words.{Encodes}
 use Rattle.matching.proofs.Running.{forward as forward-on}
@@ -16,7 +16,7 @@ use Rattle.control.specs.Shown.{SearchOf, Asks, a-round, holds, holds-not, at-e
 
 -- what is asked, by its number
 data Said (s w : List ℕ) (x : Wanted) : ℕ → Op → Type 0 where
-  said0 : Said s w x 0 round
+  said0 : Said s w x 0 onlyStep
   said1 : (se : Search) → SearchOf s w (x .item) se → Said s w x 1 (test (is se))
   said2 : (se : Search) → SearchOf s w (x .item) se → Said s w x 2 (test (isNot se))
   said3 : Said s w x 3 (test isEof)
@@ -89,7 +89,7 @@ module _ (s w : List ℕ) (x : Wanted) where
   most _ _ (said8 se h) = omega arith
   most _ _ (said9 op m h i) = omega arith
 
-  0-is : (op : Op) → Said s w x 0 op → op ≡ round
+  0-is : (op : Op) → Said s w x 0 op → op ≡ onlyStep
   0-is _ said0 = refl
 
   1-is : (op : Op) → Said s w x 1 op → (se : Search) × SearchOf s w (x .item) se × (op ≡ test (is se))
@@ -132,7 +132,7 @@ module _ (s w : List ℕ) (x : Wanted) where
     pub asks-most : x .what ≤ 9
     asks-most = most (x .what) op (said s w x op a)
 
-    pub asks-round : x .what ≡ 0 → op ≡ round
+    pub asks-round : x .what ≡ 0 → op ≡ onlyStep
     asks-round q = 0-is op (said-by 0 op q a)
 
     pub asks-is : x .what ≡ 1 → (se : Search) × SearchOf s w (x .item) se × (op ≡ test (is se))

@@ -13,7 +13,7 @@ use Rattle.definitions.specs.Search.{Search}
 use Rattle.definitions.specs.Editor.{Target, Through}
 use Rattle.definitions.specs.Edit.{Change, Test, isEof, Op, insert}
 use Rattle.definitions.specs.Control.{Seek, Opener, forever, branch, loop, Item, simple, seek, opens, leave}
-use Rattle.definitions.specs.Reader.{Cursor, cursor, placeAt, bytesLeft, isNext, skipSpaces, skipComment, isDigitNext, number, name, packed, isWord}
+use Rattle.definitions.specs.Reader.{Cursor, cursor, placeAt, bytesLeft, isNext, skipSpaces, skipComment, isDigitNext, number, name, packed, isToken}
 use Rattle.definitions.specs.Strings.{Pair, pair}
 use Rattle.definitions.specs.Commands.{Shape, plain, leaves, seeks, moves, deletes, insertsString, insertsLines, replaces, alters, points, repeats, branches, branchesEof, loops, unknown, Row, row, commandTable, lookUp, shapeOf, startsTarget, target, through, Span, span, lineSpan, optionalTarget, endOfLine, UpToZ, upToZ, noZ, linesUpToZ, linesAfter, bytesFrom, scriptLines, Decoded, whole, prefix, skipThen, testOf, deleteOp, replaceOp, alterOp, decode}
 use Rattle.theorems.specs.Lines.{and-both, and-left, and-right, TakenFrom, taken-from}
@@ -135,7 +135,7 @@ pub data DecodedWell (s : List ℕ) : Decoded → Type 0 where
 
 past-then : {s : List ℕ} {left : ℕ} (c : Cursor) → Reached s left c → Reached s left (skipThen c)
 unfolding skipThen
-past-then {s} {left} c h = decides (Reached s left) (isWord (packed "THEN") (name (skipSpaces c))) _ _ (λ t. past-name (skipSpaces c) (past-spaces c h)) (λ t. h)
+past-then {s} {left} c h = decides (Reached s left) (isToken (packed "THEN") (name (skipSpaces c))) _ _ (λ t. past-name (skipSpaces c) (past-spaces c h)) (λ t. h)
 
 simple-well : {s : List ℕ} (at : ℕ) (op : Op) → at < length s → Sound s (goodOp op) → DecodedWell s (whole (simple at op))
 unfolding isCommand goodItem placedIn

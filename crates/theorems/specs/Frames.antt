@@ -9,7 +9,7 @@ use Prim.Native.Nat.{ℕ, zero, suc, _+_, _≤_}
 use native.Mathlib.Nat.{not-suc-le-zero}
 use native.Mathlib.Omega.{arith}
 use lib.ListN.{length}
-use Rattle.definitions.specs.Edit.{Op, round}
+use Rattle.definitions.specs.Edit.{Op, onlyStep}
 use Rattle.definitions.specs.Control.{Opener, times, forever, bare, branch, loop, Item, simple, seek, opens, bracket, close, otherwise, leave, lineEnd, Frame, frame, Ctl, running, skipping, failing, leaving, seeking, Pull, finished, want, wantOne, bodyStart, bodyEnd, leaveTo, beginOp, lookOp, pullAt, pullAfter, pullElse, pullLine, pull}
 use Rattle.definitions.specs.Script.{items, readScript}
 use Rattle.theorems.specs.Nesting.{Body, afterBracket, afterClose, afterOtherwise, areNone, after, nestedFrom, nested}
@@ -32,7 +32,7 @@ unfoldable mutual
   pullAtOr lost (close ∷ rest) (frame g at o body ∷ frames) = let next = pullAtOr lost rest frames in bodyEnd o g at body rest frames next
   pullAtOr lost (otherwise ∷ rest) [] = lost
   pullAtOr lost (otherwise ∷ rest) (f ∷ frames) = pullAfterOr lost rest 1 frames
-  pullAtOr lost (leave at ∷ rest) frames = wantOne at round (leaveTo 0 rest frames)
+  pullAtOr lost (leave at ∷ rest) frames = wantOne at onlyStep (leaveTo 0 rest frames)
   pullAtOr lost (lineEnd ∷ rest) frames = pullAtOr lost rest frames
 
   pub pullAfterOr : Pull → List Item → ℕ → List Frame → Pull

@@ -8,7 +8,7 @@ use Rattle.definitions.specs.Bytes.{isLine, allLines}
 use Rattle.definitions.specs.Matching.{Columns, allColumns, columns, Qualifiers, qualifiers, Qualified, qualified}
 use Rattle.definitions.specs.Search.{Search, one, both, either}
 use Rattle.definitions.specs.Editor.{Target, here, line, eof, Through, alone, upTo, toEof}
-use Rattle.definitions.specs.Edit.{Test, is, isNot, isEof, Op, round, quit, test, begin, beginBack, find, findBack, findDelete, move, next, previous, delete, replace, insert, copy, alter, point, pointStart, right, left, cutByte, recase}
+use Rattle.definitions.specs.Edit.{Test, is, isNot, isEof, Op, onlyStep, quit, test, begin, beginBack, find, findBack, findDelete, move, nextLine, previousLine, delete, replace, insert, copy, alter, point, pointStart, right, left, cutByte, recase}
 use Rattle.definitions.specs.Control.{Opener, times, forever, bare, branch, loop, Item, simple, seek, opens, bracket, close, otherwise, leave, lineEnd}
 
 -- "Numbers are 1 to 65,535"
@@ -53,7 +53,7 @@ goodOption (some a) = goodTarget a
 
 -- what a command does; what only a step of a search, a test or a round asks stands in no item
 unfoldable pub goodOp : Op → Bool
-goodOp round = false
+goodOp onlyStep = false
 goodOp quit = true
 goodOp (test t) = false
 goodOp begin = false
@@ -62,8 +62,8 @@ goodOp (find se) = false
 goodOp (findBack se) = false
 goodOp (findDelete se k) = false
 goodOp (move a) = goodTarget a
-goodOp next = true
-goodOp previous = true
+goodOp nextLine = true
+goodOp previousLine = true
 goodOp (delete a b) = goodTarget a && goodThrough b
 goodOp (replace a b ls) = goodTarget a && goodThrough b && allLines ls
 goodOp (insert a ls) = goodOption a && allLines ls

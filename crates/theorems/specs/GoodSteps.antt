@@ -16,7 +16,7 @@ use Rattle.definitions.specs.Tape.{Tape, restLines}
 use Rattle.definitions.specs.Given.{Given, Carried}
 use Rattle.definitions.specs.Editor.{Ed, ed, current, Stop, n20, n21, n22, n24, n25, strike, strikeBack, put, retext}
 use Rattle.definitions.specs.StepProgram.{Program, gives, _>>=_, _>>_, runs, Did, answers, changes}
-use Rattle.definitions.specs.Edit.{Op, round, quit, test, begin, beginBack, find, findBack, findDelete, move, next, previous, delete, replace, insert, copy, alter, point, pointStart, right, left, cutByte, recase}
+use Rattle.definitions.specs.Edit.{Op, onlyStep, quit, test, begin, beginBack, find, findBack, findDelete, move, nextLine, previousLine, delete, replace, insert, copy, alter, point, pointStart, right, left, cutByte, recase}
 use Rattle.definitions.specs.Edit.{either, goesOn, lineOr, lookOn, lookBack, placeOr24, byteHere, write, span, program}
 use Rattle.definitions.specs.Control.{Item}
 use Rattle.theorems.specs.Each.{Each, each-append}
@@ -159,7 +159,7 @@ GoodItems items = ItemsOf (λ op. goodOp op ≡ true) items
 
 pub good-lines : (op : Op) → goodOp op ≡ true → WritesLines (program op)
 unfolding goodOp program
-good-lines round h = absurd (false≢true h)
+good-lines onlyStep h = absurd (false≢true h)
 good-lines quit h = unfold runs in (λ g c e t k. (tt, k))
 good-lines (test x) h = absurd (false≢true h)
 good-lines begin h = absurd (false≢true h)
@@ -168,8 +168,8 @@ good-lines (find se) h = absurd (false≢true h)
 good-lines (findBack se) h = absurd (false≢true h)
 good-lines (findDelete se k) h = absurd (false≢true h)
 good-lines (move a) h = and-lines _ _ goes-lines
-good-lines next h = and-lines _ _ (and-lines _ _ goes-lines)
-good-lines previous h = and-lines _ _ goes-lines
+good-lines nextLine h = and-lines _ _ (and-lines _ _ goes-lines)
+good-lines previousLine h = and-lines _ _ goes-lines
 good-lines (delete a b) h = then-lines (span a b) _ strike-lines
 good-lines (replace a b ls) h = then-lines (span a b) _ (λ k. replace-lines k ls (all-lines ls (and-right (goodTarget a && goodThrough b) (allLines ls) h)))
 good-lines (insert none ls) h = put-lines ls (all-lines ls (and-right (goodOption none) (allLines ls) h))

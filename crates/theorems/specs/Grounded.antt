@@ -16,7 +16,7 @@ use Rattle.definitions.specs.Given.{Given, given, bytes, Carried, carried}
 use Rattle.definitions.specs.Editor.{Ed, ed, sources, Stop, n20, n21, n22, n24, n25, n27, stopNumber, back, pointTo, Edit, strike, strikeBack, put, retext, edit, edits}
 use Rattle.definitions.specs.Reading.{Ran, gave, stopped, opening}
 use Rattle.definitions.specs.StepProgram.{Program, gives, _>>=_, _>>_, runs, RunState, state, Did, answers, changes, quits, Out, on, edited, halt, finish, perform}
-use Rattle.definitions.specs.Edit.{Op, round, quit, test, begin, beginBack, find, findBack, findDelete, move, next, previous, delete, replace, insert, copy, alter, point, pointStart, right, left, cutByte, recase}
+use Rattle.definitions.specs.Edit.{Op, onlyStep, quit, test, begin, beginBack, find, findBack, findDelete, move, nextLine, previousLine, delete, replace, insert, copy, alter, point, pointStart, right, left, cutByte, recase}
 use Rattle.definitions.specs.Edit.{stopIf, either, see, go, goesOn, goAhead, goTo, lineOr, isAtEof, lookOn, lookBack, write, placeOr24, byteHere, span, program, step}
 use Rattle.definitions.specs.Control.{Item}
 use Rattle.definitions.specs.Run.{runItems}
@@ -179,7 +179,7 @@ module _ (g : Given) (c : Carried) where
 
   program-comes : (op : Op) (e : Ed) (t : Tape) → HoldsEd Sourced e t → Grounded e t → ComesGrounded g c Does (program op) e t
   unfolding program
-  program-comes round e t s h = goes-comes e t h
+  program-comes onlyStep e t s h = goes-comes e t h
   program-comes quit e t s h = unfold runs in h
   program-comes (test x) e t s h = unfold see _>>=_ runs in h
   program-comes begin e t s h = at-line n21 _ (λ e₁ t₁ h₁. goes-comes e₁ t₁ (line-grounded e₁ t₁ h₁)) e t h
@@ -190,8 +190,8 @@ module _ (g : Given) (c : Carried) where
   program-comes (findBack se) e t s h = looked n22 se _ _ (λ e₁ t₁ h₁. goes-comes e₁ t₁ (line-grounded e₁ t₁ h₁)) lookBack-comes e t h
   program-comes (findDelete se k) e t s h = looked n21 se _ _ (strikeBack-comes k) lookOn-comes e t h
   program-comes (move a) e t s h = then-goes (goTo a) e t (goTo-comes g c a e t s h)
-  program-comes next e t s h = at-line n20 _ (λ e₁ t₁ h₁. then-goes goAhead e₁ t₁ (goAhead-comes g c e₁ t₁ h₁)) e t h
-  program-comes previous e t s h = then-goes (go back) e t (back-comes g c e t h)
+  program-comes nextLine e t s h = at-line n20 _ (λ e₁ t₁ h₁. then-goes goAhead e₁ t₁ (goAhead-comes g c e₁ t₁ h₁)) e t h
+  program-comes previousLine e t s h = then-goes (go back) e t (back-comes g c e t h)
   program-comes (delete a b) e t s h = then-comes g c Spans Does Halts (span a b) _ e t (span-comes g c a b e t s h) strike-comes
   program-comes (replace a b ls) e t s h = then-comes g c Spans Does Halts (span a b) _ e t (span-comes g c a b e t s h) (replace-comes ls)
   program-comes (insert none ls) e t s h = put-comes ls e t h

@@ -2,7 +2,7 @@
 use mathlib.Core.Path.{_≡_, refl}
 use mathlib.Core.Bool.{true, false}
 use mathlib.Core.List.{[], _∷_}
-use Rattle.definitions.specs.Edit.{next, isEof}
+use Rattle.definitions.specs.Edit.{nextLine, isEof}
 use Rattle.definitions.specs.Control.{times, forever, bare, branch, loop, simple, opens, bracket, close, otherwise, leave, lineEnd}
 use Rattle.theorems.specs.Nesting.{isBranch, isBare, mayCome, fill, groupsIn, provided, afterBracket, afterClose, afterOtherwise, areNone, after, nestedFrom, nested}
 
@@ -12,18 +12,18 @@ unfolding isBranch isBare mayCome fill groupsIn provided afterBracket afterClose
 nesting = tt
 
 -- 2 IFEOF (N) ELSE (AGP) and a line end
-takes-else : nested (opens 0 (times 2) ∷ opens 2 (branch isEof) ∷ bracket ∷ simple 9 next ∷ otherwise ∷ bracket ∷ leave 18 ∷ close ∷ close ∷ lineEnd ∷ []) ≡ true
+takes-else : nested (opens 0 (times 2) ∷ opens 2 (branch isEof) ∷ bracket ∷ simple 9 nextLine ∷ otherwise ∷ bracket ∷ leave 18 ∷ close ∷ close ∷ lineEnd ∷ []) ≡ true
 unfolding nesting
 takes-else = refl
 
 -- a close too many, and one too few
-refuses-closes : (nested (simple 0 next ∷ close ∷ []) ≡ false) × (nested (opens 0 forever ∷ simple 3 next ∷ []) ≡ false)
+refuses-closes : (nested (simple 0 nextLine ∷ close ∷ []) ≡ false) × (nested (opens 0 forever ∷ simple 3 nextLine ∷ []) ≡ false)
 unfolding nesting
 refuses-closes = (refl, refl)
 
 -- a group that follows no opener, a bare group without its bracket, a second command in a body that is no group
-refuses-brackets : (nested (simple 0 next ∷ bracket ∷ []) ≡ false) × (nested (opens 0 bare ∷ simple 1 next ∷ close ∷ []) ≡ false)
-    × (nested (opens 0 forever ∷ simple 3 next ∷ simple 4 next ∷ close ∷ []) ≡ false)
+refuses-brackets : (nested (simple 0 nextLine ∷ bracket ∷ []) ≡ false) × (nested (opens 0 bare ∷ simple 1 nextLine ∷ close ∷ []) ≡ false)
+    × (nested (opens 0 forever ∷ simple 3 nextLine ∷ simple 4 nextLine ∷ close ∷ []) ≡ false)
 unfolding nesting
 refuses-brackets = (refl, refl, refl)
 

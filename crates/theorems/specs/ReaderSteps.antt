@@ -10,7 +10,7 @@ use lib.Dec.{eqb, leb}
 use borrow.Author.Tests.{eqb-true}
 use Rattle.definitions.specs.Bytes.{isDigit, isCapital, isSmall, isLetter, upper, linesOf, isLine, allLines}
 use Rattle.definitions.specs.Table.{isScript}
-use Rattle.definitions.specs.Reader.{Cursor, cursor, Got, got, refused, andThen, placeAt, bytesLeft, nextByte, afterByte, isNext, expect, spacesAt, skipSpaces, lineEndAt, skipComment, blankAt, skipBlank, Word, word, digitsAt, digits, isDigitNext, inRange, number, lettersAt, name, afterWord, isDelimiter, stringUpTo, stringNext, advance, pastDelimiter, afterString, quoted}
+use Rattle.definitions.specs.Reader.{Cursor, cursor, Got, got, refused, andThen, placeAt, bytesLeft, nextByte, afterByte, isNext, expect, spacesAt, skipSpaces, lineEndAt, skipComment, blankAt, skipBlank, Token, token, digitsAt, digits, isDigitNext, inRange, number, lettersAt, name, afterToken, isDelimiter, stringUpTo, stringNext, advance, pastDelimiter, afterString, quoted}
 use Rattle.definitions.specs.Commands.{bytesFrom}
 use Rattle.theorems.specs.GoodItems.{isNumber}
 use Rattle.theorems.specs.Lines.{lines-tail, lines-drop, string-line, string-short}
@@ -164,22 +164,22 @@ past-blank (cursor at bs) h = blank-at false at bs h
 
 -- ---- numbers and names
 
-digits-at : {s : List ℕ} {left : ℕ} (n at : ℕ) (bs : List ℕ) → Reached s left (cursor at bs) → Reached s left (afterWord (digitsAt n at bs))
-unfolding digitsAt afterWord
+digits-at : {s : List ℕ} {left : ℕ} (n at : ℕ) (bs : List ℕ) → Reached s left (cursor at bs) → Reached s left (afterToken (digitsAt n at bs))
+unfolding digitsAt afterToken
 digits-at n at [] h = h
 digits-at {s} {left} n at (b ∷ bs) h = go (isDigit b) (digits-at (n * 10 + (b - 48)) (suc at) bs (along-at h))
   where
-    go : (t : Bool) → Reached s left (afterWord (digitsAt (n * 10 + (b - 48)) (suc at) bs))
-        → Reached s left (afterWord (elim t [ true ↦ digitsAt (n * 10 + (b - 48)) (suc at) bs | false ↦ word n (cursor at (b ∷ bs)) ]))
+    go : (t : Bool) → Reached s left (afterToken (digitsAt (n * 10 + (b - 48)) (suc at) bs))
+        → Reached s left (afterToken (elim t [ true ↦ digitsAt (n * 10 + (b - 48)) (suc at) bs | false ↦ token n (cursor at (b ∷ bs)) ]))
     go true g = g
     go false g = h
 
-pub digits-read : {s : List ℕ} {left : ℕ} (c : Cursor) → isDigit (nextByte c) ≡ true → Reached s (suc left) c → Reached s left (afterWord (digits c))
-unfolding nextByte isDigit digits digitsAt afterWord
+pub digits-read : {s : List ℕ} {left : ℕ} (c : Cursor) → isDigit (nextByte c) ≡ true → Reached s (suc left) c → Reached s left (afterToken (digits c))
+unfolding nextByte isDigit digits digitsAt afterToken
 digits-read (cursor at []) e h = absurd (false≢true e)
 digits-read {s} {left} (cursor at (b ∷ bs)) e h = go (isDigit b) e
   where
-    go : (t : Bool) → t ≡ true → Reached s left (afterWord (elim t [ true ↦ digitsAt (0 * 10 + (b - 48)) (suc at) bs | false ↦ word 0 (cursor at (b ∷ bs)) ]))
+    go : (t : Bool) → t ≡ true → Reached s left (afterToken (elim t [ true ↦ digitsAt (0 * 10 + (b - 48)) (suc at) bs | false ↦ token 0 (cursor at (b ∷ bs)) ]))
     go true q = digits-at (0 * 10 + (b - 48)) (suc at) bs (next-at h)
     go false q = absurd (false≢true q)
 
@@ -187,40 +187,40 @@ digits-read {s} {left} (cursor at (b ∷ bs)) e h = go (isDigit b) e
 abbrev pub IsNumber : ℕ → Type 0
 IsNumber n = isNumber n ≡ true
 
-range-reads : {s : List ℕ} {left at : ℕ} (w : Word) → at ≤ length s → Reached s left (afterWord w) → Reads IsNumber s left (inRange at w)
-unfolding inRange afterWord
-range-reads (word n c) le h = decides (Reads IsNumber _ _) (leb 1 n && leb n 65535) _ _ (λ t. gets h t) (λ t. refuses refl le)
+range-reads : {s : List ℕ} {left at : ℕ} (w : Token) → at ≤ length s → Reached s left (afterToken w) → Reads IsNumber s left (inRange at w)
+unfolding inRange afterToken
+range-reads (token n c) le h = decides (Reads IsNumber _ _) (leb 1 n && leb n 65535) _ _ (λ t. gets h t) (λ t. refuses refl le)
 
 pub number-reads : {s : List ℕ} {left : ℕ} (c : Cursor) → Reached s (suc left) c → Reads IsNumber s left (number c)
 unfolding number isDigitNext
 number-reads c h = decides (Reads IsNumber _ _) (isDigit (nextByte c)) _ _
     (λ t. range-reads (digits c) (place-short h) (digits-read c t h)) (λ t. refuses-at refl h)
 
-letters-at : {s : List ℕ} {left : ℕ} (k n at : ℕ) (bs : List ℕ) → Reached s left (cursor at bs) → Reached s left (afterWord (lettersAt k n at bs))
-unfolding lettersAt afterWord
+letters-at : {s : List ℕ} {left : ℕ} (k n at : ℕ) (bs : List ℕ) → Reached s left (cursor at bs) → Reached s left (afterToken (lettersAt k n at bs))
+unfolding lettersAt afterToken
 letters-at k n at [] h = h
 letters-at {s} {left} k n at (b ∷ bs) h = go (isLetter b) k (λ j m. letters-at j m (suc at) bs (along-at h))
   where
-    go : (t : Bool) (k : ℕ) → ((j m : ℕ) → Reached s left (afterWord (lettersAt j m (suc at) bs)))
-        → Reached s left (afterWord (elim t [
+    go : (t : Bool) (k : ℕ) → ((j m : ℕ) → Reached s left (afterToken (lettersAt j m (suc at) bs)))
+        → Reached s left (afterToken (elim t [
           | true ↦ elim k [ zero ↦ lettersAt zero n (suc at) bs | suc j ↦ lettersAt j (n * 256 + upper b) (suc at) bs ]
-          | false ↦ word n (cursor at (b ∷ bs))
+          | false ↦ token n (cursor at (b ∷ bs))
         ]))
     go true zero g = g zero n
     go true (suc j) g = g j (n * 256 + upper b)
     go false k g = h
 
-pub past-name : {s : List ℕ} {left : ℕ} (c : Cursor) → Reached s left c → Reached s left (afterWord (name c))
+pub past-name : {s : List ℕ} {left : ℕ} (c : Cursor) → Reached s left c → Reached s left (afterToken (name c))
 unfolding name
 past-name (cursor at bs) h = letters-at 4 0 at bs h
 
-pub name-read : {s : List ℕ} {left : ℕ} (c : Cursor) → isLetter (nextByte c) ≡ true → Reached s (suc left) c → Reached s left (afterWord (name c))
-unfolding nextByte isLetter isCapital isSmall name lettersAt afterWord
+pub name-read : {s : List ℕ} {left : ℕ} (c : Cursor) → isLetter (nextByte c) ≡ true → Reached s (suc left) c → Reached s left (afterToken (name c))
+unfolding nextByte isLetter isCapital isSmall name lettersAt afterToken
 name-read (cursor at []) e h = absurd (false≢true e)
 name-read {s} {left} (cursor at (b ∷ bs)) e h = go (isLetter b) e
   where
     go : (t : Bool) → t ≡ true
-        → Reached s left (afterWord (elim t [ true ↦ lettersAt 3 (0 * 256 + upper b) (suc at) bs | false ↦ word 0 (cursor at (b ∷ bs)) ]))
+        → Reached s left (afterToken (elim t [ true ↦ lettersAt 3 (0 * 256 + upper b) (suc at) bs | false ↦ token 0 (cursor at (b ∷ bs)) ]))
     go true q = letters-at 3 (0 * 256 + upper b) (suc at) bs (next-at h)
     go false q = absurd (false≢true q)
 

@@ -7,7 +7,7 @@ use Rattle.definitions.specs.Search.{Search}
 use Rattle.definitions.specs.Given.{carried}
 use Rattle.definitions.specs.Reading.{opening}
 use Rattle.definitions.specs.StepProgram.{RunState, state, Out, on, edited, halt}
-use Rattle.definitions.specs.Edit.{Test, Op, round, test, begin, beginBack, find, findBack, findDelete}
+use Rattle.definitions.specs.Edit.{Test, Op, onlyStep, test, begin, beginBack, find, findBack, findDelete}
 use Rattle.definitions.specs.Control.{Seek, forward, backward, deleting, Opener, times, forever, bare, branch, loop, Item, simple, seek, opens, bracket, close, otherwise, leave, lineEnd, Frame, frame, Ctl, running, skipping, failing, leaving, seeking, Pull, finished, want, wantOne, bodyStart, bodyEnd, leaveTo, beginOp, lookOp, pullAt, pullAfter, pullElse, pullLine, pull}
 use Rattle.definitions.specs.Run.{End, end, choose, spent, stepped, stepping, run, runItems}
 use Rattle.theorems.specs.Each.{Each, each-all}
@@ -16,7 +16,7 @@ use Rattle.theorems.specs.Each.{Each, each-all}
 
 -- `Q` holds of every step that a control structure or a search asks for by itself
 pub record Inner (Q : Op → Type 0) : Type 0 where
-  pub rounds : Q round
+  pub rounds : Q onlyStep
   pub tests : (c : Test) → Q (test c)
   pub begins : Q begin
   pub beginsBack : Q beginBack
@@ -54,7 +54,7 @@ module _ (Q : Op → Type 0) where
 -- `Q` holds of the step of every simple command; then `P` holds of every step that is wanted: its place, what it asks, and how the run goes on
 pub record Asking (Q : Op → Type 0) (P : ℕ → Op → Ctl → Ctl → Type 0) : Type 0 where
   pub commands : (at : ℕ) (op : Op) (c : Ctl) → Q op → P at op c c
-  pub rounds : (at : ℕ) (c : Ctl) → P at round c c
+  pub rounds : (at : ℕ) (c : Ctl) → P at onlyStep c c
   pub tests : (at : ℕ) (x : Test) (c₁ c₀ : Ctl) → P at (test x) c₁ c₀
   pub begins : (at : ℕ) (s : Seek) (c : Ctl) → P at (beginOp s) c c
   pub looks : (at : ℕ) (s : Seek) (se : Search) (k : ℕ) (items : List Item) (frames : List Frame)
@@ -85,7 +85,7 @@ module _ (Q : Op → Type 0) (f : (op : Op) → Q op) where
   -- what holds of every step
   pub inner-all : Inner Q
   inner-all = record {
-    rounds = f round;
+    rounds = f onlyStep;
     tests = λ c. f (test c);
     begins = f begin;
     beginsBack = f beginBack;

@@ -11,9 +11,9 @@ use lib.Dec.{eqb, leb, ltb}
 use borrow.Author.Tests.{ltb-true, lt-ltb}
 use Rattle.definitions.specs.Bytes.{isDigit, isLetter}
 use Rattle.definitions.specs.Control.{Opener, times, bare, Item, opens}
-use Rattle.definitions.specs.Reader.{Cursor, cursor, Got, placeAt, bytesLeft, nextByte, afterByte, isNext, skipSpaces, Word, word, name, afterWord}
+use Rattle.definitions.specs.Reader.{Cursor, cursor, Got, placeAt, bytesLeft, nextByte, afterByte, isNext, skipSpaces, Token, token, name, afterToken}
 use Rattle.definitions.specs.Commands.{bytesFrom, Decoded, prefix}
-use Rattle.definitions.specs.Script.{Due, nothing, body, Group, group, reading, Script, items, refusedAt, Next, more, done, bodies, isInGroup, closes, decoded, named, countRead, groupItems, groupOf, openGroup, elseGroup, isElse, afterElse, groupEnd, closeGroup, separator, lineItems, scriptEnd, Class, isSemicolon, isLineEnd, isOpen, isClose, isCount, isName, isComment, isSign, classOf, byClass, readAt, readOne, readAll, readScript}
+use Rattle.definitions.specs.Script.{Due, nothing, body, Group, group, reading, Script, items, refusedAt, AfterRound, more, done, bodies, isInGroup, closes, decoded, named, countRead, groupItems, groupOf, openGroup, elseGroup, isElse, afterElse, groupEnd, closeGroup, separator, lineItems, scriptEnd, Class, isSemicolon, isLineEnd, isOpen, isClose, isCount, isName, isComment, isSign, classOf, byClass, readAt, readOne, readAll, readScript}
 use Rattle.theorems.specs.Lines.{script-lines}
 use Rattle.theorems.specs.GoodItems.{goodOpener, goodItem, placedIn, allItems}
 use Rattle.theorems.specs.ItemLaws.{good-marks, placed-marks, bare-good, cons-all, reverse-all, closes-all, group-all, else-all, line-all, closes-length}
@@ -44,7 +44,7 @@ record Well (s : List ℕ) (left : ℕ) (d : Due) (groups : List Group) (acc : L
   good : Sound s (allItems goodItem acc)
 
 -- after a round: fewer than `left` bytes are left, or the reading ends
-data Goes (s : List ℕ) (left : ℕ) : Next → Type 0 where
+data Goes (s : List ℕ) (left : ℕ) : AfterRound → Type 0 where
   goes-on : {c : Cursor} {d : Due} {groups : List Group} {acc : List Item} → Reached s left c → Well s left d groups acc
       → Goes s left (more (reading c d groups acc))
   ends : {r : Script} → Fine s r → Goes s left (done r)
@@ -82,19 +82,19 @@ decoded-goes {s} {acc = acc} (gets h (an-opener at o p q lt g)) w = goes-on h (r
 })
 decoded-goes (refuses e le) w = ends (rejected e le)
 
-named-goes : {s : List ℕ} {left : ℕ} {d : Due} {groups : List Group} {acc : List Item} (at : ℕ) (w : Word) → at < length s → Reached s left (afterWord w)
+named-goes : {s : List ℕ} {left : ℕ} {d : Due} {groups : List Group} {acc : List Item} (at : ℕ) (w : Token) → at < length s → Reached s left (afterToken w)
     → Well s (suc left) d groups acc → Goes s left (named d groups acc at w)
-unfolding named afterWord
-named-goes {groups = groups} at (word x c) lt h w = decoded-goes (command-reads (isInGroup groups) at x c lt h) w
+unfolding named afterToken
+named-goes {groups = groups} at (token x c) lt h w = decoded-goes (command-reads (isInGroup groups) at x c lt h) w
 
 times-well : (s : List ℕ) (at n : ℕ) → at < length s → leb n 65535 ≡ true → DecodedWell s (prefix false (opens at (times n)))
 unfolding isBare isBranch goodItem goodOpener
 times-well s at n lt t = an-opener at (times n) refl refl lt (λ e. t)
 
-count-goes : {s : List ℕ} {left : ℕ} {d : Due} {groups : List Group} {acc : List Item} (at : ℕ) (w : Word) → at < length s → Reached s left (afterWord w)
+count-goes : {s : List ℕ} {left : ℕ} {d : Due} {groups : List Group} {acc : List Item} (at : ℕ) (w : Token) → at < length s → Reached s left (afterToken w)
     → Well s (suc left) d groups acc → Goes s left (countRead d groups acc at w)
-unfolding countRead afterWord
-count-goes {s} {left} at (word n c) lt h w = decoded-goes
+unfolding countRead afterToken
+count-goes {s} {left} at (token n c) lt h w = decoded-goes
     (decides (Reads (DecodedWell s) s left) (leb n 65535) _ _ (λ t. gets h (times-well s at n lt t)) (λ t. refuses {at = at} refl (omega arith))) w
 
 -- ---- brackets
@@ -133,7 +133,7 @@ else-goes {s} {left} {groups} {acc} k c h w = decides (Goes s left) (isNext 40 c
 
 past-else : {s : List ℕ} {left : ℕ} (c : Cursor) → Reached s left c → Reached s left (afterElse c)
 unfolding afterElse
-past-else c h = past-spaces (afterWord (name (skipSpaces c))) (past-name (skipSpaces c) (past-spaces c h))
+past-else c h = past-spaces (afterToken (name (skipSpaces c))) (past-name (skipSpaces c) (past-spaces c h))
 
 closed-goes : {s : List ℕ} {left : ℕ} {groups : List Group} {acc : List Item} {c : Cursor} (k : ℕ) (e : Bool) → Reached s left c
     → Well s (suc left) nothing (group k e ∷ groups) acc → Goes s left (more (reading c nothing groups (closes k acc)))
@@ -224,7 +224,7 @@ class-is b = decides (ByteIs b) (eqb b 59) _ _ (λ t. tt) (λ f. decides (ByteIs
 
 class-goes : {s : List ℕ} {left at b : ℕ} {bs : List ℕ} {d : Due} {groups : List Group} {acc : List Item} (k : Class) → ByteIs b k
     → Reached s (suc left) (cursor at (b ∷ bs)) → Well s (suc left) d groups acc → Goes s left (byClass d groups acc (cursor at (b ∷ bs)) k)
-unfolding byClass ByteIs placeAt afterByte nextByte afterWord
+unfolding byClass ByteIs placeAt afterByte nextByte afterToken
 class-goes {d = d} {acc = acc} isSemicolon t h w = separator-goes acc d _ _ (place-short h) (next-at h) w blank-well
 class-goes {d = d} {acc = acc} isLineEnd t h w = separator-goes acc d _ _ (place-short h) (next-at h) w line-well
 class-goes isOpen t h w = open-goes _ (next-at h) (place-inside h) w
@@ -249,7 +249,7 @@ all-fine zero c h w = absurd (not-suc-le-zero (h .fewer))
 all-fine {s} {d} {groups} {acc} (suc rounds) c h w = go (readAt d groups acc (skipSpaces c)) (read-at-goes (skipSpaces c) (past-spaces c h) w)
     (λ c′ d′ groups′ acc′ h′ w′. all-fine rounds c′ h′ w′)
   where
-    go : (n : Next) → Goes s rounds n
+    go : (n : AfterRound) → Goes s rounds n
         → ((c′ : Cursor) (d′ : Due) (groups′ : List Group) (acc′ : List Item) → Reached s rounds c′ → Well s rounds d′ groups′ acc′
         → Fine s (readAll rounds (reading c′ d′ groups′ acc′)))
         → Fine s (elim n [ more s′ ↦ readAll rounds s′ | done r ↦ r ])
