@@ -18,7 +18,7 @@ use Rattle.definitions.specs.Matching.{Qualifiers, Qualified, qualified, string
 use Rattle.definitions.specs.Edit.{Op, Change, afterIt, beforeIt, exchange, stopIf, go, goesOn, lineOr, placeOr24, byteHere, write, splice, altered, alteredPoint, pointBy, cased, recased, program, step}
 use Rattle.theorems.specs.Programs.{runs-halt, runs-pass}
 use Rattle.editor.specs.Shows.{Shows, pointOf, lent, Answered, atPoint}
-use Rattle.editor.specs.Current.{currentLine, Ready}
+use Rattle.editor.specs.Current.{currentLine, Ready, ShowsOf, ShownOf, PerformsOf, IsReady, PerformsOn}
 use Rattle.editor.specs.declared.State.{State}
 use Rattle.editor.specs.declared.Moved.{Moved}
 use Rattle.editor.specs.declared.Moved.the-variants.{On, Stop}
@@ -29,7 +29,7 @@ use Rattle.changes.specs.declared.look.Byte.{Byte}
 use Rattle.changes.specs.declared.look.Byte.the-variants.{Here, Lacks}
 use Rattle.changes.specs.declared.look.Place.{Place}
 use Rattle.changes.specs.declared.look.Place.the-variants.{At, Nowhere}
-use Rattle.changes.specs.Current.{part, byteAt, placeAt, ByteIs, PlaceIs, Sights, Finds, ShowsOf, ShownOf, PerformsOf, IsReady, PerformsOn, AtLine, HasLine, Writes, Alters, changeOf}
+use Rattle.changes.specs.Current.{part, byteAt, placeAt, ByteIs, PlaceIs, Sights, Finds, AtLine, HasLine, Writes, Alters, changeOf}
 use Rattle.changes.proofs.Casing.{cased-one}
 use Rattle.changes.proofs.Splicing.{shown-text}
 use Rattle.changes.proofs.Looking.{ByteOn, byte-on, byte-stop, PlaceOn, place-on, place-stop, part-length}

@@ -19,6 +19,7 @@ use Rattle.definitions.specs.Reading.{Ran, gave, stopped}
 use Rattle.definitions.specs.StepProgram.{Program, gives, _>>=_, _>>_, runs}
 use Rattle.definitions.specs.Matching.{Qualified, placeOf, stringIn}
 use Rattle.definitions.specs.Edit.{stopIf, orStop, lineIn, lineOr, placeOr24, byteHere}
+use Rattle.theorems.specs.Places.{place-inside}
 use Rattle.matching.specs.Quals.{foundOf}
 use Rattle.matching.specs.declared.Found.{Found}
 use Rattle.matching.specs.declared.Found.the-variants.{At, Nothing}
@@ -30,7 +31,6 @@ use Rattle.changes.specs.declared.look.Byte.the-variants.{Here, Lacks}
 use Rattle.changes.specs.declared.look.Place.the-variants.{Nowhere}
 use Rattle.changes.specs.declared.look.Place.the-variants.{At as PlaceFound}
 use Rattle.changes.specs.Current.{part, byteAt, placeAt, ByteIs, PlaceIs, Sights, Finds}
-use Rattle.changes.proofs.Bounds.{place-inside}
 
 -- ---- what a part of a step comes to
 

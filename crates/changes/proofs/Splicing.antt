@@ -11,23 +11,21 @@ use borrow.Author.Tests.{le-leb, lt-leb, lt-ltb, le-ltb}
 use Rattle.definitions.specs.Bytes.{Line, allText, isLine}
 use Rattle.definitions.specs.Tape.{Tape}
 use Rattle.definitions.specs.Given.{Given, Carried}
-use Rattle.definitions.specs.Editor.{Ed, ed, n25, stopNumber, retext, afterOf}
+use Rattle.definitions.specs.Editor.{Ed, n25, stopNumber, retext}
 use Rattle.definitions.specs.StepProgram.{gives, state, changes, perform}
 use Rattle.definitions.specs.Edit.{write, splice}
 use Rattle.theorems.specs.Programs.{runs-halt, runs-pass}
 use Rattle.theorems.specs.JournalBytes.{line-text, line-of}
-use Rattle.theorems.specs.GoodLines.{splice-text}
+use Rattle.theorems.specs.GoodLines.{splice-text, splice-length}
 use Rattle.editor.specs.Shows.{Shows, lent, Answered}
 use Rattle.editor.specs.Current.{currentLine, TableOf}
 use Rattle.editor.specs.declared.State.{State}
 use Rattle.editor.specs.declared.Moved.{Moved}
 use Rattle.editor.specs.declared.Moved.the-variants.{Stop}
 use Rattle.editor.proofs.Parts.{perform-as, perform-stop, came-stop}
-use Rattle.editor.proofs.Texts.{current-good}
-use Rattle.editor.proofs.CurrentText.{shown-short}
+use Rattle.editor.proofs.CurrentText.{shown-good, shown-short}
 use Rattle.changes.specs.Current.{written, AtLine, HasLine, Splices, Writes, Rewrites}
 use Rattle.changes.proofs.Written.{first-written}
-use Rattle.changes.proofs.Texts.{splice-length}
 
 -- ---- the end of a step that writes a line
 
@@ -47,9 +45,7 @@ module _ (g : Given) (c : Carried) (l : Line) (q : ℕ) (e : Ed) (t : Tape) wher
 
 -- a line that is shown is of text
 pub shown-text : {j : List ℕ} {st : State} (e : Ed) (t : Tape) → Shows j st e t → allText (currentLine e) ≡ true
-unfolding afterOf allText
-shown-text (ed b [] p) t h = refl
-shown-text (ed b (r ∷ a) p) t h = line-text _ (current-good r (h .holds .good .0))
+shown-text e t h = line-text (currentLine e) (shown-good e t h)
 
 -- the text that is read is long enough, and no longer than a line can be
 pub text-room : {table j : List ℕ} {st : State} {w : ℕ} (text : List ℕ) → ((e : Ed) (t : Tape) → Shows j st e t → TableOf table e t → text ≡ currentLine e) → HasLine table j st w

@@ -14,7 +14,7 @@ use Rattle.definitions.specs.Editor.{Stop as StopNumber}
 use Rattle.definitions.specs.Reading.{Ran, gave, stopped}
 use Rattle.definitions.specs.StepProgram.{Program, gives, _>>=_, runs, state, changes, perform}
 use Rattle.definitions.specs.Matching.{Qualified, qualified}
-use Rattle.definitions.specs.Edit.{Op, Change, afterIt, beforeIt, exchange, splice, altered, alteredPoint, lineOr, placeOr24, byteHere, write, step}
+use Rattle.definitions.specs.Edit.{Op, Change, afterIt, beforeIt, exchange, splice, altered, alteredPoint, lineOr, placeOr24, byteHere, write}
 use Rattle.matching.specs.Quals.{qualifiersOf}
 use Rattle.matching.specs.declared.Quals.{Quals}
 use Rattle.editor.specs.declared.State.{State}
@@ -22,7 +22,7 @@ use Rattle.editor.specs.declared.Moved.{Moved}
 use Rattle.editor.specs.declared.Moved.the-variants.{On, Stop}
 use Rattle.editor.specs.Records.{enc, Good}
 use Rattle.editor.specs.Shows.{Holds, Shows, lent, Answered}
-use Rattle.editor.specs.Current.{currentLine, TableOf, Ready}
+use Rattle.editor.specs.Current.{currentLine, Ready, ShowsOf}
 use Rattle.changes.specs.declared.look.Byte.{Byte}
 use Rattle.changes.specs.declared.look.Byte.the-variants.{Here, Lacks}
 use Rattle.changes.specs.declared.look.Place.{Place}
@@ -49,6 +49,10 @@ changeOf (suc (suc n)) = exchange
 abbrev pub sought : Quals → List ℕ → ℕ → ℕ → Qualified
 sought q script from to = qualified (qualifiersOf q) (part script from to)
 
+-- A, B or E of it, with the bytes that the script has from `start` to `end`
+abbrev pub alterOf : ℕ → Bool → Quals → List ℕ → ℕ → ℕ → ℕ → ℕ → Op
+alterOf kind pointing q script from to start end = Op.alter (changeOf kind) pointing (sought q script from to) (part script start end)
+
 -- the script has a string from `from` to `to`, and one of text from `start` to `end`
 pub record StringsIn (script : List ℕ) (from to start end : ℕ) : Type 0 where
   pub first : from ≤ to
@@ -57,29 +61,6 @@ pub record StringsIn (script : List ℕ) (from to start end : ℕ) : Type 0 wher
   pub within : end ≤ length script
   pub short : length script ≤ 16384
   pub text : allText (part script start end) ≡ true
-
--- ---- a whole command of a function that reads the table too
-
--- the buffer shows the text `e`, the lines of `t` being unread, and its journal is one of this table
-pub record ShowsOf (table j : List ℕ) (st : State) (e : Ed) (t : Tape) : Type 0 where
-  pub shows : Shows j st e t
-  pub old : TableOf table e t
-
--- it shows some text
-abbrev pub ShownOf : List ℕ → List ℕ → State → Type 0
-ShownOf table j st = (e : Ed) × (t : Tape) × ShowsOf table j st e t
-
--- with the buffer j and its numbers st before, and the buffer k after, the function that answered r did the command
-abbrev pub PerformsOf : List ℕ → List ℕ → State → Op → List ℕ → Moved → Type 0
-PerformsOf table j st op k r = (e : Ed) (c : Carried) (t : Tape) → ShowsOf table j st e t → Answered k r (step (lent j) op (state e c) t)
-
--- it shows some text, and p is within the current line
-abbrev pub IsReady : List ℕ → List ℕ → State → Type 0
-IsReady table j st = (e : Ed) × (t : Tape) × Ready table j st e t
-
--- as `PerformsOf`, where p is within the current line
-abbrev pub PerformsOn : List ℕ → List ℕ → State → Op → List ℕ → Moved → Type 0
-PerformsOn table j st op k r = (e : Ed) (c : Carried) (t : Tape) → Ready table j st e t → Answered k r (step (lent j) op (state e c) t)
 
 -- ---- a look at the current line
 

@@ -9,7 +9,8 @@ ghost use lib.ListN.{length};
 ghost use Rattle.definitions.specs.Bytes.{allText, lower as «lower-of»};
 ghost use Rattle.definitions.specs.Edit.{Op, alteredPoint, pointBy as «point-by», cased as «cased-of»};
 ghost use Rattle.editor.specs.Shows.{ShowsText, Performs, atPoint};
-ghost use Rattle.changes.specs.Current.{part, changeOf, sought, StringsIn, ShownOf, PerformsOf, IsReady, PerformsOn, HasLine, Alters};
+ghost use Rattle.editor.specs.Current.{ShownOf, PerformsOf, IsReady, PerformsOn};
+ghost use Rattle.changes.specs.Current.{changeOf, sought, alterOf, StringsIn, HasLine, Alters};
 use editor::Moved;
 use editor::State;
 use look::Byte;
@@ -199,7 +200,7 @@ pub fn alter(
     end: usize,
 ) -> Moved
     requires { ⌜ IsReady (now table) (now j) st × StringsIn (now script) from to start end ⌝ }
-    ensures { λ r. ⌜ PerformsOn (now (table .entry)) (now (j .entry)) st (Op.alter (changeOf kind) pointing (sought q (now (script .entry)) from to) (part (now (script .entry)) start end)) (now (j .exit)) r ⌝ }
+    ensures { λ r. ⌜ PerformsOn (now (table .entry)) (now (j .entry)) st (alterOf kind pointing q (now (script .entry)) from to start end) (now (j .exit)) r ⌝ }
 {
     let place = look::place_here(table, j, st, q, script, from, to);
     match place {

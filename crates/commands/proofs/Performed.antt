@@ -2,21 +2,18 @@
 use mathlib.Core.Path.{_≡_, refl, _∙_}
 use mathlib.Core.List.{List}
 use Prim.Native.Nat.{ℕ}
-use Rattle.definitions.specs.Tape.{Tape, bind}
-use Rattle.definitions.specs.Given.{Carried}
-use Rattle.definitions.specs.Editor.{Ed}
+use Rattle.definitions.specs.Tape.{bind}
 use Rattle.definitions.specs.StepProgram.{runs, finish, perform, state}
 use Rattle.definitions.specs.Edit.{Op, program, step, quit}
 use Rattle.items.specs.Kinds.{wordShape, pairShape, fourShape, stringShape, changeShape, shapeOf}
 use Rattle.items.specs.Words.{kindAt}
-use Rattle.items.specs.Simple.{wordOp, CommandAt}
+use Rattle.items.specs.Simple.{wordOp}
 use Rattle.items.proofs.Meaning.{words, formOf, Means, shape-left, meant, meant-as}
 use Rattle.editor.specs.declared.State.{State}
 use Rattle.editor.specs.declared.Moved.{Moved}
 use Rattle.editor.specs.declared.Moved.the-variants.{Stop}
 use Rattle.editor.specs.Shows.{lent, ShowsText, Answers, Answered, Performs}
-use Rattle.editor.specs.Current.{Ready}
-use Rattle.changes.specs.Current.{ShownOf, PerformsOf, IsReady}
+use Rattle.editor.specs.Current.{ShownOf, PerformsOf, IsReady}
 use Rattle.commands.specs.Performing.{SomeCommand, PerformsAt}
 
 -- W

@@ -8,9 +8,6 @@ use lib.Dec.{leb, eqb}
 use lib.ListN.{length, getD}
 use Rattle.definitions.specs.Bytes.{Line, allText, isLine}
 use Rattle.definitions.specs.Matching.{Qualified, qualified}
-use Rattle.definitions.specs.Tape.{Tape}
-use Rattle.definitions.specs.Given.{Carried}
-use Rattle.definitions.specs.Editor.{Ed}
 use Rattle.definitions.specs.StepProgram.{state}
 use Rattle.definitions.specs.Edit.{Change, afterIt, beforeIt, exchange, Op, step}
 use Rattle.theorems.specs.Lines.{and-left}
@@ -28,7 +25,8 @@ use Rattle.items.proofs.Strings.{string-inside, string-is}
 use Rattle.editor.specs.declared.State.{State}
 use Rattle.editor.specs.declared.Moved.{Moved}
 use Rattle.editor.specs.Shows.{lent, Answered}
-use Rattle.changes.specs.Current.{part, changeOf, sought, StringsIn, PerformsOn}
+use Rattle.editor.specs.Current.{PerformsOn}
+use Rattle.changes.specs.Current.{part, changeOf, sought, StringsIn}
 use Rattle.commands.specs.Performing.{changeBy, pointingBy, SomeCommand, PerformsAt}
 
 less : (a b : ℕ) → (a + b) - a ≡ b

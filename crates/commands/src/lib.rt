@@ -3,7 +3,7 @@ mod lines;
 mod one_word;
 mod qualified;
 
-ghost use Rattle.changes.specs.Current.{IsReady};
+ghost use Rattle.editor.specs.Current.{IsReady};
 ghost use Rattle.commands.specs.Performing.{SomeCommand, PerformsAt};
 use editor::Moved;
 use editor::State;

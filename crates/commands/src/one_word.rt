@@ -1,6 +1,6 @@
 // The commands of one word.
 ghost use Rattle.items.specs.Simple.{byteOp, wordOp};
-ghost use Rattle.changes.specs.Current.{ShownOf, PerformsOf};
+ghost use Rattle.editor.specs.Current.{ShownOf, PerformsOf};
 use editor::Moved;
 use editor::State;
 use items::kinds::COPY;
@@ -22,7 +22,7 @@ pub fn on_lines(kind: u32, table: &[u8], j: &mut [u8], st: State) -> Moved
         QUIT => Moved::Stop(0, st),
         NEXT => editor::moves::next_line(j, st),
         PREVIOUS => editor::moves::previous_line(j, st),
-        COPY => editor::edits::copy_line(j, st),
+        COPY => editor::edits::copy_line(table, j, st),
         _ => on_bytes(kind, table, j, st),
     }
 }

@@ -2,7 +2,7 @@
 ghost use mathlib.Core.Path.{_≡_};
 ghost use Rattle.items.specs.Kinds.{stringShape, changeShape, shapeOf};
 ghost use Rattle.items.specs.Words.{kindAt};
-ghost use Rattle.changes.specs.Current.{IsReady};
+ghost use Rattle.editor.specs.Current.{IsReady};
 ghost use Rattle.commands.specs.Performing.{changeBy, pointingBy, SomeCommand, PerformsAt};
 use editor::Moved;
 use editor::State;

@@ -12,6 +12,8 @@ use Rattle.items.specs.Words.{kindAt, placeAt}
 use Rattle.items.specs.Ends.{endBy, counting, repeating, looping, wayOf, wayBy}
 use Rattle.control.specs.Items.{startsGroup}
 use Rattle.control.specs.Shown.{OpenedAt, InFrames, Closing, ShowsCtl, a-round, ShowsStep, standAt, wantedAt, testBy}
+use Rattle.control.specs.declared.Ask.{Ask}
+use Rattle.control.specs.declared.Ask.the-variants.{Round}
 use Rattle.control.specs.declared.Control.{Control}
 use Rattle.control.specs.declared.Next.the-variants.{Want}
 use Rattle.control.specs.declared.Step.{Step}
@@ -91,7 +93,7 @@ module _ (w : List ℕ) (end next depth word item kind way : ℕ) (word-is : wor
       p-place = p-is ∙ ap (placeAt w) (item-top o body frames h) ∙ top-says o body frames h .at (h .top .small)
 
     -- RPT goes round
-    pub again-forever : way ≡ repeating → r ≡ Gives (Want (wantedAt 0 p item y y)) → (o : Opener) (body : List Item) (frames : List Frame) → Closing s w end at next depth items g place o body frames
+    pub again-forever : way ≡ repeating → r ≡ Gives (Want (wantedAt Round p item y y)) → (o : Opener) (body : List Item) (frames : List Frame) → Closing s w end at next depth items g place o body frames
         → ShowsStep s w end at r (running (close ∷ items) (frame g place o body ∷ frames))
     unfolding wayOf pull pullAt bodyEnd wantOne
     again-forever does er (times n) body frames h = absurd (omega (arith, does, top-way (times n) body frames h))
@@ -100,18 +102,19 @@ module _ (w : List ℕ) (end next depth word item kind way : ℕ) (word-is : wor
     again-forever does er (loop c) body frames h = absurd (omega (arith, does, top-way (loop c) body frames h))
     again-forever does er forever body frames h =
         let sh = again-shows s w end at next depth items g place forever body frames h y (y-again forever body frames h) in
-        gives s w end at (running (close ∷ items) (frame g place forever body ∷ frames)) r (wantedAt 0 p item y y) place onlyStep (running body (frame g place forever body ∷ frames))
+        gives s w end at (running (close ∷ items) (frame g place forever body ∷ frames)) r (wantedAt Round p item y y) place onlyStep (running body (frame g place forever body ∷ frames))
         (running body (frame g place forever body ∷ frames)) refl er (record {
           at-place = p-place forever body frames h;
           asks = a-round refl;
           yes-shows = sh;
           no-shows = sh;
+          few = omega arith;
           yes-few = rw y-is (omega arith);
           no-few = rw y-is (omega arith);
         })
 
     -- a test of WH or UT
-    pub again-loop : way ≡ looping → (what : ℕ) → what ≡ testBy kind → (out : Control) → out ≡ standAt 0 next (depth - 1) 0 → r ≡ Gives (Want (wantedAt what p item y out))
+    pub again-loop : way ≡ looping → (what : Ask) → what ≡ testBy kind → (out : Control) → out ≡ standAt 0 next (depth - 1) 0 → r ≡ Gives (Want (wantedAt what p item y out))
         → (o : Opener) (body : List Item) (frames : List Frame) → Closing s w end at next depth items g place o body frames
         → ShowsStep s w end at r (running (close ∷ items) (frame g place o body ∷ frames))
     unfolding wayOf OpenedAt pull pullAt bodyEnd
@@ -127,13 +130,14 @@ module _ (w : List ℕ) (end next depth word item kind way : ℕ) (word-is : wor
               (what-is ∙ ap testBy (sym (top-kind (loop c) body frames h))) (h .top .opened);
           yes-shows = again-shows s w end at next depth items g place (loop c) body frames h y (y-again (loop c) body frames h);
           no-shows = out-shows s w end at next depth items g place (loop c) body frames h out out-is;
+          few = omega arith;
           yes-few = rw y-is (omega arith);
           no-few = rw out-is (omega arith);
         })
 
     -- a count goes round
     pub again-times : way ≡ counting → (left : ℕ) → left ≡ word / 65536 → (left ≡ 0 → ⊥) → (w′ : List ℕ) → w′ ≡ set w (end + (depth - 1)) (word - 65536)
-        → r ≡ Gives (Want (wantedAt 0 p item y y)) → (o : Opener) (body : List Item) (frames : List Frame) → Closing s w end at next depth items g place o body frames
+        → r ≡ Gives (Want (wantedAt Round p item y y)) → (o : Opener) (body : List Item) (frames : List Frame) → Closing s w end at next depth items g place o body frames
         → ShowsStep s w′ end at r (running (close ∷ items) (frame g place o body ∷ frames))
     unfolding wayOf OpenedAt pull pullAt bodyEnd wantOne
     again-times does left left-is some w′ written er (times zero) body frames h =
@@ -144,12 +148,13 @@ module _ (w : List ℕ) (end next depth word item kind way : ℕ) (word-is : wor
     again-times does left left-is some w′ written er (loop c) body frames h = absurd (omega (arith, does, top-way (loop c) body frames h))
     again-times does left left-is some w′ written er (times (suc n)) body frames h =
         let sh = fewer-shows s w end at next depth items g place n word body frames h word-is w′ written y (y-again (times (suc n)) body frames h) in
-        gives s w′ end at (running (close ∷ items) (frame g place (times (suc n)) body ∷ frames)) r (wantedAt 0 p item y y) place onlyStep (running body (frame g place (times n) body ∷ frames))
+        gives s w′ end at (running (close ∷ items) (frame g place (times (suc n)) body ∷ frames)) r (wantedAt Round p item y y) place onlyStep (running body (frame g place (times n) body ∷ frames))
         (running body (frame g place (times n) body ∷ frames)) refl er (record {
           at-place = p-place (times (suc n)) body frames h;
           asks = a-round refl;
           yes-shows = sh;
           no-shows = sh;
+          few = omega arith;
           yes-few = rw y-is (omega arith);
           no-few = rw y-is (omega arith);
         })

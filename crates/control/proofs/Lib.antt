@@ -10,5 +10,6 @@ pub mod Leaving
 pub mod Looking
 pub mod Running
 pub mod Groups
+pub mod Moving
 pub mod Pulling
 pub mod Scripts

@@ -12,6 +12,7 @@ use Rattle.items.specs.Ends.{placeOf}
 use Rattle.items.proofs.Reading.{seek-shape, item-reads}
 use Rattle.items.proofs.OpenerWords.{kind-word}
 use Rattle.control.specs.Shown.{ShowsCtl, Asks, begins, begins-back, finds, finds-back, deletes, ShowsNext, standAt, beginBy, lookBy}
+use Rattle.control.specs.declared.Ask.{Ask}
 use Rattle.control.specs.declared.Control.{Control}
 use Rattle.control.specs.declared.Wanted.{Wanted}
 use Rattle.control.specs.declared.Next.the-variants.{Want}
@@ -57,7 +58,7 @@ in-search s w end c (seeking place f se k items frames) q h =
     let i = stands-in s w end (c .at) (c .depth) items (h .4 .stands) in
     omega (arith, i, seek-place s w (c .item) (c .at) place se f (h .2) (h .3) .1)
 
-pub look-shows : (w : List ℕ) (c : Control) → c .mode ≡ 4 → (what : ℕ) → what ≡ lookBy (kindAt w (c .item)) → (p : ℕ) → p ≡ placeAt w (c .item) → (y : Control) → y ≡ standAt 0 (c .at) (c .depth) 0
+pub look-shows : (w : List ℕ) (c : Control) → c .mode ≡ 4 → (what : Ask) → what ≡ lookBy (kindAt w (c .item)) → (p : ℕ) → p ≡ placeAt w (c .item) → (y : Control) → y ≡ standAt 0 (c .at) (c .depth) 0
     → (s : List ℕ) (end : ℕ) (from : Ctl) → ShowsCtl s w end c from
     → ShowsNext s w end (c .lines + 1) (Want (record { what = what; place = p; item = c .item; lines = c .lines; yes = y; no = onLine c })) (pull from)
 unfolding ShowsCtl ShowsNext pull
@@ -72,6 +73,7 @@ look-shows w c q what what-is p p-is y y-is s end (seeking place f se k items fr
           what-is refl (h .1) (h .3);
       yes-shows = shows-as s w end y (standAt 0 (c .at) (c .depth) 0) (running items frames) y-is (refl, h .4);
       no-shows = (q, omega (arith, h .1), h .2, h .3, h .4);
+      few = omega arith;
       yes-few = rw y-is (omega arith);
       no-few = omega arith;
     }

@@ -158,6 +158,7 @@ shows-more s w end n m (Want x) (want place op c₁ c₀) le h =
       asks = h .asks;
       yes-shows = h .yes-shows;
       no-shows = h .no-shows;
+      few = omega (arith, h .few, le);
       yes-few = omega (arith, h .yes-few, le);
       no-few = omega (arith, h .no-few, le);
     }

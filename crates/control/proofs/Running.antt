@@ -12,7 +12,8 @@ use Rattle.items.specs.Kinds.{lineEndKind, bracketKind, closeKind, elseKind, le
 use Rattle.items.specs.Words.{OpAt, ItemAt, kindAt, placeAt}
 use Rattle.items.specs.Ends.{classOf, placeOf, simpleClass, searchClass, openerClass}
 use Rattle.items.specs.Depth.{openAfter}
-use Rattle.control.specs.Shown.{FramesAt, InFrames, entered, Runs, Opening, Closing, ShowsCtl, a-round, simply, ShowsNext, ShowsStep, standAt, seekAt, wantedAt, beginBy}
+use Rattle.control.specs.Shown.{FramesAt, InFrames, entered, Runs, Opening, Closing, ShowsCtl, a-round, simply, ShowsNext, ShowsStep, standAt, seekAt, wantedAt, beginBy, beginAt}
+use Rattle.control.specs.declared.Ask.the-variants.{Round, Command}
 use Rattle.control.specs.declared.Control.{Control}
 use Rattle.control.specs.declared.Next.the-variants.{Want}
 use Rattle.control.specs.declared.Step.{Step}
@@ -92,7 +93,7 @@ module _ (w : List ℕ) (end at next depth class : ℕ) (reads : Reading w at cl
         (λ p o rest x. started s p o rest frames (opening s w end at next depth class p o rest frames x))
 
     -- a search
-    pub run-seek : class ≡ searchClass → r ≡ Gives (Want (wantedAt (beginBy (kindAt w at)) (placeAt w at) at (seekAt at next depth 0) (seekAt at next depth 0))) → ShowsStep s w end at r (running items frames)
+    pub run-seek : class ≡ searchClass → r ≡ beginAt w at next depth → ShowsStep s w end at r (running items frames)
     unfolding ItemAt placeOf openAfter ShowsCtl pull pullAt wantOne mayBracket
     run-seek q e =
         as-seek s w end at next depth depth class frames (λ l. ShowsStep s w end at r (running l frames)) q items here-is
@@ -104,13 +105,14 @@ module _ (w : List ℕ) (end at next depth class : ℕ) (reads : Reading w at cl
           asks = asks-begin s w at next p se f x₁ refl (x .item);
           yes-shows = (refl, refl, x .small, x .item, on);
           no-shows = (refl, refl, x .small, x .item, on);
+          few = omega arith;
           yes-few = omega arith;
           no-few = omega arith;
         }))
 
     module _ (p : ℕ) (p-is : p ≡ placeAt w at) (y : Control) where
       -- a simple command
-      pub run-simple : class ≡ simpleClass → y ≡ standAt 0 next depth 0 → r ≡ Gives (Want (wantedAt 9 p at y y)) → ShowsStep s w end at r (running items frames)
+      pub run-simple : class ≡ simpleClass → y ≡ standAt 0 next depth 0 → r ≡ Gives (Want (wantedAt Command p at y y)) → ShowsStep s w end at r (running items frames)
       unfolding ItemAt placeOf openAfter ShowsCtl pull pullAt wantOne mayBracket
       run-simple q y-is e =
           as-simple s w end at next depth depth class frames (λ l. ShowsStep s w end at r (running l frames)) q items here-is
@@ -118,26 +120,28 @@ module _ (w : List ℕ) (end at next depth class : ℕ) (reads : Reading w at cl
           let is-place : p ≡ place = p-is ∙ item-reads s w at next (simple place op) (x .item) .place (x .small) in
           let sh : ShowsCtl s w end y (running rest frames) = shows-as s w end y (standAt 0 next depth 0) (running rest frames) y-is
           (refl, runs-on s w end at next depth depth class frames (simple place op) rest x refl (omega arith)) in
-          gives s w end at (running (simple place op ∷ rest) frames) r (wantedAt 9 p at y y) place op (running rest frames) (running rest frames) refl e (record {
+          gives s w end at (running (simple place op ∷ rest) frames) r (wantedAt Command p at y y) place op (running rest frames) (running rest frames) refl e (record {
             at-place = is-place;
             asks = simply op next refl (subst (λ (z : ℕ). OpAt s w at next z op) (sym is-place) (x .item)) (omega (arith, stands-in s w end next depth rest (x .rest .stands)));
             yes-shows = sh;
             no-shows = sh;
+            few = omega arith;
             yes-few = rw y-is (omega arith);
             no-few = rw y-is (omega arith);
           }))
 
       -- AGP
       pub run-leave : class ≡ leaveKind → ((z : List ℕ) (rest : List Item) (fs : List Frame) → InFrames z w end next depth depth rest fs → ShowsCtl z w end y (leaveTo 0 rest fs)) → y .lines ≡ 0
-          → r ≡ Gives (Want (wantedAt 0 p at y y)) → ShowsStep s w end at r (running items frames)
+          → r ≡ Gives (Want (wantedAt Round p at y y)) → ShowsStep s w end at r (running items frames)
       unfolding ItemAt placeOf openAfter pull pullAt wantOne
       run-leave q left none e =
           as-leave s w end at next depth depth class frames (λ l. ShowsStep s w end at r (running l frames)) q items here-is
-          (λ place rest x. gives s w end at (running (leave place ∷ rest) frames) r (wantedAt 0 p at y y) place onlyStep (leaveTo 0 rest frames) (leaveTo 0 rest frames) refl e (record {
+          (λ place rest x. gives s w end at (running (leave place ∷ rest) frames) r (wantedAt Round p at y y) place onlyStep (leaveTo 0 rest frames) (leaveTo 0 rest frames) refl e (record {
             at-place = p-is ∙ item-reads s w at next (leave place) (x .item) .place (x .small);
             asks = a-round refl;
             yes-shows = left s rest frames (x .rest);
             no-shows = left s rest frames (x .rest);
+            few = omega arith;
             yes-few = omega (arith, none);
             no-few = omega (arith, none);
           }))

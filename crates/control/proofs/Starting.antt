@@ -17,6 +17,8 @@ use Rattle.items.proofs.OpenerWords.{opener-way, times-back, times-two}
 use Rattle.items.proofs.Keeping.{opener-kept}
 use Rattle.control.specs.Items.{countOf}
 use Rattle.control.specs.Shown.{ItemsKept, OpenedAt, InFrames, Opening, ShowsCtl, a-round, ShowsWant, ShowsNext, ShowsStep, standAt, wantedAt, testBy}
+use Rattle.control.specs.declared.Ask.{Ask}
+use Rattle.control.specs.declared.Ask.the-variants.{Round}
 use Rattle.control.specs.declared.Control.{Control}
 use Rattle.control.specs.declared.Wanted.{Wanted}
 use Rattle.control.specs.declared.Next.the-variants.{Want}
@@ -106,21 +108,22 @@ module _ (w : List ℕ) (end at next depth kind way : ℕ) (kind-is : kind ≡ k
 
     a-round-starts : (o o′ : Opener) (items : List Item) (frames : List Frame) → Opening s w end at next depth place o items frames → OpenedAt s w at next place o′ left
         → pull (running (opens place o ∷ items) frames) ≡ want place onlyStep (running items (frame false place o′ items ∷ frames)) (running items (frame false place o′ items ∷ frames))
-        → r ≡ Gives (Want (wantedAt 0 p at y y)) → ShowsStep s w′ end at r (running (opens place o ∷ items) frames)
+        → r ≡ Gives (Want (wantedAt Round p at y y)) → ShowsStep s w′ end at r (running (opens place o ∷ items) frames)
     a-round-starts o o′ items frames h opened pulls e =
         let sh = starts o o′ items frames h opened in
-        gives s w′ end at (running (opens place o ∷ items) frames) r (wantedAt 0 p at y y) place onlyStep (running items (frame false place o′ items ∷ frames))
+        gives s w′ end at (running (opens place o ∷ items) frames) r (wantedAt Round p at y y) place onlyStep (running items (frame false place o′ items ∷ frames))
         (running items (frame false place o′ items ∷ frames)) pulls e (record {
           at-place = p-is ∙ opening-place s w end at next depth place o items frames h;
           asks = a-round refl;
           yes-shows = sh;
           no-shows = sh;
+          few = omega arith;
           yes-few = rw y-is (omega arith);
           no-few = rw y-is (omega arith);
         })
 
     -- a count
-    pub start-times : (n : ℕ) → n ≡ timesAt w at → (n ≡ 0 → ⊥) → left ≡ n - 1 → way ≡ counting → r ≡ Gives (Want (wantedAt 0 p at y y))
+    pub start-times : (n : ℕ) → n ≡ timesAt w at → (n ≡ 0 → ⊥) → left ≡ n - 1 → way ≡ counting → r ≡ Gives (Want (wantedAt Round p at y y))
         → (o : Opener) (items : List Item) (frames : List Frame) → Opening s w end at next depth place o items frames → ShowsStep s w′ end at r (running (opens place o ∷ items) frames)
     unfolding OpenerAt OpenedAt wayOf pull pullAt bodyStart wantOne
     start-times n times-are some left-is few e (times zero) items frames h =
@@ -134,7 +137,7 @@ module _ (w : List ℕ) (end at next depth kind way : ℕ) (kind-is : kind ≡ k
     start-times n times-are some left-is few e (loop c) items frames h = absurd (omega (arith, few, does (loop c) items frames h))
 
     -- RPT, or a bare group
-    pub start-round : (way ≡ counting → ⊥) → (way ≡ branching → ⊥) → (way ≡ looping → ⊥) → r ≡ Gives (Want (wantedAt 0 p at y y))
+    pub start-round : (way ≡ counting → ⊥) → (way ≡ branching → ⊥) → (way ≡ looping → ⊥) → r ≡ Gives (Want (wantedAt Round p at y y))
         → (o : Opener) (items : List Item) (frames : List Frame) → Opening s w end at next depth place o items frames → ShowsStep s w′ end at r (running (opens place o ∷ items) frames)
     unfolding OpenerAt OpenedAt wayOf pull pullAt bodyStart wantOne
     start-round a b c e (times n) items frames h = absurd (a (does (times n) items frames h))
@@ -143,7 +146,7 @@ module _ (w : List ℕ) (end at next depth kind way : ℕ) (kind-is : kind ≡ k
     start-round a b c e (branch d) items frames h = absurd (b (does (branch d) items frames h))
     start-round a b c e (loop d) items frames h = absurd (c (does (loop d) items frames h))
 
-    module _ (what : ℕ) (n : Control) (e : r ≡ Gives (Want (wantedAt what p at y n))) where
+    module _ (what : Ask) (n : Control) (e : r ≡ Gives (Want (wantedAt what p at y n))) where
       -- the words of the opener, and of what is not in the body, stay
       opener-stays : (o : Opener) (items : List Item) (frames : List Frame) → Opening s w end at next depth place o items frames → OpenerAt s w′ at next place o
       opener-stays o items frames h =
@@ -182,6 +185,7 @@ module _ (w : List ℕ) (end at next depth kind way : ℕ) (kind-is : kind ≡ k
                 (opener-stays (branch c) items frames h);
             yes-shows = starts (branch c) (branch c) items frames h (h .opener);
             no-shows = shows-as s w′ end n (standAt 2 next depth 1) (failing 1 items frames) n-is (refl, refl, omega arith, rest-stays (branch c) items frames h);
+            few = omega arith;
             yes-few = rw y-is (omega arith);
             no-few = rw n-is (omega arith);
           })
@@ -202,6 +206,7 @@ module _ (w : List ℕ) (end at next depth kind way : ℕ) (kind-is : kind ≡ k
                 (opener-stays (loop c) items frames h);
             yes-shows = starts (loop c) (loop c) items frames h (h .opener);
             no-shows = shows-as s w′ end n (standAt 1 next depth 1) (skipping 1 items frames) n-is (refl, refl, omega arith, rest-stays (loop c) items frames h);
+            few = omega arith;
             yes-few = rw y-is (omega arith);
             no-few = rw n-is (omega arith);
           })

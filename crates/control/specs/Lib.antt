@@ -1,2 +1,4 @@
 pub mod Items
 pub mod Shown
+pub mod Moves
+pub mod Answers

@@ -8,13 +8,15 @@ use lib.ListN.{length, getD}
 use lib.Dec.{eqb}
 use Rattle.definitions.specs.Search.{Search}
 use Rattle.definitions.specs.Edit.{is, isNot, isEof, Op, onlyStep, test, begin, beginBack, find, findBack, findDelete}
-use Rattle.definitions.specs.Control.{Opener, times, forever, bare, branch, loop, Item, opens, close, otherwise, Frame, frame, Ctl, running, skipping, failing, leaving, seeking, leaveTo, Pull, finished, want, pull}
+use Rattle.definitions.specs.Control.{Opener, times, forever, bare, branch, loop, Item, opens, otherwise, Frame, frame, Ctl, running, skipping, failing, leaving, seeking, Pull, finished, want, pull}
 use Rattle.matching.specs.Words.{Encodes}
 use Rattle.items.specs.Kinds.{findKind, findBackKind, ifKind, unlessKind, whileKind, untilKind, seekKind}
-use Rattle.items.specs.Words.{head, OpAt, SearchAt, TimesAt, OpenerAt, ItemAt, ItemsAt}
+use Rattle.items.specs.Words.{head, kindAt, placeAt, OpAt, SearchAt, TimesAt, OpenerAt, ItemAt, ItemsAt}
 use Rattle.control.specs.Items.{countOf, startsGroup, Proper}
 use Rattle.items.specs.Depth.{deepest}
 use Rattle.items.specs.Reserve.{reserve}
+use Rattle.control.specs.declared.Ask.{Ask}
+use Rattle.control.specs.declared.Ask.the-variants.{Round, Holds, HoldsNot, AtEof, Begin, BeginBack, Find, FindBack, FindDelete, Command}
 use Rattle.control.specs.declared.Control.{Control}
 use Rattle.control.specs.declared.Wanted.{Wanted}
 use Rattle.control.specs.declared.Next.{Next}
@@ -112,18 +114,18 @@ pub record Closing (s w : List ℕ) (end at next depth : ℕ) (items : List Item
 
 -- ---- what comes next
 
-abbrev pub wantedAt : ℕ → ℕ → ℕ → Control → Control → Wanted
+abbrev pub wantedAt : Ask → ℕ → ℕ → Control → Control → Wanted
 wantedAt what place item after₁ after₀ = record { what = what; place = place; item = item; lines = 0; yes = after₁; no = after₀ }
 
 -- what an opener's test asks, what begins a search, and what tests a line in it, by the kind
-unfoldable pub testBy : ℕ → ℕ
-testBy kind = cond (eqb kind ifKind || eqb kind whileKind) 1 (cond (eqb kind unlessKind || eqb kind untilKind) 2 3)
+unfoldable pub testBy : ℕ → Ask
+testBy kind = cond (eqb kind ifKind || eqb kind whileKind) Holds (cond (eqb kind unlessKind || eqb kind untilKind) HoldsNot AtEof)
 
-unfoldable pub beginBy : ℕ → ℕ
-beginBy kind = cond (eqb kind findBackKind) 5 4
+unfoldable pub beginBy : ℕ → Ask
+beginBy kind = cond (eqb kind findBackKind) BeginBack Begin
 
-unfoldable pub lookBy : ℕ → ℕ
-lookBy kind = cond (eqb kind findKind) 6 (cond (eqb kind findBackKind) 7 8)
+unfoldable pub lookBy : ℕ → Ask
+lookBy kind = cond (eqb kind findKind) Find (cond (eqb kind findBackKind) FindBack FindDelete)
 
 -- the search of the item at k
 unfoldable pub SearchOf : List ℕ → List ℕ → ℕ → Search → Type 0
@@ -131,20 +133,21 @@ SearchOf s w k se = Encodes s w (k + 2) (getD w (k + 1) 0) se
 
 -- what is asked of the editor; the words of a simple command lie inside the work area
 pub data Asks (s w : List ℕ) (x : Wanted) : Op → Type 0 where
-  a-round : x .what ≡ 0 → Asks s w x onlyStep
-  holds : (se : Search) → x .what ≡ 1 → SearchOf s w (x .item) se → Asks s w x (test (is se))
-  holds-not : (se : Search) → x .what ≡ 2 → SearchOf s w (x .item) se → Asks s w x (test (isNot se))
-  at-eof : x .what ≡ 3 → Asks s w x (test isEof)
-  begins : x .what ≡ 4 → Asks s w x begin
-  begins-back : x .what ≡ 5 → Asks s w x beginBack
-  finds : (se : Search) → x .what ≡ 6 → SearchOf s w (x .item) se → Asks s w x (find se)
-  finds-back : (se : Search) → x .what ≡ 7 → SearchOf s w (x .item) se → Asks s w x (findBack se)
-  deletes : (se : Search) (k : ℕ) → x .what ≡ 8 → x .lines ≡ k → SearchOf s w (x .item) se → Asks s w x (findDelete se k)
-  simply : (op : Op) (m : ℕ) → x .what ≡ 9 → OpAt s w (x .item) m (x .place) op → m ≤ length w → Asks s w x op
+  a-round : x .what ≡ Round → Asks s w x onlyStep
+  holds : (se : Search) → x .what ≡ Holds → SearchOf s w (x .item) se → Asks s w x (test (is se))
+  holds-not : (se : Search) → x .what ≡ HoldsNot → SearchOf s w (x .item) se → Asks s w x (test (isNot se))
+  at-eof : x .what ≡ AtEof → Asks s w x (test isEof)
+  begins : x .what ≡ Begin → Asks s w x begin
+  begins-back : x .what ≡ BeginBack → Asks s w x beginBack
+  finds : (se : Search) → x .what ≡ Find → SearchOf s w (x .item) se → Asks s w x (find se)
+  finds-back : (se : Search) → x .what ≡ FindBack → SearchOf s w (x .item) se → Asks s w x (findBack se)
+  deletes : (se : Search) (k : ℕ) → x .what ≡ FindDelete → x .lines ≡ k → SearchOf s w (x .item) se → Asks s w x (findDelete se k)
+  simply : (op : Op) (m : ℕ) → x .what ≡ Command → OpAt s w (x .item) m (x .place) op → m ≤ length w → Asks s w x op
 
 -- a step that is wanted: its place, its operation, and how to go on; no search has passed more than n lines then
 pub record ShowsWant (s w : List ℕ) (end n : ℕ) (x : Wanted) (place : ℕ) (op : Op) (c₁ c₀ : Ctl) : Type 0 where
   pub at-place : x .place ≡ place
+  pub few : x .lines ≤ n
   pub asks : Asks s w x op
   pub yes-shows : ShowsCtl s w end (x .yes) c₁
   pub no-shows : ShowsCtl s w end (x .no) c₀
@@ -169,45 +172,6 @@ unfoldable pub ShowsStep : List ℕ → List ℕ → ℕ → ℕ → Step → Ct
 ShowsStep s w end at (On c) from = Onward s w end at c from
 ShowsStep s w end at (Gives r) from = ShowsNext s w end 0 r (pull from)
 
--- ---- what the functions are handed, and what they answer; the words w become w′
-
--- the run stands at an opener, at a close
-abbrev pub AtOpener : List ℕ → ℕ → ℕ → ℕ → ℕ → Type 0
-AtOpener w end at next depth = (s : List ℕ) × (place : ℕ) × (o : Opener) × (items : List Item) × (frames : List Frame) × Opening s w end at next depth place o items frames
-
-abbrev pub AtClose : List ℕ → ℕ → ℕ → ℕ → Type 0
-AtClose w end next depth =
-    (s : List ℕ) × (at : ℕ) × (items : List Item) × (g : Bool) × (place : ℕ) × (o : Opener) × (body : List Item) × (frames : List Frame) × Closing s w end at next depth items g place o body frames
-
-abbrev pub StartsBody : List ℕ → List ℕ → ℕ → ℕ → ℕ → ℕ → Step → Type 0
-StartsBody w w′ end at next depth r =
-    ItemsKept w w′ end × ((s : List ℕ) (place : ℕ) (o : Opener) (items : List Item) (frames : List Frame) → Opening s w end at next depth place o items frames
-    → ShowsStep s w′ end at r (running (opens place o ∷ items) frames))
-
-abbrev pub EndsBody : List ℕ → List ℕ → ℕ → ℕ → ℕ → Step → Type 0
-EndsBody w w′ end next depth r =
-    ItemsKept w w′ end × ((s : List ℕ) (at : ℕ) (items : List Item) (g : Bool) (place : ℕ) (o : Opener) (body : List Item) (frames : List Frame)
-    → Closing s w end at next depth items g place o body frames → ShowsStep s w′ end at r (running (close ∷ items) (frame g place o body ∷ frames)))
-
--- AGP at the item before `next` leads to r
-abbrev pub LeadsOut : List ℕ → ℕ → ℕ → ℕ → Control → Type 0
-LeadsOut w end next depth r =
-    ((s : List ℕ) (items : List Item) (frames : List Frame) → InFrames s w end next depth depth items frames → ShowsCtl s w end r (leaveTo 0 items frames)) × (r .lines ≡ 0)
-
--- an item is passed, to a close, or to an ELSE or a close
-abbrev pub SkipsItem : List ℕ → ℕ → ℕ → ℕ → Control → Type 0
-SkipsItem w at depth count r =
-    (s : List ℕ) (end : ℕ) (items : List Item) (frames : List Frame) → InFrames s w end at depth (depth + count) items frames → at < end → Onward s w end at r (skipping count items frames)
-
-abbrev pub FailsItem : List ℕ → List ℕ → ℕ → ℕ → ℕ → ℕ → Control → Type 0
-FailsItem w w′ end at depth count r =
-    ItemsKept w w′ end × ((s : List ℕ) (items : List Item) (frames : List Frame) → InFrames s w end at depth (depth + count) items frames → Onward s w′ end at r (failing count items frames))
-
--- an item is run
-abbrev pub RunsItem : List ℕ → List ℕ → ℕ → ℕ → ℕ → Step → Type 0
-RunsItem w w′ end at depth r =
-    ItemsKept w w′ end × ((s : List ℕ) (items : List Item) (frames : List Frame) → Runs s w end at depth items frames → ShowsStep s w′ end at r (running items frames))
-
--- what comes next from c
-abbrev pub PullsFrom : List ℕ → List ℕ → ℕ → Control → Next → Type 0
-PullsFrom w w′ end c r = ItemsKept w w′ end × ((s : List ℕ) (from : Ctl) → ShowsCtl s w end c from → ShowsNext s w′ end (c .lines + 1) r (pull from))
+-- the step that begins the search at `at`
+abbrev pub beginAt : List ℕ → ℕ → ℕ → ℕ → Step
+beginAt w at next depth = let on = seekAt at next depth 0 in Gives (Want (wantedAt (beginBy (kindAt w at)) (placeAt w at) at on on))

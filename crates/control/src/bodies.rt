@@ -6,14 +6,12 @@ ghost use mathlib.Core.List.{List};
 ghost use Prim.Native.Nat.{ℕ, _+_, _*_, _<_};
 ghost use lib.ListN.{length, set};
 ghost use Rattle.definitions.specs.Control.{Opener, Item, Frame};
-ghost use Rattle.control.specs.Shown.{FrameAt, InFrames, testBy, AtOpener, AtClose, StartsBody, EndsBody, LeadsOut};
-use super::AT_EOF;
+ghost use Rattle.control.specs.Shown.{FrameAt, InFrames, testBy};
+ghost use Rattle.control.specs.Answers.{AtOpener, AtClose, SaysGroup, StartsBody, EndsBody, LeadsOut};
+use super::Ask;
 use super::Control;
 use super::FAILING;
-use super::HOLDS;
-use super::HOLDS_NOT;
 use super::LEAVING;
-use super::ROUND;
 use super::RUNNING;
 use super::SKIPPING;
 use super::Step;
@@ -43,22 +41,22 @@ pub fn push(w: &mut [u32], end: usize, depth: usize, item: usize, left: u32)
 }
 
 // What the test of an opener of this kind asks.
-fn test_of(kind: u32) -> u32
+fn test_of(kind: u32) -> Ask
     ensures { λ r. ⌜ r ≡ testBy kind ⌝ }
 {
     match kind {
-        IF => HOLDS,
-        WHILE => HOLDS,
-        UNLESS => HOLDS_NOT,
-        UNTIL => HOLDS_NOT,
-        _ => AT_EOF,
+        IF => Ask::Holds,
+        WHILE => Ask::Holds,
+        UNLESS => Ask::HoldsNot,
+        UNTIL => Ask::HoldsNot,
+        _ => Ask::AtEof,
     }
 }
 
 // Is the body of the word at j a group?
 fn is_group(w: &[u32], end: usize, j: usize) -> bool
     requires { ⌜ ((s : List ℕ) × (d : ℕ) × (g : Bool) × (place : ℕ) × (o : Opener) × (body : List Item) × FrameAt s (now w) end j d g place o body) × (j < length (now w)) ⌝ }
-    ensures { λ r. ⌜ ((s : List ℕ) (d : ℕ) (g : Bool) (place : ℕ) (o : Opener) (body : List Item) → FrameAt s (now (w .entry)) end j d g place o body → r ≡ g) ⌝ }
+    ensures { λ r. ⌜ SaysGroup (now (w .entry)) end j r ⌝ }
 {
     let item = (w[j] % 65536) as usize;
     let start = end_of(w, item, kind_of(w, item));
@@ -99,7 +97,7 @@ pub fn start_body(w: &mut [u32], end: usize, at: usize, next: usize, depth: usiz
             return Step::On(stand(SKIPPING, next, depth, 1));
         }
         push(w, end, depth, at, n - 1);
-        return wants(ROUND, place, at, yes, yes);
+        return wants(Ask::Round, place, at, yes, yes);
     }
     push(w, end, depth, at, 0);
     if way == BRANCHING {
@@ -110,7 +108,7 @@ pub fn start_body(w: &mut [u32], end: usize, at: usize, next: usize, depth: usiz
         let no = stand(SKIPPING, next, depth, 1);
         return wants(test_of(kind), place, at, yes, no);
     }
-    wants(ROUND, place, at, yes, yes)
+    wants(Ask::Round, place, at, yes, yes)
 }
 
 // At the close of the innermost of `depth` bodies; `next` is after it.
@@ -133,10 +131,10 @@ pub fn end_body(w: &mut [u32], end: usize, next: usize, depth: usize) -> Step
             return Step::On(out);
         }
         w[j] = word - 65536;
-        return wants(ROUND, place, item, again, again);
+        return wants(Ask::Round, place, item, again, again);
     }
     if way == REPEATING {
-        return wants(ROUND, place, item, again, again);
+        return wants(Ask::Round, place, item, again, again);
     }
     if way == LOOPING {
         return wants(test_of(kind), place, item, again, out);

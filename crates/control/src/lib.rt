@@ -6,9 +6,9 @@ ghost use mathlib.Core.Bool.{cond};
 ghost use mathlib.Core.List.{List};
 ghost use Prim.Native.Nat.{ℕ, _+_, _<_, _≤_};
 ghost use lib.ListN.{length};
-ghost use Rattle.definitions.specs.Control.{Item, Frame, Ctl, leaving, pull as «pull-of»};
-ghost use Rattle.items.specs.Words.{kindAt, placeAt};
-ghost use Rattle.control.specs.Shown.{ItemsKept, ItemsFrom, InFrames, Runs, ShowsCtl, ShowsNext, ShowsStep, Onward, standAt, seekAt, wantedAt, beginBy, lookBy, SkipsItem, FailsItem, RunsItem, PullsFrom};
+ghost use Rattle.definitions.specs.Control.{Item, Frame, Ctl};
+ghost use Rattle.control.specs.Shown.{ItemsFrom, InFrames, Runs, ShowsCtl, standAt, wantedAt, lookBy, beginAt};
+ghost use Rattle.control.specs.Answers.{SkipsItem, FailsItem, PassesItem, RunsItem, StepsFrom, LooksFrom, PullsFrom};
 use bodies::end_body;
 use bodies::leave_to;
 use bodies::push;
@@ -48,32 +48,29 @@ pub struct Control {
     pub lines: usize,
 }
 
-// What a step asks: a round, or AGP; the test of IF or WH, of UL or UT, of IFEOF; to begin a search, F or DF and BF; the test of a line for F, BF and
-// DF; a simple command.
-pub const ROUND: u32 = 0;
-
-pub const HOLDS: u32 = 1;
-
-pub const HOLDS_NOT: u32 = 2;
-
-pub const AT_EOF: u32 = 3;
-
-pub const BEGIN: u32 = 4;
-
-pub const BEGIN_BACK: u32 = 5;
-
-pub const FIND: u32 = 6;
-
-pub const FIND_BACK: u32 = 7;
-
-pub const FIND_DELETE: u32 = 8;
-
-pub const COMMAND: u32 = 9;
+// What a step asks of the editor.
+pub enum Ask {
+    // Nothing: a round, or AGP.
+    Round,
+    // The test of IF or WH, of UL or UT, of IFEOF.
+    Holds,
+    HoldsNot,
+    AtEof,
+    // To begin a search: F or DF, BF.
+    Begin,
+    BeginBack,
+    // The test of a line: F, BF, DF.
+    Find,
+    FindBack,
+    FindDelete,
+    // A simple command.
+    Command,
+}
 
 // A step that is wanted: what it asks, its place in the script, the index of its item, the lines that DF has passed, and how the run goes on
 // after the answer true and after the answer false.
 pub struct Wanted {
-    pub what: u32,
+    pub what: Ask,
     pub place: usize,
     pub item: usize,
     pub lines: usize,
@@ -107,7 +104,7 @@ fn stand(mode: u32, at: usize, depth: usize, count: usize) -> Control
 }
 
 // A step is wanted.
-fn wants(what: u32, place: usize, item: usize, yes: Control, no: Control) -> Step
+fn wants(what: Ask, place: usize, item: usize, yes: Control, no: Control) -> Step
     ensures { λ r. ⌜ r ≡ Step.Gives (Next.Want (wantedAt what place item yes no)) ⌝ }
 {
     Step::Gives(Next::Want(Wanted {
@@ -170,7 +167,7 @@ fn else_item(w: &mut [u32], end: usize, at: usize, depth: usize, count: usize) -
 // Passes the item at `at`, to go on after the next line end.
 fn line_item(w: &[u32], at: usize) -> Control
     requires { ⌜ ((s : List ℕ) × (end : ℕ) × (d : ℕ) × (items : List Item) × ItemsFrom s (now w) end at d items × (at < end)) ⌝ }
-    ensures { λ r. ⌜ ((s : List ℕ) (end : ℕ) (d : ℕ) (items : List Item) → ItemsFrom s (now (w .entry)) end at d items → at < end → Onward s (now (w .entry)) end at r (leaving items)) ⌝ }
+    ensures { λ r. ⌜ PassesItem (now (w .entry)) at r ⌝ }
 {
     let seen = here(w, at);
     let class = seen.class;
@@ -184,7 +181,7 @@ fn line_item(w: &[u32], at: usize) -> Control
 // The step that begins the search at `at`.
 fn begin_search(w: &[u32], at: usize, next: usize, depth: usize) -> Step
     requires { ⌜ at < length (now w) ⌝ }
-    ensures { λ r. ⌜ r ≡ Step.Gives (Next.Want (wantedAt (beginBy (kindAt (now (w .entry)) at)) (placeAt (now (w .entry)) at) at (seekAt at next depth 0) (seekAt at next depth 0))) ⌝ }
+    ensures { λ r. ⌜ r ≡ beginAt (now (w .entry)) at next depth ⌝ }
 {
     let on = Control {
         mode: SEEKING,
@@ -196,9 +193,9 @@ fn begin_search(w: &[u32], at: usize, next: usize, depth: usize) -> Step
     };
     let place = place_of(w, at);
     if kind_of(w, at) == kinds::FIND_BACK {
-        return wants(BEGIN_BACK, place, at, on, on);
+        return wants(Ask::BeginBack, place, at, on, on);
     }
-    wants(BEGIN, place, at, on, on)
+    wants(Ask::Begin, place, at, on, on)
 }
 
 // Runs the item at `at`.
@@ -217,11 +214,11 @@ fn run_item(w: &mut [u32], end: usize, at: usize, depth: usize) -> Step
     }
     if class == SIMPLE {
         let on = stand(RUNNING, next, depth, 0);
-        return wants(COMMAND, place_of(w, at), at, on, on);
+        return wants(Ask::Command, place_of(w, at), at, on, on);
     }
     if class == AGP {
         let on = leave_to(w, end, next, depth);
-        return wants(ROUND, place_of(w, at), at, on, on);
+        return wants(Ask::Round, place_of(w, at), at, on, on);
     }
     if class == LINE_END {
         return Step::On(stand(RUNNING, next, depth, 0));
@@ -241,7 +238,7 @@ fn run_item(w: &mut [u32], end: usize, at: usize, depth: usize) -> Step
 // One item, by how the run stands.
 fn item_step(w: &mut [u32], end: usize, c: Control) -> Step
     requires { ⌜ ((s : List ℕ) × (from : Ctl) × ShowsCtl s (now w) end c from) × (c .mode < 4) × (c .at < end) ⌝ }
-    ensures { λ r. ⌜ ItemsKept (now (w .entry)) (now (w .exit)) end × ((s : List ℕ) (from : Ctl) → ShowsCtl s (now (w .entry)) end c from → ShowsStep s (now (w .exit)) end (c .at) r from) ⌝ }
+    ensures { λ r. ⌜ StepsFrom (now (w .entry)) (now (w .exit)) end c r ⌝ }
 {
     let mode = c.mode;
     if mode == RUNNING {
@@ -257,20 +254,20 @@ fn item_step(w: &mut [u32], end: usize, c: Control) -> Step
 }
 
 // What tests a line in a search of this kind.
-fn look_of(kind: u32) -> u32
+fn look_of(kind: u32) -> Ask
     ensures { λ r. ⌜ r ≡ lookBy kind ⌝ }
 {
     match kind {
-        kinds::FIND => FIND,
-        kinds::FIND_BACK => FIND_BACK,
-        _ => FIND_DELETE,
+        kinds::FIND => Ask::Find,
+        kinds::FIND_BACK => Ask::FindBack,
+        _ => Ask::FindDelete,
     }
 }
 
 // The test of a line in a search; `lines` lines have been passed.
 fn look(w: &[u32], c: Control) -> Next
     requires { ⌜ ((s : List ℕ) × (end : ℕ) × (from : Ctl) × ShowsCtl s (now w) end c from) × (c .mode ≡ 4) × (c .lines < 18446744073709551615) ⌝ }
-    ensures { λ r. ⌜ ((s : List ℕ) (end : ℕ) (from : Ctl) → ShowsCtl s (now (w .entry)) end c from → ShowsNext s (now (w .entry)) end (c .lines + 1) r («pull-of» from)) ⌝ }
+    ensures { λ r. ⌜ LooksFrom (now (w .entry)) c r ⌝ }
 {
     let item = c.item;
     let lines = c.lines;

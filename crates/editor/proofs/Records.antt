@@ -9,12 +9,12 @@ use mathlib.Core.List.{List, [], _∷_, _++_, map, reverseAux, append-assoc, app
 use lib.ListN.{length, length-append}
 use lib.Seq.{getD-at}
 use lib.Dec.{leb}
-use borrow.Author.Tests.{leb-true}
+use borrow.Author.Tests.{leb-true, eq-eqb, ne-eqb}
 use Rattle.definitions.specs.Bytes.{Line, lineBytes, linesBytes, isText, allText, isLine}
 use Rattle.definitions.specs.Journal.{Record, kept, changed, deleted, inserted, oldOf, oldSide, recordLength, journalLength}
 use Rattle.definitions.specs.Editor.{sources}
 use Rattle.theorems.specs.RecordLaws.{old-kept}
-use Rattle.text.specs.Feeds.{lineLength, lineStart}
+use Rattle.text.specs.Feeds.{placeOf, lineLength, lineStart}
 use Rattle.text.proofs.Ends.{text-is}
 use Rattle.editor.specs.Records.{body, enc, encAll, encBefore, mark, Good, Goods, oldBytes}
 use Rattle.editor.proofs.Lines.{NoLF, noLF-append, line-of, back-over}
@@ -64,6 +64,12 @@ body-no (inserted l) g = ((λ e. omega arith), ((λ e. omega arith), line-no l g
 
 pub record-line : (r : Record) (z : List ℕ) → Good r → lineLength (enc r ++ z) ≡ length (enc r)
 record-line r z g = rw (append-assoc (body r) (10 ∷ []) z, line-of (body r) z (body-no r g), length-append) (omega arith)
+
+-- the place of a byte below those of text, after text
+pub text-place : (c : ℕ) → c < 32 → (l z : List ℕ) → Text l → placeOf c (l ++ (c ∷ z)) ≡ length l
+unfolding Text placeOf
+text-place c low [] z t = rw (eq-eqb c c refl)
+text-place c low (x ∷ l) z t = rw (ne-eqb x c (λ e. omega (arith, t .0)), text-place c low l z (t .2))
 
 -- ---- marks
 

@@ -8,8 +8,7 @@ use lib.Seq.{getD-drop}
 use Rattle.definitions.specs.Journal.{Record, kept, changed, deleted, inserted}
 use Rattle.text.specs.Feeds.{placeOf}
 use Rattle.editor.specs.Records.{enc, mark, Good, oldBytes, zeroPlace}
-use Rattle.editor.proofs.Records.{marked, three-bytes, old-bytes-one, line-text}
-use Rattle.editor.proofs.Striking.{zero-of}
+use Rattle.editor.proofs.Records.{text-place, marked, three-bytes, old-bytes-one, line-text}
 
 module _ (j : List ℕ) (at : ℕ) where
   -- the record's bytes are in the buffer
@@ -27,7 +26,7 @@ module _ (j : List ℕ) (at : ℕ) where
   zero-place o n z good is =
       let R : List ℕ = n ++ ((10 ∷ []) ++ z) in
       let q : drop at j ≡ 60 ∷ 62 ∷ (o ++ (0 ∷ R)) = is ∙ simp append-assoc in
-      rw (q, zero-of o R (line-text o (good .0))) (omega arith)
+      rw (q, text-place 0 (omega arith) o R (line-text o (good .0))) (omega arith)
 
   pub size-inserted : getD j at 0 ≡ 43 → (n : ℕ) (r : Record) (z : List ℕ) → Good r → drop at j ≡ enc r ++ z → n ≡ length (enc r) → 0 ≡ oldBytes (r ∷ [])
   size-inserted m n (kept l) z good is long = absurd (omega (arith, first-byte (kept l) z is))

@@ -5,7 +5,6 @@ use native.Mathlib.Omega.{arith}
 use mathlib.Core.List.{List, [], _∷_, _++_, append-assoc}
 use lib.ListN.{length, drop, getD, set, length-append, length-replicate, replicate-append-replicate}
 use lib.Seq.{set-at, drop-at}
-use borrow.Author.Tests.{ne-eqb}
 use Rattle.gap.specs.Gap.{zeros, cleared}
 use Rattle.gap.proofs.Laws.{clear-parts}
 use Rattle.definitions.specs.Journal.{Record, kept, changed, deleted, inserted, erase}
@@ -13,15 +12,8 @@ use Rattle.text.specs.Feeds.{placeOf}
 use Rattle.editor.specs.Records.{enc, encAll, encBefore, mark, zeroPlace}
 use Rattle.editor.specs.Shows.{Holds, HoldsCut}
 use Rattle.editor.specs.declared.State.{State}
-use Rattle.editor.proofs.Records.{Text, line-text, sources-cons, old-bytes-cons, three-bytes}
+use Rattle.editor.proofs.Records.{text-place, line-text, sources-cons, old-bytes-cons, three-bytes}
 use Rattle.editor.proofs.Held.{held-near-mark, held-less, held-length}
-
--- ---- the place of a 0
-
-pub zero-of : (l z : List ℕ) → Text l → zeroPlace (l ++ (0 ∷ z)) ≡ length l
-unfolding Text placeOf
-zero-of [] z t = refl
-zero-of (x ∷ l) z t = rw (ne-eqb x 0 (λ e. omega (arith, t .0)), zero-of l z (t .2))
 
 -- ---- the new text of a changed line goes
 
@@ -40,7 +32,7 @@ module _ {j : List ℕ} {st : State} {f : ℕ} {o n : List ℕ} {b a : List Reco
   unfolding placeOf
   cut-place =
       let q : drop f j ≡ 45 ∷ 45 ∷ (o ++ (0 ∷ after)) = rw (cut-bytes, append-assoc (encBefore b) (45 ∷ 45 ∷ o) (0 ∷ after)) (drop-at (encBefore b) (45 ∷ 45 ∷ (o ++ (0 ∷ after))) f (h .start)) in
-      rw (q, zero-of o after (line-text o (h .record-good .0))) (omega arith)
+      rw (q, text-place 0 (omega arith) o after (line-text o (h .record-good .0))) (omega arith)
 
   pub cut-length : st .back ≤ length j
   cut-length = ap-length (ap length cut-bytes)

@@ -1,30 +1,23 @@
--- The text of the current line, and its copy. Assumes nothing.
+-- Where the text of the current line stands in the journal. Assumes nothing.
 use mathlib.Core.Path.{_≡_, refl, sym, ap, _∙_}
 use mathlib.Core.Bool.{true}
 use Prim.Native.Nat.{ℕ, suc, _+_, _-_, _≤_, _<_}
 use native.Mathlib.Omega.{arith}
 use mathlib.Core.List.{List, [], _∷_, _++_, map, append-assoc}
-use lib.ListN.{length, take, drop, getD, set, length-append, length-drop}
-use lib.Seq.{paste, take-at, drop-drop, drop-at, drop-set-lt, length-take-le}
+use lib.ListN.{length, take, drop, getD, length-append, length-drop}
+use lib.Seq.{take-at, drop-drop, drop-at, length-take-le}
 use Rattle.definitions.specs.Bytes.{Line, isLine}
 use Rattle.definitions.specs.Journal.{Record, kept, changed, deleted, inserted}
 use Rattle.definitions.specs.Tape.{Tape, restLines}
-use Rattle.definitions.specs.Given.{Carried}
-use Rattle.definitions.specs.Editor.{Ed, ed, beforeOf, afterOf, current, n20, stopNumber, putBefore, put}
-use Rattle.definitions.specs.StepProgram.{gives, state, changes, perform}
-use Rattle.definitions.specs.Edit.{Op, program, step}
+use Rattle.definitions.specs.Editor.{Ed, ed, beforeOf, afterOf, current}
 use Rattle.text.specs.Feeds.{lineLength}
 use Rattle.editor.specs.Records.{enc, encAll, Good, zeroPlace}
-use Rattle.editor.specs.Shows.{Holds, Shows, TextAt, lent, Answered, Puts}
+use Rattle.editor.specs.Shows.{Holds, Shows, TextAt}
 use Rattle.editor.specs.Current.{currentLine}
 use Rattle.editor.specs.declared.State.{State}
-use Rattle.editor.specs.declared.Moved.the-variants.{On, Stop}
-use Rattle.editor.proofs.Records.{line-short}
 use Rattle.editor.proofs.Held.{held-drop, held-record, held-mark, held-more}
-use Rattle.editor.proofs.Parts.{shown-record, perform-line, perform-no-line}
+use Rattle.editor.proofs.Parts.{shown-record}
 use Rattle.editor.proofs.Sizes.{zero-place}
-use Rattle.editor.proofs.Inserting.{put-holds}
-use Rattle.editor.proofs.Changing.{one-length, put-on, put-full}
 
 -- ---- where it stands
 
@@ -107,8 +100,6 @@ text-here {j} {st} {from} {n} (ed b (r ∷ a) p) t h more texts =
     let x : TextAt j (st .back) from n r = texts b r (a ++ map kept (restLines t)) (h .holds) in
     record { text = x .text; within = x .within }
 
--- ---- its copy
-
 pub current-good : (r : Record) → Good r → isLine (current r) ≡ true
 unfolding current
 current-good (kept l) g = g
@@ -119,44 +110,3 @@ current-good (inserted l) g = g
 -- the text's length
 pub text-size : {j : List ℕ} {b from n : ℕ} {r : Record} → TextAt j b from n r → length (current r) ≡ n
 text-size {j} {b} {from} {n} x = ap length (sym (x .text)) ∙ length-take-le n (drop from j) (simp length-drop (omega (arith, x .within)))
-
--- IC at EOF
-pub copy-eof : {j : List ℕ} {st : State} (c : Carried) (e : Ed) (t : Tape) → Shows j st e t → length j ≤ st .back → Answered j (Stop 20 st) (step (lent j) Op.copy (state e c) t)
-unfolding step program stopNumber
-copy-eof {j} c e t h end = perform-no-line (lent j) c n20 (λ x. gives (changes (put (x .0 ∷ []) ∷ []))) e t h 20 refl end
-
--- and elsewhere: it is the insertion of the current line's text
-module _ {j : List ℕ} {st : State} (from n : ℕ) (c : Carried) (e : Ed) (t : Tape) (h : Shows j st e t) (more : st .back < length j)
-    (texts : (b : List Record) (x : Record) (a : List Record) → Holds j st b (x ∷ a) → TextAt j (st .back) from n x) where
-  copy-step : step (lent j) Op.copy (state e c) t ≡ perform (lent j) (gives (changes (put (currentLine e ∷ []) ∷ []))) (state e c) t
-  unfolding step program
-  copy-step = perform-line (lent j) c n20 (λ x. gives (changes (put (x .0 ∷ []) ∷ []))) e t h more
-
-  copied : take n (drop from j) ≡ currentLine e
-  copied = text-here e t h more texts .text
-
-  copied-long : length (currentLine e) ≡ n
-  copied-long = ap length (sym copied) ∙ length-take-le n (drop from j) (simp length-drop (omega (arith, text-here e t h more texts .within)))
-
-  pub copy-full : st .back - st .front < n + 3 → Answered j (Stop 26 st) (step (lent j) Op.copy (state e c) t)
-  copy-full full = rw copy-step (put-full c (currentLine e ∷ []) e t h (omega (arith, one-length (currentLine e), copied-long)))
-
-  pub copy-on : {k : List ℕ} {s : State} → length k ≡ length j → Puts (take n (drop from j) ∷ []) j st k s → Answered k (On s) (step (lent j) Op.copy (state e c) t)
-  copy-on q puts = rw copy-step (put-on c (currentLine e ∷ []) e t h q (rw copied at puts))
-
--- what `put_copy` makes of a buffer
-pub put-copy-holds : (j k : List ℕ) (st s : State) (from n : ℕ) → st .back ≤ from → from + n ≤ length j → isLine (take n (drop from j)) ≡ true → st .front + (n + 3) ≤ st .back
-    → k ≡ set (paste (set (set j (st .front) 43) (st .front + 1) 43) (st .front + 2) (drop from (set (set j (st .front) 43) (st .front + 1) 43)) n) (st .front + 2 + n) 10
-    → s .front ≡ st .front + 2 + n + 1 → s .back ≡ st .back → s .past ≡ st .past → s .lines ≡ st .lines → s .source ≡ st .source → s .size ≡ st .size
-    → (b a : List Record) → Holds j st b a → Holds k s (putBefore (take n (drop from j) ∷ []) b) a
-put-copy-holds j k st s from n far fits good room is f e c l o z =
-    let f₀ : ℕ = st .front in
-    let same : drop from (set (set j f₀ 43) (f₀ + 1) 43) ≡ drop from j = drop-set-lt from (set j f₀ 43) (f₀ + 1) 43 (omega arith) ∙ drop-set-lt from j f₀ 43 (omega arith) in
-    let is₂ : k ≡ set (paste (set (set j f₀ 43) (f₀ + 1) 43) (f₀ + 2) (drop from j) n) (f₀ + 2 + n) 10 = rw same at is in
-    put-holds j k st s (drop from j) n (simp length-drop (omega arith)) good room is₂ f e c l o z
-
-pub copied-good : {j : List ℕ} {b from n : ℕ} {r : Record} → Good r → TextAt j b from n r → isLine (take n (drop from j)) ≡ true
-copied-good {r = r} g x = rw (x .text) (current-good r g)
-
-pub copied-short : {j : List ℕ} {b from n : ℕ} {r : Record} → Good r → TextAt j b from n r → n ≤ 255
-copied-short {r = r} g x = omega (arith, text-size x, line-short (current r) (current-good r g))

@@ -10,6 +10,7 @@ ghost use Rattle.definitions.specs.Journal.{Record};
 ghost use Rattle.definitions.specs.Edit.{Op};
 ghost use Rattle.editor.specs.Records.{encBefore, LineIn};
 ghost use Rattle.editor.specs.Shows.{Holds, HoldsCut, ShowsText, Performs, Puts, Strikes, Cuts};
+ghost use Rattle.editor.specs.Current.{ShownOf, PerformsOf};
 
 // The n bytes of s from `from` on become an inserted record before the current one. There is room for it.
 pub fn put_line(j: &mut [u8], st: State, s: &[u8], from: usize, n: usize) -> State
@@ -77,38 +78,17 @@ pub fn strike_record(j: &mut [u8], st: State, f: usize) -> State
     st
 }
 
-// The n bytes from `from` on, which stand behind the gap, become an inserted record before the current one. There is room for it.
-pub fn put_copy(j: &mut [u8], st: State, from: usize, n: usize) -> State
-    requires { ⌜ ((b : List Record) × (a : List Record) × Holds (now j) st b a) × (st .back ≤ from) × LineIn (now j) from n × (st .front + (n + 3) ≤ st .back) ⌝ }
-    ensures { λ r. ⌜ Puts (take n (drop from (now (j .entry))) ∷ []) (now (j .entry)) st (now (j .exit)) r ⌝ }
-{
-    let f = st.front;
-    j[f] = 43;
-    j[f + 1] = 43;
-    let at = f + 2;
-    text::copies::copy_down(j, at, from, n);
-    let end = at + n;
-    j[end] = 10;
-    let mut r = st;
-    r.front = end + 1;
-    r
-}
-
 // IC: a copy of the current line is inserted before it.
-pub fn copy_line(j: &mut [u8], st: State) -> Moved
-    requires { ⌜ ShowsText (now j) st ⌝ }
-    ensures { λ r. ⌜ Performs (now (j .entry)) st Op.copy (now (j .exit)) r ⌝ }
+pub fn copy_line(table: &[u8], j: &mut [u8], st: State) -> Moved
+    requires { ⌜ ShownOf (now table) (now j) st ⌝ }
+    ensures { λ r. ⌜ PerformsOf (now (table .entry)) (now (j .entry)) st Op.copy (now (j .exit)) r ⌝ }
 {
     let at = st.back;
     if at >= j.len() {
         return Moved::Stop(20, st);
     }
-    let x = crate::walk::line_text(j, st);
-    let from = x.from;
-    let n = x.n;
-    let room = at - st.front;
-    if room < n + 3 {
-        return Moved::Stop(26, st);
-    }
-    Moved::On(put_copy(j, st, from, n))
+    // The text may be a part of the journal, which is written.
+    let mut line = [0u8; 256];
+    let n = crate::current::copy_current(&mut line, table, j, st);
+    insert_line(j, st, &line, 0, n)
 }

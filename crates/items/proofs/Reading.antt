@@ -15,7 +15,8 @@ use Rattle.matching.proofs.Reading.{one-reads}
 use Rattle.matching.proofs.Running.{forward as ahead}
 use Rattle.items.specs.Kinds.{wordShape, pairShape, fourShape, stringShape, changeShape, searchShape, testShape, openerShape, longOpenerShape, shapeOf, lineEndKind, bracketKind, closeKind, elseKind, leaveKind, quitKind, nextKind, previousKind, copyKind, pointStartKind, rightKind, leftKind, cutByteKind, moveKind, deleteKind, insertStringKind, replaceKind, insertLinesKind, ifKind, unlessKind, whileKind, untilKind, countKind, repeatKind, bareKind, ifEofKind, longCountKind, caseKind, pointKind, changeKind, seekKind}
 use Rattle.items.specs.Words.{head, headWith, kindAt, placeAt, endBit, OpAt, SearchAt, TimesAt, OpenerAt, ItemAt, ItemsAt}
-use Rattle.items.specs.Ends.{classOf, classIn, classBy, placeOf, isOneWord, endIn, endBy}
+use Rattle.items.specs.Ends.{classOf, classIn, classBy, placeOf, isOneWord, endIn, endBy, seenAt}
+use Rattle.items.specs.declared.ends.Seen.{Seen}
 use Rattle.items.proofs.FirstWords.{head-kind, head-place}
 
 -- what the words from k on say of the item, which ends at m
@@ -205,7 +206,12 @@ module _ (w : List ℕ) (k kind : ℕ) (kind-is : kind ≡ kindAt w k) where
       let r = item-reads s w k m i h in
       (omega (arith, r .further, room), λ more. omega (arith, r .long (ap (λ (x : ℕ). isOneWord (shapeOf x)) (sym kind-is) ∙ more), room))
 
-  pub seen-as : (class : ℕ) → class ≡ classBy kind → (after : ℕ) → after ≡ endBy w k kind → (s : List ℕ) (m : ℕ) (i : Item) → ItemAt s w k m i → (class ≡ classOf i) × (after ≡ m)
-  seen-as class is-class after is-after s m i h =
-      let r = item-reads s w k m i h in
-      (is-class ∙ ap classBy kind-is ∙ r .class, is-after ∙ ap (endBy w k) kind-is ∙ r .ends)
+  -- by its class and its end
+  pub seen-is : (class : ℕ) → class ≡ classBy kind → (after : ℕ) → after ≡ endBy w k kind → record { class = class; next = after } ≡ seenAt w k
+  seen-is class is-class after is-after = rw (is-class, is-after, kind-is)
+
+-- what it is and where it ends, as an item
+pub seen-as : (w : List ℕ) (k : ℕ) (r : Seen) → r ≡ seenAt w k → (s : List ℕ) (m : ℕ) (i : Item) → ItemAt s w k m i → (r .class ≡ classOf i) × (r .next ≡ m)
+seen-as w k r same s m i h =
+    let x = item-reads s w k m i h in
+    (ap (λ (z : Seen). z .class) same ∙ x .class, ap (λ (z : Seen). z .next) same ∙ x .ends)

@@ -8,6 +8,7 @@ use Rattle.definitions.specs.Control.{Opener, times, forever, bare, branch, loo
 use Rattle.matching.specs.Words.{endAt}
 use Rattle.items.specs.Kinds.{markShape, wordShape, pairShape, fourShape, stringShape, changeShape, searchShape, testShape, openerShape, longOpenerShape, shapeOf, lineEndKind, bracketKind, closeKind, elseKind, leaveKind, countKind, longCountKind, repeatKind, ifKind, unlessKind, ifEofKind, whileKind, untilKind}
 use Rattle.items.specs.Words.{kindAt, numberAt}
+use Rattle.items.specs.declared.ends.Seen.{Seen}
 
 -- ---- what an item is: the kind of a mark, or one of three
 
@@ -68,6 +69,10 @@ endIn w k shape =
 -- by its kind
 abbrev pub endBy : List ℕ → ℕ → ℕ → ℕ
 endBy w k kind = endIn w k (shapeOf kind)
+
+-- what the item at k is, and where it ends
+abbrev pub seenAt : List ℕ → ℕ → Seen
+seenAt w k = record { class = classBy (kindAt w k); next = endBy w k (kindAt w k) }
 
 -- ---- what the body of an opener does: a count of rounds, on and on, once, once if a test holds, while a test holds
 

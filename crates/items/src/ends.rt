@@ -7,7 +7,7 @@ ghost use lib.ListN.{length};
 ghost use Rattle.definitions.specs.Control.{Item};
 ghost use Rattle.items.specs.Kinds.{shapeOf};
 ghost use Rattle.items.specs.Words.{ItemAt};
-ghost use Rattle.items.specs.Ends.{classOf, classBy, endBy, isOneWord};
+ghost use Rattle.items.specs.Ends.{classBy, endBy, isOneWord, seenAt};
 use crate::heads::kind_of;
 use crate::heads::shape_of;
 use crate::kinds::CHANGES;
@@ -68,7 +68,7 @@ pub fn end_of(w: &[u32], k: usize, kind: u32) -> usize
 // What the item at k is, and where it ends.
 pub fn here(w: &[u32], k: usize) -> Seen
     requires { ⌜ ((s : List ℕ) × (m : ℕ) × (i : Item) × ItemAt s (now w) k m i × (m ≤ length (now w))) ⌝ }
-    ensures { λ r. ⌜ ((s : List ℕ) (m : ℕ) (i : Item) → ItemAt s (now (w .entry)) k m i → (r .class ≡ classOf i) × (r .next ≡ m)) ⌝ }
+    ensures { λ r. ⌜ r ≡ seenAt (now (w .entry)) k ⌝ }
 {
     let kind = kind_of(w, k);
     Seen {

@@ -1,16 +1,23 @@
 -- What a view writes, record by record.
+use mathlib.Core.Path.{_≡_}
 use mathlib.Core.Bool.{Bool, true, false, cond}
 use mathlib.Core.List.{List, [], _∷_, _++_}
 use Prim.Native.Nat.{ℕ, suc, _+_, _/_, _%_}
+use lib.ListN.{length}
 use lib.Dec.{ltb}
 use Rattle.definitions.specs.Bytes.{bytes, lineBytes, linesBytes}
 use Rattle.definitions.specs.Journal.{Record, kept, changed, deleted, inserted, oldOf, oldSide, newOf, newSide}
 use Rattle.definitions.specs.Listing.{markIf, listedLine, listingFrom}
+use Rattle.text.specs.Buffer.{laid}
 use Rattle.journal.specs.declared.records.Mark.{Mark}
 use Rattle.journal.specs.declared.records.Mark.the-variants.{Kept, Changed, Deleted, Inserted}
 use Rattle.journal.specs.declared.records.View.{View}
 use Rattle.journal.specs.declared.records.View.the-variants.{OldSide, NewSide, Listing}
 use Rattle.journal.specs.declared.write.Gone.{Gone}
+
+-- the bytes `x` are written over d at `out`, which gives k, and the next go to r
+abbrev pub Puts : List ℕ → List ℕ → ℕ → List ℕ → ℕ → Type 0
+Puts x d out k r = (r ≡ out + length x) × (k ≡ laid d out x)
 
 -- the digit of `n` in the column of `unit`, or a space before the number
 unfoldable pub columnOf : ℕ → ℕ → ℕ

@@ -14,7 +14,7 @@ ghost use Rattle.definitions.specs.Journal.{Record, recordsOf};
 ghost use Rattle.definitions.specs.Listing.{markIf};
 ghost use Rattle.text.specs.Buffer.{laid};
 ghost use Rattle.journal.specs.Records.{recordAt, recordIn};
-ghost use Rattle.journal.specs.Views.{columnOf, originalHead, headOf, headBy, goneBy, piece, outOf};
+ghost use Rattle.journal.specs.Views.{Puts, columnOf, originalHead, headOf, headBy, goneBy, piece, outOf};
 ghost use Rattle.journal.specs.declared.records.RecordAt.the-variants.{Found};
 
 // What has gone by: source lines, and whether the last of them is deleted.
@@ -95,7 +95,7 @@ fn gone_by(gone: Gone, mark: Mark) -> Gone
 // Writes what a view has before a line at `out`, and answers where the line goes.
 fn put_head(view: View, mark: Mark, gone: Gone, dest: &mut [u8], out: usize) -> usize
     requires { ⌜ (gone .lines ≤ 65535) × (out + length (headBy view mark gone) ≤ length (now dest)) ⌝ }
-    ensures { λ r. ⌜ (r ≡ out + length (headBy view mark gone)) × (now (dest .exit) ≡ laid (now (dest .entry)) out (headBy view mark gone)) ⌝ }
+    ensures { λ r. ⌜ Puts (headBy view mark gone) (now (dest .entry)) out (now (dest .exit)) r ⌝ }
 {
     match view {
         View::OldSide => out,
@@ -111,7 +111,7 @@ fn put_head(view: View, mark: Mark, gone: Gone, dest: &mut [u8], out: usize) -> 
 // Writes what a view shows of one record at `out`, and answers where the next goes.
 fn put(view: View, j: &[u8], x: Extent, gone: Gone, dest: &mut [u8], out: usize) -> usize
     requires { ⌜ (recordAt (now j) (x .at) ≡ Found x) × (gone .lines ≤ 65535) × (out + length (piece view gone (recordIn (now j) x)) ≤ length (now dest)) ⌝ }
-    ensures { λ r. ⌜ (r ≡ out + length (piece view gone (recordIn (now (j .entry)) x))) × (now (dest .exit) ≡ laid (now (dest .entry)) out (piece view gone (recordIn (now (j .entry)) x))) ⌝ }
+    ensures { λ r. ⌜ Puts (piece view gone (recordIn (now (j .entry)) x)) (now (dest .entry)) out (now (dest .exit)) r ⌝ }
 {
     let span = records::span_of(view, x);
     let Span::Bytes(from, to) = span else {

@@ -12,9 +12,9 @@ use borrow.Author.Tests.{le-leb, lt-leb, leb-true, leb-false}
 use Rattle.definitions.specs.Bytes.{isDigit}
 use Rattle.definitions.specs.Reader.{Cursor, cursor, got, refused, Token, token, placeAt, afterToken, nextByte, digitsAt, digits, isDigitNext, inRange, number}
 use Rattle.lexer.specs.Places.{cursorAt}
-use Rattle.lexer.specs.Answers.{capped, answers, itself, Numbered}
-use Rattle.lexer.specs.declared.Answer.{Answer}
-use Rattle.lexer.specs.declared.Answer.the-variants.{Is, Refused}
+use Rattle.answers.specs.declared.Answer.{Answer}
+use Rattle.answers.specs.Answers.{NumberOr}
+use Rattle.lexer.specs.Answers.{capped, NumberRead, itself, Numbered}
 
 -- ---- a value that is capped on the way comes to the same
 
@@ -103,13 +103,13 @@ far-digit i [] e = absurd (false≢true e)
 far-digit i (b ∷ bs) e = rw (e, digitsAt) (far (0 * 10 + (b - 48)) (suc i) bs)
 
 -- what the reader of numbers answers
-abbrev IsNumber : List ℕ → ℕ → Answer → Type 0
-IsNumber s at a = (number (cursorAt s at) ≡ answers itself s a) × Numbered at (length s) a
+abbrev pub IsNumber : List ℕ → ℕ → Answer → Type 0
+IsNumber s at = NumberRead s itself (Numbered at) (number (cursorAt s at))
 
 module _ (s : List ℕ) (at : ℕ) where
-  pub no-number : isDigit (nextByte (cursorAt s at)) ≡ false → IsNumber s at (Refused 3 at)
-  unfolding number isDigitNext placeAt answers Numbered
-  no-number e = (rw e, tt)
+  pub no-number : isDigit (nextByte (cursorAt s at)) ≡ false → IsNumber s at (Answer.Refused 3 at)
+  unfolding number isDigitNext placeAt
+  no-number e = NumberOr.refused 3 at (rw e)
 
   module _ (v r : ℕ) (first : isDigit (nextByte (cursorAt s at)) ≡ true) (read : capped (digits (cursorAt s at)) ≡ token v (cursorAt s r)) where
     ranged : number (cursorAt s at) ≡ inRange at (token v (cursorAt s r))
@@ -123,14 +123,14 @@ module _ (s : List ℕ) (at : ℕ) where
         let e : placeAt (afterToken (capped (digits (cursorAt s at)))) ≡ r = ap (λ (w : Token). placeAt (afterToken w)) read in
         omega (arith, far-digit at (drop at s) first)
 
-    pub number-zero : v < 1 → IsNumber s at (Refused 3 at)
-    unfolding inRange answers Numbered
-    number-zero h = (ranged ∙ rw (lt-leb 1 v h), tt)
+    pub number-zero : v < 1 → IsNumber s at (Answer.Refused 3 at)
+    unfolding inRange
+    number-zero h = NumberOr.refused 3 at (ranged ∙ rw (lt-leb 1 v h))
 
-    pub number-large : 65535 < v → IsNumber s at (Refused 3 at)
-    unfolding inRange answers Numbered
-    number-large h = (ranged ∙ rw (le-leb 1 v (omega arith), lt-leb v 65535 h), tt)
+    pub number-large : 65535 < v → IsNumber s at (Answer.Refused 3 at)
+    unfolding inRange
+    number-large h = NumberOr.refused 3 at (ranged ∙ rw (le-leb 1 v (omega arith), lt-leb v 65535 h))
 
-    pub number-is : 1 ≤ v → v ≤ 65535 → r ≤ length s → IsNumber s at (Is v r)
-    unfolding inRange answers Numbered
-    number-is h k to = (ranged ∙ rw (le-leb 1 v h, le-leb v 65535 k), (h, k, number-far, to))
+    pub number-is : 1 ≤ v → v ≤ 65535 → r ≤ length s → IsNumber s at (Answer.Number v r)
+    unfolding inRange
+    number-is h k to = NumberOr.read v r (ranged ∙ rw (le-leb 1 v h, le-leb v 65535 k), (h, k, number-far), to)

@@ -12,50 +12,41 @@ use Rattle.definitions.specs.Bytes.{Line, linesOf}
 use Rattle.definitions.specs.Reader.{got, refused, andThen, placeAt, nextByte, afterByte, skipSpaces, skipComment, stringUpTo, stringNext, advance}
 use Rattle.definitions.specs.Commands.{isZ, endOfLine, upToZ, noZ, linesUpToZ, linesAfter, bytesFrom, scriptLines}
 use Rattle.lexer.specs.Places.{cursorAt}
-use Rattle.lexer.specs.Answers.{answers, nothing, NumberUpTo, answersTwo, refusalOf}
-use Rattle.lexer.specs.Inserted.{linesTo, ToZ, noZAt, LinesRead}
-use Rattle.lexer.specs.declared.Answer.{Answer}
-use Rattle.lexer.specs.declared.Answer.the-variants.{Is, Refused}
-use Rattle.lexer.specs.declared.Two.{Two}
-use Rattle.lexer.specs.declared.Two.the-variants.{Are}
+use Rattle.answers.specs.declared.Answer.{Answer}
+use Rattle.answers.specs.Answers.{PastOr, NumberOr, TwoOr}
+use Rattle.lexer.specs.Answers.{PastAt, PastRead, From, NumberAt, TwoRead}
+use Rattle.lexer.specs.Inserted.{linesTo, ToZ, ZRead, noZAt, LinesRead}
 use Rattle.lexer.proofs.AtPlace.{is-next, not-next, next-inside, after-next, after-in, after-end, advance-to}
-use Rattle.lexer.proofs.Given.{given-is, given-refused}
 use Rattle.lexer.proofs.ToZ.{line-then, line-head, line-last, line-none, not-z, z-length, up-last, up-empty, NoZIn, no-z-begins, no-z-more, z-found, z-missing}
 
 -- ---- the end of the line
 
 abbrev IsEnd : List ℕ → ℕ → Answer → Type 0
-IsEnd s at r = (endOfLine (cursorAt s at) ≡ answers nothing s r) × NumberUpTo 0 at (length s) r
+IsEnd s at = PastRead s (From at) (endOfLine (cursorAt s at))
 
 module _ (s : List ℕ) (at i : ℕ) (spaces : skipSpaces (cursorAt s at) ≡ cursorAt s i) (from : at ≤ i) (to : i ≤ length s) where
-  pub end-line : nextByte (cursorAt s i) ≡ 10 → IsEnd s at (Is 0 (i + 1))
-  unfolding endOfLine answers NumberUpTo
+  pub end-line : nextByte (cursorAt s i) ≡ 10 → IsEnd s at (Answer.Past (i + 1))
+  unfolding endOfLine
   end-line e =
       let h : 0 < nextByte (cursorAt s i) = omega arith in
       let inside : i < length s = next-inside s i h in
-      (rw (spaces, is-next 10 (cursorAt s i) e) (ap (got tt) (after-next s i h)), (omega arith, omega arith, omega arith))
+      PastOr.read (i + 1) (rw (spaces, is-next 10 (cursorAt s i) e) (ap (got tt) (after-next s i h)), omega arith, omega arith)
 
   module _ (more : nextByte (cursorAt s i) ≡ 10 → ⊥) where
-    pub end-other : (nextByte (cursorAt s i) ≡ 92 → ⊥) → IsEnd s at (Refused 3 i)
-    unfolding endOfLine answers NumberUpTo placeAt
-    end-other e = (rw (spaces, not-next 10 (cursorAt s i) more, not-next 92 (cursorAt s i) e), tt)
+    pub end-other : (nextByte (cursorAt s i) ≡ 92 → ⊥) → IsEnd s at (Answer.Refused 3 i)
+    unfolding endOfLine placeAt
+    end-other e = PastOr.refused 3 i (rw (spaces, not-next 10 (cursorAt s i) more, not-next 92 (cursorAt s i) e))
 
     module _ (starts : nextByte (cursorAt s i) ≡ 92) (e : ℕ) (comment : skipComment (cursorAt s i) ≡ cursorAt s e) (past : i ≤ e) where
       ends : endOfLine (cursorAt s at) ≡ got tt (afterByte (cursorAt s e))
       unfolding endOfLine
       ends = rw (spaces, not-next 10 (cursorAt s i) more, is-next 92 (cursorAt s i) starts, comment)
 
-      pub end-comment : e < length s → IsEnd s at (Is 0 (e + 1))
-      unfolding answers NumberUpTo
-      end-comment h = (ends ∙ ap (got tt) (after-in s e h), (omega arith, omega arith, omega arith))
+      pub end-comment : e < length s → IsEnd s at (Answer.Past (e + 1))
+      end-comment h = PastOr.read (e + 1) (ends ∙ ap (got tt) (after-in s e h), omega arith, omega arith)
 
-      pub end-script : e ≤ length s → length s ≤ e → IsEnd s at (Is 0 e)
-      unfolding answers NumberUpTo
-      end-script h k = (ends ∙ ap (got tt) (after-end s e k), (omega arith, omega arith, omega arith))
-
-pub end-read : (s : List ℕ) (at : ℕ) (a : Answer) (n next : ℕ) → IsEnd s at a → a ≡ Is n next → (n ≤ 0) × (at ≤ next) × (next ≤ length s)
-unfolding NumberUpTo
-end-read s at a n next t e = rw e at (t .1)
+      pub end-script : e ≤ length s → length s ≤ e → IsEnd s at (Answer.Past e)
+      end-script h k = PastOr.read e (ends ∙ ap (got tt) (after-end s e k), omega arith, omega arith)
 
 -- ---- the line Z
 
@@ -99,40 +90,38 @@ module _ (s : List ℕ) (i e : ℕ) (from : i ≤ e) (to : e ≤ length s) (line
 pub no-z-at : (s : List ℕ) (p : ℕ) → NoZIn (part p p s)
 no-z-at s p = subst NoZIn (sym (part-none s p)) no-z-begins
 
-abbrev IsToZ : Bool → List ℕ → ℕ → Answer → Type 0
-IsToZ g s p r = (linesAfter g (cursorAt s p) (linesUpToZ (linesOf (drop p s))) ≡ answers (linesTo s p) s r) × ToZ p (length s) r
-
 after-z : (g : Bool) (s : List ℕ) (p e : ℕ) (ls : List Line) (n : ℕ) → p ≤ e → n ≡ e - p → linesAfter g (cursorAt s p) (upToZ ls n) ≡ got ls (cursorAt s e)
 unfolding linesAfter advance
 after-z g s p e ls n h k = rw k (ap (got ls) (advance-to s p e h))
 
 module _ (g : Bool) (s : List ℕ) (p i : ℕ) (from : p ≤ i) (to : i ≤ length s) (no-z : NoZIn (part p i s)) where
-  missing : (r : Answer) (e : ℕ) → length s ≤ e → e ≤ length s → r ≡ noZAt g e → linesUpToZ (linesOf (drop i s)) ≡ noZ → IsToZ g s p r
-  unfolding linesAfter answers ToZ noZAt
+  missing : (r : Answer) (e : ℕ) → length s ≤ e → e ≤ length s → r ≡ noZAt g e → linesUpToZ (linesOf (drop i s)) ≡ noZ → ZRead g s p r
+  unfolding linesAfter noZAt
   missing r e h k f z =
       let n : p + length (drop p s) ≡ e = rw (length-drop p s) (omega arith) in
       let all : linesUpToZ (linesOf (drop p s)) ≡ noZ = rw (part-rest s p i from) at (z-missing (part p i s) (drop i s) no-z z) in
-      rw (f, all) (ap (refused (cond g 5 6)) n, tt)
+      rw f (NumberOr.refused (cond g 5 6) e (rw all (ap (refused (cond g 5 6)) n)))
 
-  pub z-never : (r : Answer) → length s ≤ i → r ≡ noZAt g i → IsToZ g s p r
+  pub z-never : (r : Answer) → length s ≤ i → r ≡ noZAt g i → ZRead g s p r
   unfolding linesOf
   z-never r h f = missing r i h to f (rw (drop-of-length-le s {i = i} h) up-empty)
 
   module _ (e : ℕ) (past : i ≤ e) (end : e ≤ length s) (line : stringNext 10 (cursorAt s i) ≡ part i e s) (more : i < length s) where
-    pub z-not-last : (r : Answer) → isZ (part i e s) ≡ false → length s ≤ e → r ≡ noZAt g e → IsToZ g s p r
+    pub z-not-last : (r : Answer) → isZ (part i e s) ≡ false → length s ≤ e → r ≡ noZAt g e → ZRead g s p r
     z-not-last r z h f = missing r e h end f (rw (last-line s i e past end line more h) (up-last (part i e s) z))
 
-    pub z-here : isZ (part i e s) ≡ true → IsToZ g s p (Is i e)
-    unfolding answers linesTo ToZ
+    pub z-here : isZ (part i e s) ≡ true → ZRead g s p (Answer.Number i e)
+    unfolding linesTo
     z-here z =
         let fl = first-line s i e past end line more in
         let one : e - i ≡ 1 = sym (part-length s i e end) ∙ z-length (part i e s) z in
         let m : length (part p i s) + 1 ≡ e - p = rw (part-length s p i to) (omega arith) in
         let all : linesUpToZ (linesOf (drop p s)) ≡ upToZ (linesOf (part p i s)) (length (part p i s) + 1)
         = rw (part-rest s p i from) at (z-found (part p i s) (drop i s) no-z (part i e s) (fl .0) (fl .1) z)
-        in (
+        in NumberOr.read i e (
           ap (linesAfter g (cursorAt s p)) all ∙ after-z g s p e (linesOf (part p i s)) (length (part p i s) + 1) (omega arith) m,
-          (from, omega arith, end),
+          (from, omega arith),
+          end,
         )
 
     pub no-z-next : isZ (part i e s) ≡ false → e < length s → NoZIn (part p (e + 1) s)
@@ -146,28 +135,22 @@ module _ (g : Bool) (s : List ℕ) (p i : ℕ) (from : p ≤ i) (to : i ≤ leng
 
 -- ---- the lines, after the end of their command's line
 
-abbrev IsLines : Bool → List ℕ → ℕ → Two → Type 0
-IsLines g s at r = (scriptLines g (cursorAt s at) ≡ answersTwo (linesTo s) s r) × LinesRead s at r
+abbrev IsLines : Bool → List ℕ → ℕ → Answer → Type 0
+IsLines g s at = TwoRead s (linesTo s) (LinesRead s at) (scriptLines g (cursorAt s at))
 
-module _ (g : Bool) (s : List ℕ) (at : ℕ) (a : Answer) (end : IsEnd s at a) where
-  pub lines-no-end : (k p : ℕ) (r : Two) → a ≡ Refused k p → r ≡ refusalOf a → IsLines g s at r
-  unfolding scriptLines answersTwo LinesRead refusalOf andThen
-  lines-no-end k p r e f = rw (f, e) (rw (given-refused nothing s a (endOfLine (cursorAt s at)) (end .0) k p e), tt)
+module _ (g : Bool) (s : List ℕ) (at : ℕ) where
+  pub lines-no-end : (k p : ℕ) → endOfLine (cursorAt s at) ≡ refused k p → scriptLines g (cursorAt s at) ≡ refused k p
+  unfolding scriptLines andThen
+  lines-no-end k p e = rw e
 
-  module _ (n start : ℕ) (e : a ≡ Is n start) (b : Answer) (lines : IsToZ g s start b) where
-    pub lines-no-z : (k p : ℕ) (r : Two) → b ≡ Refused k p → r ≡ refusalOf b → IsLines g s at r
-    unfolding scriptLines answersTwo LinesRead refusalOf andThen bytesFrom
-    lines-no-z k p r h f = rw (f, h) (
-      rw (given-is nothing s a (endOfLine (cursorAt s at)) (end .0) n start e)
-          (given-refused (linesTo s start) s b (linesAfter g (cursorAt s start) (linesUpToZ (linesOf (drop start s)))) (lines .0) k p h),
-      tt,
-    )
+  module _ (start : ℕ) (end : PastAt s (From at) (endOfLine (cursorAt s at)) start) where
+    lines-from : scriptLines g (cursorAt s at) ≡ linesAfter g (cursorAt s start) (linesUpToZ (linesOf (drop start s)))
+    unfolding scriptLines andThen bytesFrom
+    lines-from = rw (end .0)
 
-    pub lines-are : (z next : ℕ) → b ≡ Is z next → IsLines g s at (Are start z next)
-    unfolding scriptLines answersTwo LinesRead andThen bytesFrom ToZ
-    lines-are z next h =
-        let is = given-is nothing s a (endOfLine (cursorAt s at)) (end .0) n start e in
-        let to = rw h at (lines .1) in (
-          rw is (given-is (linesTo s start) s b (linesAfter g (cursorAt s start) (linesUpToZ (linesOf (drop start s)))) (lines .0) z next h),
-          (is, end-read s at a n start end e .1, to .0, to .1, to .2),
-        )
+    pub lines-no-z : (k p : ℕ) → linesAfter g (cursorAt s start) (linesUpToZ (linesOf (drop start s))) ≡ refused k p → scriptLines g (cursorAt s at) ≡ refused k p
+    lines-no-z k p e = lines-from ∙ e
+
+    pub lines-are : (z next : ℕ) → NumberAt s (linesTo s start) (ToZ start) (linesAfter g (cursorAt s start) (linesUpToZ (linesOf (drop start s)))) z next
+        → IsLines g s at (Answer.Two start z next)
+    lines-are z next lines = TwoOr.read start z next (lines-from ∙ lines .0, (end .0, end .1, lines .1 .0, lines .1 .1), lines .2)

@@ -14,9 +14,9 @@ use Rattle.scans.specs.Leading.{leading, isOf}
 use Rattle.scans.specs.declared.Kind.the-variants.{Neither}
 use Rattle.scans.proofs.Runs.{reach}
 use Rattle.lexer.specs.Places.{cursorAt}
-use Rattle.lexer.specs.Answers.{answersTwo, QuotedRead}
-use Rattle.lexer.specs.declared.Two.{Two}
-use Rattle.lexer.specs.declared.Two.the-variants.{Are, Refused}
+use Rattle.answers.specs.declared.Answer.{Answer}
+use Rattle.answers.specs.Answers.{TwoOr}
+use Rattle.lexer.specs.Answers.{TwoRead, QuotedRead}
 use Rattle.lexer.proofs.AtPlace.{advance-to, after-in, after-end, next-in, next-inside, is-next, not-next}
 
 -- ---- a string up to its delimiter
@@ -74,13 +74,13 @@ module _ (s : List ℕ) (at d : ℕ) where
 
 -- ---- a string with its delimiters
 
-abbrev IsQuoted : List ℕ → ℕ → Two → Type 0
-IsQuoted s at r = (quoted (cursorAt s at) ≡ answersTwo (λ a e. part a e s) s r) × QuotedRead at (length s) r
+abbrev IsQuoted : List ℕ → ℕ → Answer → Type 0
+IsQuoted s at = TwoRead s (λ a e. part a e s) (QuotedRead at) (quoted (cursorAt s at))
 
 module _ (s : List ℕ) (at d : ℕ) (first : nextByte (cursorAt s at) ≡ d) where
-  pub not-quoted : isDelimiter d ≡ false → IsQuoted s at (Refused 3 at)
-  unfolding quoted placeAt answersTwo QuotedRead
-  not-quoted e = (rw (first, e), tt)
+  pub not-quoted : isDelimiter d ≡ false → IsQuoted s at (Answer.Refused 3 at)
+  unfolding quoted placeAt
+  not-quoted e = TwoOr.refused 3 at (rw (first, e))
 
   -- no delimiter is 0
   pub delimiter-inside : isDelimiter d ≡ true → at < length s
@@ -92,9 +92,10 @@ module _ (s : List ℕ) (at d : ℕ) (first : nextByte (cursorAt s at) ≡ d) wh
       positive (suc n) e = omega arith
 
   pub is-quoted : (end next : ℕ) → isDelimiter d ≡ true → stringNext d (cursorAt s (at + 1)) ≡ part (at + 1) end s → at + 1 ≤ end → end ≤ length s
-      → pastDelimiter d (cursorAt s end) ≡ cursorAt s next → end ≤ next → next ≤ length s → IsQuoted s at (Are (at + 1) end next)
-  unfolding quoted answersTwo QuotedRead
-  is-quoted end next e string from to past far within = (
+      → pastDelimiter d (cursorAt s end) ≡ cursorAt s next → end ≤ next → next ≤ length s → IsQuoted s at (Answer.Two (at + 1) end next)
+  unfolding quoted
+  is-quoted end next e string from to past far within = TwoOr.read (at + 1) end next (
     rw (first, e, after-in s at (delimiter-inside e), string, after-string s (at + 1) end d from to string, past),
-    (omega arith, from, far, within),
+    (omega arith, from, far),
+    within,
   )

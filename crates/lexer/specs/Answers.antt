@@ -1,57 +1,61 @@
--- What a reader's answer is in the definitions.
+-- What the readers of the script answer: x is the definition's answer, and W says more of what was read.
 use mathlib.Core.Path.{_≡_}
 use mathlib.Core.List.{List}
 use Prim.Native.Nat.{ℕ, suc, _≤_, min}
+use lib.ListN.{length}
 use Rattle.definitions.specs.Reader.{Got, got, refused, Token, token}
+use Rattle.answers.specs.declared.Answer.{Answer}
+use Rattle.answers.specs.Answers.{PastOr, NumberOr, TwoOr}
 use Rattle.lexer.specs.Places.{cursorAt}
-use Rattle.lexer.specs.declared.Answer.{Answer}
-use Rattle.lexer.specs.declared.Answer.the-variants.{Is, Refused}
-use Rattle.lexer.specs.declared.Two.{Two}
-use Rattle.lexer.specs.declared.Two.the-variants.{Are, Refused as TwoRefused}
 
--- the answer for the script `s`; `f` says what a number stands for
-unfoldable pub answers : {A : Type 0} → (ℕ → A) → List ℕ → Answer → Got A
-answers f s (Is n next) = got (f n) (cursorAt s next)
-answers f s (Refused k p) = refused k p
+abbrev pub Refuses : {A : Type 0} → Got A → ℕ → ℕ → Type 0
+Refuses x k p = x ≡ refused k p
+
+-- only the place after it
+abbrev pub PastAt : List ℕ → (ℕ → Type 0) → Got (Unit {0}) → ℕ → Type 0
+PastAt s W x next = (x ≡ got tt (cursorAt s next)) × W next × (next ≤ length s)
+
+abbrev pub PastRead : List ℕ → (ℕ → Type 0) → Got (Unit {0}) → Answer → Type 0
+PastRead s W x = PastOr (PastAt s W x) (Refuses x)
+
+-- a number; f says what it stands for
+abbrev pub NumberAt : {A : Type 0} → List ℕ → (ℕ → A) → (ℕ → ℕ → Type 0) → Got A → ℕ → ℕ → Type 0
+NumberAt s f W x n next = (x ≡ got (f n) (cursorAt s next)) × W n next × (next ≤ length s)
+
+abbrev pub NumberRead : {A : Type 0} → List ℕ → (ℕ → A) → (ℕ → ℕ → Type 0) → Got A → Answer → Type 0
+NumberRead s f W x = NumberOr (NumberAt s f W x) (Refuses x)
+
+-- two numbers
+abbrev pub TwoAt : {A : Type 0} → List ℕ → (ℕ → ℕ → A) → (ℕ → ℕ → ℕ → Type 0) → Got A → ℕ → ℕ → ℕ → Type 0
+TwoAt s f W x a b next = (x ≡ got (f a b) (cursorAt s next)) × W a b next × (next ≤ length s)
+
+abbrev pub TwoRead : {A : Type 0} → List ℕ → (ℕ → ℕ → A) → (ℕ → ℕ → ℕ → Type 0) → Got A → Answer → Type 0
+TwoRead s f W x = TwoOr (TwoAt s f W x) (Refuses x)
+
+-- ---- what was read, and where it ends
 
 abbrev pub itself : ℕ → ℕ
 itself n = n
 
-abbrev pub nothing : ℕ → Unit {0}
-nothing n = tt
+-- one byte was read at `at`; or bytes from `at` on
+abbrev pub OneByte : ℕ → ℕ → Type 0
+OneByte at next = next ≡ suc at
 
--- one byte was read at `at`, of `n`
-unfoldable pub Passed : ℕ → ℕ → Answer → Type 0
-Passed at n (Is k next) = (k ≡ 0) × (next ≡ suc at) × (next ≤ n)
-Passed at n (Refused k p) = Unit {0}
+abbrev pub From : ℕ → ℕ → Type 0
+From at next = at ≤ next
 
--- a number was read from `at` on, of `n` bytes
-unfoldable pub Numbered : ℕ → ℕ → Answer → Type 0
-Numbered at n (Is k next) = (1 ≤ k) × (k ≤ 65535) × (suc at ≤ next) × (next ≤ n)
-Numbered at n (Refused k p) = Unit {0}
+-- a number was read from `at` on
+abbrev pub Numbered : ℕ → ℕ → ℕ → Type 0
+Numbered at n next = (1 ≤ n) × (n ≤ 65535) × (suc at ≤ next)
+
+-- a number up to `top`, to a place from `from` on
+abbrev pub NumberUpTo : ℕ → ℕ → ℕ → ℕ → Type 0
+NumberUpTo top from n next = (n ≤ top) × (from ≤ next)
+
+-- a string whose delimiter stands at `at`
+abbrev pub QuotedRead : ℕ → ℕ → ℕ → ℕ → Type 0
+QuotedRead at start end next = (start ≡ suc at) × (start ≤ end) × (end ≤ next)
 
 -- a value over 65,535 counts as 65,536
 unfoldable pub capped : Token → Token
 capped (token n c) = token (min n 65536) c
-
--- ---- readers of the commands' arguments
-
--- a number up to `top` was read, to a place from `from` on, of `n` bytes
-unfoldable pub NumberUpTo : ℕ → ℕ → ℕ → Answer → Type 0
-NumberUpTo top from n (Is k next) = (k ≤ top) × (from ≤ next) × (next ≤ n)
-NumberUpTo top from n (Refused k p) = Unit {0}
-
--- the answer of a reader of two things; `f` says what the numbers stand for
-unfoldable pub answersTwo : {A : Type 0} → (ℕ → ℕ → A) → List ℕ → Two → Got A
-answersTwo f s (Are a b next) = got (f a b) (cursorAt s next)
-answersTwo f s (TwoRefused k p) = refused k p
-
--- a refusal of one thing refuses both
-unfoldable pub refusalOf : Answer → Two
-refusalOf (Is k next) = TwoRefused 0 next
-refusalOf (Refused k p) = TwoRefused k p
-
--- a string was read whose delimiter stands at `at`, of `n` bytes
-unfoldable pub QuotedRead : ℕ → ℕ → Two → Type 0
-QuotedRead at n (Are start end next) = (start ≡ suc at) × (start ≤ end) × (end ≤ next) × (next ≤ n)
-QuotedRead at n (TwoRefused k p) = Unit {0}

@@ -3,32 +3,31 @@ use mathlib.Core.Path.{_≡_}
 use mathlib.Core.Bool.{Bool, cond}
 use mathlib.Core.List.{List}
 use Prim.Native.Nat.{ℕ, suc, _≤_}
-use lib.ListN.{length}
+use lib.ListN.{drop}
 use Rattle.definitions.specs.Bytes.{Line, linesOf}
 use Rattle.definitions.specs.Reader.{got}
-use Rattle.definitions.specs.Commands.{endOfLine}
+use Rattle.definitions.specs.Commands.{endOfLine, linesUpToZ, linesAfter}
 use Rattle.text.specs.Lines.{part}
+use Rattle.answers.specs.declared.Answer.{Answer}
 use Rattle.lexer.specs.Places.{cursorAt}
-use Rattle.lexer.specs.declared.Answer.{Answer}
-use Rattle.lexer.specs.declared.Answer.the-variants.{Is, Refused}
-use Rattle.lexer.specs.declared.Two.{Two}
-use Rattle.lexer.specs.declared.Two.the-variants.{Are, Refused as TwoRefused}
+use Rattle.lexer.specs.Answers.{NumberRead}
 
 -- the lines from `at` up to the line Z at `z`
 unfoldable pub linesTo : List ℕ → ℕ → ℕ → List Line
 linesTo s at z = linesOf (part at z s)
 
--- a line Z was found from `at` on, of `n` bytes
-unfoldable pub ToZ : ℕ → ℕ → Answer → Type 0
-ToZ at n (Is z next) = (at ≤ z) × (next ≡ suc z) × (next ≤ n)
-ToZ at n (Refused k p) = Unit {0}
+-- a line Z was found from `at` on
+abbrev pub ToZ : ℕ → ℕ → ℕ → Type 0
+ToZ at z next = (at ≤ z) × (next ≡ suc z)
+
+-- the lines from `at` on were read up to the line Z, in a group or not
+abbrev pub ZRead : Bool → List ℕ → ℕ → Answer → Type 0
+ZRead inGroup s at = NumberRead s (linesTo s at) (ToZ at) (linesAfter inGroup (cursorAt s at) (linesUpToZ (linesOf (drop at s))))
 
 -- no Z up to the script's end
 unfoldable pub noZAt : Bool → ℕ → Answer
-noZAt inGroup at = Refused (cond inGroup 5 6) at
+noZAt inGroup at = Answer.Refused (cond inGroup 5 6) at
 
 -- where the lines start, and that they lie within the script
-unfoldable pub LinesRead : List ℕ → ℕ → Two → Type 0
-LinesRead s at (Are start z next) =
-    (endOfLine (cursorAt s at) ≡ got tt (cursorAt s start)) × (at ≤ start) × (start ≤ z) × (next ≡ suc z) × (next ≤ length s)
-LinesRead s at (TwoRefused k p) = Unit {0}
+abbrev pub LinesRead : List ℕ → ℕ → ℕ → ℕ → ℕ → Type 0
+LinesRead s at start z next = (endOfLine (cursorAt s at) ≡ got tt (cursorAt s start)) × (at ≤ start) × (start ≤ z) × (next ≡ suc z)

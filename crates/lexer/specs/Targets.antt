@@ -5,8 +5,6 @@ use Prim.Native.Nat.{ℕ, _≤_}
 use lib.Dec.{eqb}
 use Rattle.definitions.specs.Editor.{Target, here, line, eof, Through, alone, upTo, toEof}
 use Rattle.definitions.specs.Commands.{Span, span}
-use Rattle.lexer.specs.declared.Two.{Two}
-use Rattle.lexer.specs.declared.Two.the-variants.{Are, Refused}
 
 -- 0 is `.`, 65,536 is `*`
 unfoldable pub targetOf : ℕ → Target
@@ -23,7 +21,6 @@ spanOf a b = span (targetOf a) (throughOf b)
 unfoldable pub optionOf : ℕ → Option Target
 optionOf n = cond (eqb n 65537) none (some (targetOf n))
 
--- two line numbers were read from `at` on, of `n` bytes
-unfoldable pub SpanRead : ℕ → ℕ → Two → Type 0
-SpanRead at n (Are a b next) = (a ≤ 65535) × (b ≤ 65536) × (at ≤ next) × (next ≤ n)
-SpanRead at n (Refused k p) = Unit {0}
+-- two line numbers were read from `at` on
+abbrev pub SpanRead : ℕ → ℕ → ℕ → ℕ → Type 0
+SpanRead at a b next = (a ≤ 65535) × (b ≤ 65536) × (at ≤ next)

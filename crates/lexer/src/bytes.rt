@@ -5,8 +5,8 @@ ghost use lib.ListN.{length};
 ghost use Rattle.definitions.specs.Bytes.{isDigit, isLetter};
 ghost use Rattle.definitions.specs.Reader.{nextByte, isDelimiter, expect as «expect-of»};
 ghost use Rattle.lexer.specs.Places.{cursorAt};
-ghost use Rattle.lexer.specs.Answers.{answers, nothing, Passed};
-use crate::Answer;
+ghost use Rattle.lexer.specs.Answers.{PastRead, OneByte};
+use answers::Answer;
 
 pub fn is_digit(b: u8) -> bool
     ensures { λ r. ⌜ r ≡ isDigit b ⌝ }
@@ -52,12 +52,11 @@ pub fn next_byte(s: &[u8], at: usize) -> u8
 // The byte b must stand at the place, else 3 there.
 pub fn expect(s: &[u8], at: usize, b: u8) -> Answer
     requires { ⌜ (at ≤ length (now s)) × (0 < b) ⌝ }
-    ensures { λ r. ⌜ «expect-of» b (cursorAt (now (s .entry)) at) ≡ answers nothing (now (s .entry)) r ⌝ }
-    ensures { λ r. ⌜ Passed at (length (now (s .entry))) r ⌝ }
+    ensures { λ r. ⌜ PastRead (now (s .entry)) (OneByte at) («expect-of» b (cursorAt (now (s .entry)) at)) r ⌝ }
 {
     if at < s.len() {
         if s[at] == b {
-            return Answer::Is(0, at + 1);
+            return Answer::Past(at + 1);
         }
     }
     Answer::Refused(3, at)

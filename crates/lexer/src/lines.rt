@@ -1,40 +1,36 @@
 // The lines that I and R insert: script lines up to a line Z.
 ghost use mathlib.Core.Path.{_≡_};
 ghost use Prim.Native.Nat.{_≤_};
-ghost use lib.ListN.{length, drop};
-ghost use Rattle.definitions.specs.Bytes.{linesOf};
-ghost use Rattle.definitions.specs.Commands.{isZ, endOfLine, linesUpToZ, linesAfter, scriptLines};
+ghost use lib.ListN.{length};
+ghost use Rattle.definitions.specs.Commands.{isZ, endOfLine, scriptLines};
 ghost use Rattle.text.specs.Lines.{part};
 ghost use Rattle.lexer.specs.Places.{cursorAt};
-ghost use Rattle.lexer.specs.Answers.{answers, answersTwo, nothing, NumberUpTo};
-ghost use Rattle.lexer.specs.Inserted.{linesTo, ToZ, LinesRead, noZAt};
-use crate::Answer;
-use crate::Two;
+ghost use Rattle.lexer.specs.Answers.{PastRead, From, TwoRead};
+ghost use Rattle.lexer.specs.Inserted.{linesTo, ZRead, LinesRead, noZAt};
 use crate::bytes::next_byte;
-use crate::refusal;
 use crate::spaces::skip_comment;
 use crate::spaces::skip_spaces;
 use crate::strings::string_end;
+use answers::Answer;
 
 // Past the line's end: only spaces and a comment may stand before it.
 pub fn end_of_line(s: &[u8], at: usize) -> Answer
     requires { ⌜ at ≤ length (now s) ⌝ }
-    ensures { λ r. ⌜ endOfLine (cursorAt (now (s .entry)) at) ≡ answers nothing (now (s .entry)) r ⌝ }
-    ensures { λ r. ⌜ NumberUpTo 0 at (length (now (s .entry))) r ⌝ }
+    ensures { λ r. ⌜ PastRead (now (s .entry)) (From at) (endOfLine (cursorAt (now (s .entry)) at)) r ⌝ }
 {
     let i = skip_spaces(s, at);
     let b = next_byte(s, i);
     if b == 10 {
-        return Answer::Is(0, i + 1);
+        return Answer::Past(i + 1);
     }
     if b != 92 {
         return Answer::Refused(3, i);
     }
     let e = skip_comment(s, i);
     if e < s.len() {
-        Answer::Is(0, e + 1)
+        Answer::Past(e + 1)
     } else {
-        Answer::Is(0, e)
+        Answer::Past(e)
     }
 }
 
@@ -55,14 +51,13 @@ pub fn is_z(s: &[u8], at: usize, end: usize) -> bool
 // The lines from the place on, up to a line Z: the place of Z, and the place after it. No Z is 6 at the script's end, in a group 5.
 pub fn lines_to_z(s: &[u8], at: usize, in_group: bool) -> Answer
     requires { ⌜ at ≤ length (now s) ⌝ }
-    ensures { λ r. ⌜ linesAfter in_group (cursorAt (now (s .entry)) at) (linesUpToZ (linesOf (drop at (now (s .entry))))) ≡ answers (linesTo (now (s .entry)) at) (now (s .entry)) r ⌝ }
-    ensures { λ r. ⌜ ToZ at (length (now (s .entry))) r ⌝ }
+    ensures { λ r. ⌜ ZRead in_group (now (s .entry)) at r ⌝ }
 {
     let mut i = at;
     while i < s.len() {
         let e = string_end(s, i, 10);
         if is_z(s, i, e) {
-            return Answer::Is(i, e);
+            return Answer::Number(i, e);
         }
         if s.len() <= e {
             return no_z(in_group, e);
@@ -83,18 +78,17 @@ fn no_z(in_group: bool, at: usize) -> Answer
 }
 
 // The lines of I and R: the part of the script that they are, and the place after Z.
-pub fn script_lines(s: &[u8], at: usize, in_group: bool) -> Two
+pub fn script_lines(s: &[u8], at: usize, in_group: bool) -> Answer
     requires { ⌜ at ≤ length (now s) ⌝ }
-    ensures { λ r. ⌜ scriptLines in_group (cursorAt (now (s .entry)) at) ≡ answersTwo (linesTo (now (s .entry))) (now (s .entry)) r ⌝ }
-    ensures { λ r. ⌜ LinesRead (now (s .entry)) at r ⌝ }
+    ensures { λ r. ⌜ TwoRead (now (s .entry)) (linesTo (now (s .entry))) (LinesRead (now (s .entry)) at) (scriptLines in_group (cursorAt (now (s .entry)) at)) r ⌝ }
 {
     let end = end_of_line(s, at);
-    let Answer::Is(_, start) = end else {
-        return refusal(end);
+    let Answer::Past(start) = end else {
+        return end;
     };
     let lines = lines_to_z(s, start, in_group);
-    let Answer::Is(z, next) = lines else {
-        return refusal(lines);
+    let Answer::Number(z, next) = lines else {
+        return lines;
     };
-    Two::Are(start, z, next)
+    Answer::Two(start, z, next)
 }

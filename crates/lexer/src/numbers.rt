@@ -4,11 +4,11 @@ ghost use Prim.Native.Nat.{_+_, _-_, _*_, _≤_, min};
 ghost use lib.ListN.{length};
 ghost use Rattle.definitions.specs.Reader.{digits as «digits-of», number as «number-of», token};
 ghost use Rattle.lexer.specs.Places.{cursorAt};
-ghost use Rattle.lexer.specs.Answers.{capped, answers, itself, Numbered};
-use crate::Answer;
+ghost use Rattle.lexer.specs.Answers.{capped, NumberRead, itself, Numbered};
 use crate::Count;
 use crate::bytes::is_digit;
 use crate::bytes::next_byte;
+use answers::Answer;
 
 fn wide(b: u8) -> usize
     ensures { λ r. ⌜ r ≡ b ⌝ }
@@ -47,8 +47,7 @@ pub fn digits(s: &[u8], at: usize) -> Count
 // A number from 1 to 65,535 must stand at the place, else 3 there.
 pub fn number(s: &[u8], at: usize) -> Answer
     requires { ⌜ at ≤ length (now s) ⌝ }
-    ensures { λ r. ⌜ «number-of» (cursorAt (now (s .entry)) at) ≡ answers itself (now (s .entry)) r ⌝ }
-    ensures { λ r. ⌜ Numbered at (length (now (s .entry))) r ⌝ }
+    ensures { λ r. ⌜ NumberRead (now (s .entry)) itself (Numbered at) («number-of» (cursorAt (now (s .entry)) at)) r ⌝ }
 {
     if !is_digit(next_byte(s, at)) {
         return Answer::Refused(3, at);
@@ -60,5 +59,5 @@ pub fn number(s: &[u8], at: usize) -> Answer
     if d.value > 65535 {
         return Answer::Refused(3, at);
     }
-    Answer::Is(d.value, d.next)
+    Answer::Number(d.value, d.next)
 }

@@ -5,10 +5,10 @@ ghost use lib.ListN.{length};
 ghost use Rattle.definitions.specs.Reader.{stringNext, advance, pastDelimiter, quoted as «quoted-of»};
 ghost use Rattle.text.specs.Lines.{part};
 ghost use Rattle.lexer.specs.Places.{cursorAt};
-ghost use Rattle.lexer.specs.Answers.{answersTwo, QuotedRead};
-use crate::Two;
+ghost use Rattle.lexer.specs.Answers.{TwoRead, QuotedRead};
 use crate::bytes::is_delimiter;
 use crate::bytes::next_byte;
+use answers::Answer;
 use scans::Kind;
 use scans::past;
 
@@ -37,17 +37,16 @@ pub fn past_delimiter(s: &[u8], at: usize, d: u8) -> usize
 }
 
 // A string with its delimiters: the part of the script that it is. Where no delimiter stands, 3 there.
-pub fn quoted(s: &[u8], at: usize) -> Two
+pub fn quoted(s: &[u8], at: usize) -> Answer
     requires { ⌜ at ≤ length (now s) ⌝ }
-    ensures { λ r. ⌜ «quoted-of» (cursorAt (now (s .entry)) at) ≡ answersTwo (λ a e. part a e (now (s .entry))) (now (s .entry)) r ⌝ }
-    ensures { λ r. ⌜ QuotedRead at (length (now (s .entry))) r ⌝ }
+    ensures { λ r. ⌜ TwoRead (now (s .entry)) (λ a e. part a e (now (s .entry))) (QuotedRead at) («quoted-of» (cursorAt (now (s .entry)) at)) r ⌝ }
 {
     let d = next_byte(s, at);
     if !is_delimiter(d) {
-        return Two::Refused(3, at);
+        return Answer::Refused(3, at);
     }
     let start = at + 1;
     let end = string_end(s, start, d);
     let next = past_delimiter(s, end, d);
-    Two::Are(start, end, next)
+    Answer::Two(start, end, next)
 }

@@ -86,9 +86,6 @@ module _ (w u : Bool) (s l : List ℕ) (start end count : ℕ) where
               (omega (arith, left-reached)) (omega (arith, left-reached, turn .lo));
         }
 
-        pub left-next-falls : end - length s - (r + step) < end - length s - i
-        left-next-falls = omega (arith, left-reached)
-
   module _ (k i : ℕ) (turn : RightTurn w u s l start end count k i) where
     back : end - length s - (end - length s - i) ≡ i
     back = omega (arith, turn .hi)

@@ -9,8 +9,7 @@ use Rattle.definitions.specs.Journal.{Record, kept, changed, deleted, inserted,
 use Rattle.editor.specs.Records.{enc, encAll, zeroPlace}
 use Rattle.editor.specs.Shows.{Holds, strikeOver}
 use Rattle.editor.specs.declared.State.{State}
-use Rattle.editor.proofs.Records.{line-text, some-bytes, enc-length, all-length}
-use Rattle.editor.proofs.Striking.{zero-of}
+use Rattle.editor.proofs.Records.{text-place, line-text, some-bytes, enc-length, all-length}
 use Rattle.editor.proofs.Inserting.{held-journal, length-reverse}
 use Rattle.spans.specs.Spans.{Stands}
 use Rattle.spans.proofs.Struck.{all-append}
@@ -31,7 +30,7 @@ zero-place : {j : List ℕ} {at : ℕ} (o n : List ℕ) (rs : List Record) → S
 unfolding placeOf encAll
 zero-place {j} {at} o n rs h =
     let q : drop at j ≡ 60 ∷ 62 ∷ (o ++ (0 ∷ ((n ++ (10 ∷ [])) ++ encAll rs))) = h .bytes ∙ simp append-assoc in
-    rw (q, zero-of o ((n ++ (10 ∷ [])) ++ encAll rs) (line-text o (h .good .0 .0))) (omega arith)
+    rw (q, text-place 0 (omega arith) o ((n ++ (10 ∷ [])) ++ encAll rs) (line-text o (h .good .0 .0))) (omega arith)
 
 -- its new text and the 0
 pub freed-changed : {j : List ℕ} {at next : ℕ} → getD j at 0 ≡ 60 → (z : ℕ) → z ≡ at + zeroPlace (drop at j) → (r : Record) (rs : List Record) → Stands j at (r ∷ rs) → next ≡ at + length (enc r)

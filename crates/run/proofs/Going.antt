@@ -2,16 +2,15 @@
 use mathlib.Core.Path.{_≡_, refl, sym, ap, _∙_, subst}
 use mathlib.Core.Bool.{true, false, cond}
 use mathlib.Core.List.{List, []}
-use Prim.Native.Nat.{ℕ, zero, suc, _+_, _-_, _≤_, _<_}
+use Prim.Native.Nat.{ℕ, zero, suc, _+_, _-_, _≤_}
 use native.Mathlib.Omega.{arith}
 use Rattle.definitions.specs.Table.{isScript}
 use Rattle.definitions.specs.Tape.{Tape}
-use Rattle.definitions.specs.Search.{Search}
 use Rattle.definitions.specs.Given.{Given, Carried}
 use Rattle.definitions.specs.Editor.{Ed}
 use Rattle.definitions.specs.StepProgram.{RunState, state, textOf}
 use Rattle.definitions.specs.Edit.{Op, step}
-use Rattle.definitions.specs.Control.{Seek, Item, Frame, Ctl, running, seeking, Pull, finished, want, lookOp, pull}
+use Rattle.definitions.specs.Control.{Item, Ctl, running, Pull, finished, want, pull}
 use Rattle.definitions.specs.Run.{End, end, endPlace, spent, stepping, run}
 use Rattle.control.specs.declared.Control.{Control}
 use Rattle.control.specs.declared.Wanted.{Wanted}
@@ -22,9 +21,9 @@ use Rattle.editor.specs.declared.State.{State}
 use Rattle.editor.specs.Current.{Ready}
 use Rattle.seeks.specs.declared.Looked.the-variants.{Yes, No, Stop}
 use Rattle.seeks.specs.declared.Sought.{Sought}
-use Rattle.steps.specs.Steps.{GoodCtl, Wants, GoesOn, Stops, Leads, Comes}
-use Rattle.steps.proofs.Asked.{Searching, wanted-asked}
-use Rattle.steps.proofs.Views.{asks-look, asks-delete}
+use Rattle.steps.specs.Steps.{GoodCtl, Wants}
+use Rattle.steps.proofs.Asked.{wanted-asked}
+use Rattle.steps.proofs.OneStep.{GoesOn, Stops, Leads, Comes}
 use Rattle.run.specs.Items.{Runnable, Ends, EndsAs}
 use Rattle.run.specs.declared.items.Ended.{Ended}
 
@@ -136,25 +135,6 @@ module _ {s table : List ℕ} {lends : Given} {budget last : ℕ} {w j : List �
         by w = rw (is, ← g .same, ← rest-of, w .same) (refl, refl, refl, w .shows)
 
 -- ---- the lines that a search has passed
-
-seek-lines : (s w : List ℕ) (last : ℕ) (c : Control) (place : ℕ) (f : Seek) (se : Search) (k : ℕ) (items : List Item) (frames : List Frame)
-    → Stands s w last c (seeking place f se k items frames) → c .lines ≡ k
-unfolding Stands
-seek-lines s w last c place f se k items frames h = h .1
-
--- DF has passed fewer lines than the run can have
-pub lines-few : (s w : List ℕ) (last n : ℕ) (x : Wanted) (from : Ctl) → Wanting s w last n x from → x .what ≡ 8 → x .lines < n
-lines-few s w last n x from h eight = by (asks-look s w x (h .op) (h .wants .asks) (omega arith) (omega arith))
-  where
-    counted : (f : Seek) (se : Search) → Searching (x .place) f se (h .op) (h .c₁) (h .c₀) → x .lines < n
-    counted f se y =
-        let passed : x .no .lines ≡ suc (y .passed) =
-        seek-lines s w last (x .no) (x .place) f se (suc (y .passed)) (y .items) (y .frames) (rw (y .not-found) at (h .shown .no-shows)) in
-        let same : y .passed ≡ x .lines = asks-delete s w x f se (y .passed) (rw (y .is) at (h .wants .asks)) eight .1 in
-        omega (arith, h .shown .no-few)
-
-    by : (f : Seek) × (se : Search) × (i : ℕ) × (h .op ≡ lookOp f se i) → x .lines < n
-    by (f, se, i, o) = counted f se (wanted-asked from (x .place) (h .op) (h .c₁) (h .c₀) (h .wants .good) (h .wants .next) .0 .look f se i o)
 
 module _ (d : Control) (x : Wanted) (n m : ℕ) where
   pub yes-lines : d ≡ cond true (x .yes) (x .no) → x .yes .lines ≤ n → n ≤ m → d .lines ≤ m

@@ -21,10 +21,9 @@ use Rattle.definitions.specs.Script.{Script, items, refusedAt, readScript}
 use Rattle.definitions.specs.Run.{End, end, run, runItems, Answer, refusal, answerOf, ranItems, openingLength, workLength, ranTable, ranScript, runAnswer, answerNumber, answerSteps, answerFurthest, answerPlace, answerLength, bufferAfter, outcome, outcomeFrom, outcomeOf}
 use Rattle.theorems.specs.GoodScripts.{good-commands}
 use Rattle.theorems.specs.JournalBytes.{lines-back}
+use Rattle.answers.specs.declared.Answer.{Answer as Read}
+use Rattle.answers.proofs.Taking.{Refusal, refusal-values, is-done}
 use Rattle.script.specs.Reading.{ScriptRead}
-use Rattle.script.specs.declared.Decoded.{Decoded}
-use Rattle.script.specs.declared.Decoded.the-variants.{Items, Refused as Refused-at}
-use Rattle.script.proofs.WholeScript.{read-items as items-read, read-refused as refusal-read}
 use Rattle.control.proofs.Scripts.{startable}
 use Rattle.editor.specs.declared.State.{State}
 use Rattle.editor.specs.Shows.{Holds, Shows, Opens, ClosesJournal, lent, restOf}
@@ -32,7 +31,7 @@ use Rattle.editor.proofs.Reading.{journal-is}
 use Rattle.editor.specs.Current.{PointIn, Ready}
 use Rattle.editor.proofs.Opening.{table-last}
 use Rattle.editor.proofs.Tables.{opens-table}
-use Rattle.run.specs.Answers.{numberOf, stepsOf, furthestOf, lengthOf, placeOf, outcomeWith, caseOf, Gives, Ran}
+use Rattle.run.specs.Answers.{valuesOf, outcomeWith, caseOf, refusedBy, Gives, Ran}
 use Rattle.run.specs.declared.Answer.{Answer as Answer-of}
 use Rattle.run.specs.Items.{Runnable, Ends, EndsAs}
 use Rattle.run.specs.declared.items.Ended.{Ended}
@@ -111,18 +110,18 @@ module _ (buffer j k : List ℕ) (r : Ended) (n : ℕ) (long : length j ≡ leng
   module _ (table : List ℕ) (budget : ℕ) (g : Given) (same : g ≡ lent buffer) (is : List Item)
       (ends : EndsAs j r (run (step g) budget 0 (running is []) (state ((opening (unread (linesOf table))) .0) carried) ((opening (unread (linesOf table))) .1))) where
     pub gives-done : r .number ≡ 0 → (r .number ≡ 0 → r .place ≡ 0) → Gives buffer (ranItems (step (lent buffer)) budget is (linesOf table)) (Done (r .steps) (r .st .furthest) n) k
-    unfolding ranItems runItems bind outcomeWith numberOf stepsOf furthestOf lengthOf placeOf
+    unfolding ranItems runItems bind outcomeWith valuesOf
     gives-done none at = record { values = rw (none, at none) at (ended-outcome _ _ (rw same at ends)); case = ended-done _ _ (rw same at ends) none }
 
     pub gives-stopped : (r .number ≡ 0 → ⊥) → Gives buffer (ranItems (step (lent buffer)) budget is (linesOf table)) (Stopped (r .number) (r .steps) (r .st .furthest) n (r .place)) k
-    unfolding ranItems runItems bind outcomeWith numberOf stepsOf furthestOf lengthOf placeOf
+    unfolding ranItems runItems bind outcomeWith valuesOf
     gives-stopped some = record { values = ended-outcome _ _ (rw same at ends); case = ended-stopped _ _ (rw same at ends) some }
 
 -- ---- refusals
 
 -- refused, the buffer is untouched
 refused : (buffer : List ℕ) (n place : ℕ) (a : Answer) → a ≡ refusal n place → Gives buffer a (Refused n place) buffer
-unfolding outcomeWith numberOf stepsOf furthestOf lengthOf placeOf outcomeFrom answerNumber answerSteps answerFurthest answerPlace answerLength bufferAfter caseOf
+unfolding outcomeWith valuesOf outcomeFrom answerNumber answerSteps answerFurthest answerPlace answerLength bufferAfter caseOf
 refused buffer n place a q = record { values = rw q; case = rw q }
 
 module _ (buffer table : List ℕ) (good : isTable table ≡ true) (n : ℕ) (lines : length (linesOf table) ≡ n) (v : Bool) (fits : v ≡ leb (length table + 2 * n) (length buffer)) where
@@ -164,9 +163,11 @@ module _ (table script : List ℕ) (budget work : ℕ) (buffer : List ℕ) where
       unfolding runAnswer workLength
       read-as x q = rw (form, le-leb (2 * length script + 64) work enough, q)
 
-      pub refused-script : (n at : ℕ) → readScript script ≡ refusedAt n at → Ran table script budget work buffer (Refused n at) buffer
-      unfolding ranScript
-      refused-script n at q = ran-as _ _ (refused buffer n at _ (read-as (refusedAt n at) q))
+      -- the script does not decode
+      pub refused-script : (d : Read) → Refusal (λ n at. readScript script ≡ refusedAt n at) d → (r : Answer-of) → r ≡ refusedBy d → Ran table script budget work buffer r buffer
+      unfolding ranScript refusedBy
+      refused-script d gave r is =
+          rw (is, refusal-values gave .0, refusal-values gave .1) (ran-as _ _ (refused buffer (gave .number) (gave .place) _ (read-as (refusedAt (gave .number) (gave .place)) (gave .holds))))
 
       pub read-items : (is : List Item) → readScript script ≡ items is → (r : Answer-of) (k : List ℕ) → Gives buffer (ranScript table budget (length buffer) (items is)) r k → Ran table script budget work buffer r k
       read-items is q r k g = ran-as r k (rw (read-as (items is) q) g)
@@ -181,10 +182,7 @@ not-false true h = refl
 not-false false h = sym h
 
 -- the script's items are as the run asks
-pub runnable : (s w : List ℕ) (n : ℕ) (d : Decoded) → isScript s ≡ true → ScriptRead s w (readScript s) d → d ≡ Items n → (is : List Item) × (readScript s ≡ items is) × Runnable s w n is
+pub runnable : (s w : List ℕ) (n : ℕ) (d : Read) → isScript s ≡ true → ScriptRead s w (readScript s) d → d ≡ Read.Done n → (is : List Item) × (readScript s ≡ items is) × Runnable s w n is
 runnable s w n d form h q =
-    let r = items-read s w (readScript s) d h n q in
+    let r = is-done h q in
     (r .0, r .1, record { form = form; start = startable s w n (r .0) form (r .1) (r .2); good = good-commands s form (r .0) (r .1) })
-
-pub unreadable : (s w : List ℕ) (n at : ℕ) (d : Decoded) → ScriptRead s w (readScript s) d → d ≡ Refused-at n at → readScript s ≡ refusedAt n at
-unreadable s w n at d h q = refusal-read s w (readScript s) d h n at q

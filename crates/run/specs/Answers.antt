@@ -2,43 +2,24 @@
 use mathlib.Core.Path.{_≡_}
 use mathlib.Core.List.{List}
 use Prim.Native.Nat.{ℕ, zero, suc}
-use Rattle.definitions.specs.Journal.{journalLength}
 use lib.ListN.{length}
+use Rattle.definitions.specs.Journal.{journalLength}
 use Rattle.definitions.specs.Run.{Answer as Answered, answer, refusal, runAnswer, Outcome, outcome, outcomeFrom, outcomeOf}
+use Rattle.answers.specs.declared.Answer.{Answer as Read}
+use Rattle.answers.specs.Answers.{numberOf, placeOf}
+use Rattle.run.specs.declared.values.Values.{Values}
 use Rattle.run.specs.declared.Answer.{Answer}
 use Rattle.run.specs.declared.Answer.the-variants.{Done, Stopped, Refused}
 
--- "A run ends done (0), stopped or refused"
-unfoldable pub numberOf : Answer → ℕ
-numberOf (Done steps furthest length) = 0
-numberOf (Stopped number steps furthest length place) = number
-numberOf (Refused number place) = number
-
--- "Refused: .. steps, furthest and length are 0"
-unfoldable pub stepsOf : Answer → ℕ
-stepsOf (Done steps furthest length) = steps
-stepsOf (Stopped number steps furthest length place) = steps
-stepsOf (Refused number place) = 0
-
-unfoldable pub furthestOf : Answer → ℕ
-furthestOf (Done steps furthest length) = furthest
-furthestOf (Stopped number steps furthest length place) = furthest
-furthestOf (Refused number place) = 0
-
-unfoldable pub lengthOf : Answer → ℕ
-lengthOf (Done steps furthest length) = length
-lengthOf (Stopped number steps furthest length place) = length
-lengthOf (Refused number place) = 0
-
--- "Done, and 7 to 9, have place 0"
-unfoldable pub placeOf : Answer → ℕ
-placeOf (Done steps furthest length) = 0
-placeOf (Stopped number steps furthest length place) = place
-placeOf (Refused number place) = place
+-- "A run ends done (0), stopped or refused"; "Refused: .. steps, furthest and length are 0"; "Done .. have place 0"
+unfoldable pub valuesOf : Answer → Values
+valuesOf (Done steps furthest length) = record { number = 0; steps = steps; furthest = furthest; length = length; place = 0 }
+valuesOf (Stopped number steps furthest length place) = record { number = number; steps = steps; furthest = furthest; length = length; place = place }
+valuesOf (Refused number place) = record { number = number; steps = 0; furthest = 0; length = 0; place = place }
 
 -- the five values, and the bytes of the journal buffer
-unfoldable pub outcomeWith : Answer → List ℕ → Outcome
-outcomeWith a bytes = outcome (numberOf a) (stepsOf a) (furthestOf a) (lengthOf a) (placeOf a) bytes
+unfoldable pub outcomeWith : Values → List ℕ → Outcome
+outcomeWith v bytes = outcome (v .number) (v .steps) (v .furthest) (v .length) (v .place) bytes
 
 -- which case an answer is
 unfoldable pub caseOf : Answered → Answer
@@ -46,12 +27,16 @@ caseOf (answer zero steps furthest place j) = Done steps furthest (journalLength
 caseOf (answer (suc n) steps furthest place j) = Stopped (suc n) steps furthest (journalLength j) place
 caseOf (refusal number place) = Refused number place
 
+-- the refusal that the script's reader gives, with its number and place
+unfoldable pub refusedBy : Read → Answer
+refusedBy read = Refused (numberOf read) (placeOf read)
+
 -- the answer r and the bytes of the journal buffer afterwards are those of `a`
 pub record Gives (buffer : List ℕ) (a : Answered) (r : Answer) (bytes : List ℕ) : Type 0 where
-  pub values : outcomeWith r bytes ≡ outcomeFrom buffer a
+  pub values : outcomeWith (valuesOf r) bytes ≡ outcomeFrom buffer a
   pub case : r ≡ caseOf a
 
 -- what `run` answers, and the bytes of the journal buffer afterwards: the values are document 01's, and the case says which end it was
 pub record Ran (table script : List ℕ) (budget work : ℕ) (buffer : List ℕ) (r : Answer) (bytes : List ℕ) : Type 0 where
-  pub values : outcomeWith r bytes ≡ outcomeOf table script budget work buffer
+  pub values : outcomeWith (valuesOf r) bytes ≡ outcomeOf table script budget work buffer
   pub case : r ≡ caseOf (runAnswer table script budget work (length buffer))

@@ -1,51 +1,69 @@
--- Demand 3 as a caller of `run` sees it: the answer's values and the bytes of the journal buffer. The terms are those of the definitions' demand 3.
+-- Demand 3 of the code: what a caller of `run` sees, the answer's values and the bytes of the journal buffer. One statement, with the terms of document 01
+-- ("Tables and the journal", from "In demand 3").
 use mathlib.Core.Path.{_≡_}
 use mathlib.Core.Option.{some}
 use mathlib.Core.List.{List, map}
 use Prim.Native.Nat.{ℕ, _-_, _≤_}
 use lib.ListN.{length, take, drop, replicate}
-use Rattle.definitions.specs.Bytes.{linesOf}
+use Rattle.definitions.specs.Bytes.{linesOf, linesBytes}
 use Rattle.definitions.specs.Journal.{Record, kept, oldSide, upToLine, afterLine, recordsOf}
 use Rattle.theorems.specs.Demand3.{Agree}
-use Rattle.run.specs.Answers.{numberOf, stepsOf, furthestOf, lengthOf, placeOf, Ran}
+use Rattle.run.specs.Answers.{valuesOf, Ran}
 use Rattle.run.specs.declared.Answer.{Answer}
 use Rattle.run.specs.declared.Answer.the-variants.{Done, Stopped, Refused}
 
--- the call was not refused
+-- ---- the terms. `Agree` is the definitions': "Two tables agree up to a line if both have that source line and no line up to it, itself included, differs"
+
+-- "a table, script, budget, work area and journal buffer together" are accepted "if their run is not refused"
 unfoldable pub Accepted : Answer → Type 0
 Accepted (Done steps furthest length) = Unit {0}
 Accepted (Stopped number steps furthest length place) = Unit {0}
 Accepted (Refused number place) = ⊥
 
--- the journal of a call: what the buffer's first bytes, so many as the answer says, read back to
+-- "A journal is a list of records": the buffer's first bytes, so many as the answer says, are the journal j
 abbrev pub JournalIs : Answer → List ℕ → List Record → Type 0
-JournalIs r bytes j = recordsOf (take (lengthOf r) bytes) ≡ some j
+JournalIs r bytes j = recordsOf (take (valuesOf r .length) bytes) ≡ some j
 
 -- "Stopping on a full journal is 26"
 abbrev pub NotFull : Answer → Type 0
-NotFull r = numberOf r ≡ 26 → ⊥
+NotFull r = valuesOf r .number ≡ 26 → ⊥
 
--- two calls that do not differ up to source line f
+-- two calls that do not differ up to source line f: number, place, steps, furthest line, and "the journal up to a line"
 pub record SameUpTo (f : ℕ) (r : Answer) (j : List Record) (r₂ : Answer) (j₂ : List Record) : Type 0 where
-  pub number : numberOf r₂ ≡ numberOf r
-  pub place : placeOf r₂ ≡ placeOf r
-  pub steps : stepsOf r₂ ≡ stepsOf r
-  pub furthest : furthestOf r₂ ≡ furthestOf r
+  pub number : valuesOf r₂ .number ≡ valuesOf r .number
+  pub place : valuesOf r₂ .place ≡ valuesOf r .place
+  pub steps : valuesOf r₂ .steps ≡ valuesOf r .steps
+  pub furthest : valuesOf r₂ .furthest ≡ valuesOf r .furthest
   pub journal : upToLine f j₂ ≡ upToLine f j
 
--- what holds of every accepted call of `run`
+-- what follows the journal up to source line f: the table's lines after line f, as kept, each once and in order, and nothing else
+abbrev pub KeptAfter : ℕ → List ℕ → List Record → Type 0
+KeptAfter f table j = afterLine f j ≡ map kept (drop f (linesOf table))
+
+-- ---- the statement
+
+-- what holds of a call of `run` that answers r and leaves `bytes` in the journal buffer
 pub record Demand3 (table script : List ℕ) (budget : ℕ) (buffer : List ℕ) (r : Answer) (bytes : List ℕ) : Type 0 where
-  -- the journal is read back from the buffer, and the bytes past it are 0
+  -- the buffer begins with a journal
   pub journal : List Record
   pub read : JournalIs r bytes journal
-  pub fits : lengthOf r ≤ length buffer
-  pub past : drop (lengthOf r) bytes ≡ replicate (length buffer - lengthOf r) 0
-  -- its old side is exactly the table
+  pub fits : valuesOf r .length ≤ length buffer
+  -- "After a run that is not refused, the journal buffer's bytes past the journal are 0"
+  pub past : drop (valuesOf r .length) bytes ≡ replicate (length buffer - valuesOf r .length) 0
+  -- the old side of the journal is exactly the table, line by line and byte by byte
   pub old : oldSide journal ≡ linesOf table
+  pub old-bytes : linesBytes (oldSide journal) ≡ table
   -- no source line beyond the furthest line read is marked other than kept
-  pub after : afterLine (furthestOf r) journal ≡ map kept (drop (furthestOf r) (linesOf table))
-  -- a table that agrees up to that line has the same end and the same journal up to it, and after it only its own lines, kept
+  pub after : KeptAfter (valuesOf r .furthest) table journal
+  -- Any other accepted call with a table that agrees with this one up to the furthest line read, the same script and budget, any work area and any journal
+  -- buffer, has the same end and the same journal up to that line, and after it only its own lines, kept; if neither run stops on a full journal.
   pub agreeing : (table₂ : List ℕ) (work₂ : ℕ) (buffer₂ : List ℕ) (r₂ : Answer) (bytes₂ : List ℕ) (journal₂ : List Record)
       → Ran table₂ script budget work₂ buffer₂ r₂ bytes₂ → Accepted r₂ → JournalIs r₂ bytes₂ journal₂
-      → Agree (furthestOf r) (linesOf table) (linesOf table₂) → NotFull r → NotFull r₂
-      → SameUpTo (furthestOf r) r journal r₂ journal₂ × (afterLine (furthestOf r) journal₂ ≡ map kept (drop (furthestOf r) (linesOf table₂)))
+      → Agree (valuesOf r .furthest) (linesOf table) (linesOf table₂) → NotFull r → NotFull r₂
+      → SameUpTo (valuesOf r .furthest) r journal r₂ journal₂ × KeptAfter (valuesOf r .furthest) table₂ journal₂
+
+-- DEMAND 3 of `run`: all this of every call, by its contract `Ran`, that is not refused
+abbrev pub DemandThree : Type 0
+DemandThree =
+    (table script : List ℕ) (budget work : ℕ) (buffer : List ℕ) (r : Answer) (bytes : List ℕ)
+    → Ran table script budget work buffer r bytes → Accepted r → Demand3 table script budget buffer r bytes

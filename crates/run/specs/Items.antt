@@ -2,15 +2,18 @@
 use mathlib.Core.Path.{_≡_}
 use mathlib.Core.Bool.{true}
 use mathlib.Core.List.{List, []}
-use Prim.Native.Nat.{ℕ}
-use Rattle.definitions.specs.Table.{isScript}
+use Prim.Native.Nat.{ℕ, _≤_}
+use lib.ListN.{length}
+use Rattle.definitions.specs.Bytes.{linesOf}
+use Rattle.definitions.specs.Table.{isTable, isScript}
 use Rattle.definitions.specs.Tape.{Tape}
 use Rattle.definitions.specs.Given.{Carried}
 use Rattle.definitions.specs.Editor.{Ed}
 use Rattle.definitions.specs.StepProgram.{state, textOf}
 use Rattle.definitions.specs.Edit.{step}
 use Rattle.definitions.specs.Control.{Item, running}
-use Rattle.definitions.specs.Run.{End, end, run, Answer as Answered}
+use Rattle.definitions.specs.Script.{items as items-of}
+use Rattle.definitions.specs.Run.{End, end, run, openingLength, ranItems, ranScript}
 use Rattle.theorems.specs.GoodItems.{goodOp}
 use Rattle.theorems.specs.Runs.{ItemsOf}
 use Rattle.control.specs.Items.{Startable}
@@ -42,6 +45,20 @@ RunsItems script w last budget table j st k r =
     → EndsAs k r (run (step (lent j)) budget 0 (running items []) (state e c) t))
     × (r .number ≡ 0 → r .place ≡ 0)
 
--- what a function answers that ran the items below `last`, and the bytes of the journal buffer afterwards; `answers` says what a run of items comes to
-abbrev pub GivesItems : List ℕ → List ℕ → ℕ → List ℕ → (List Item → Answered) → Answer → List ℕ → Type 0
-GivesItems script w last buffer answers r bytes = (is : List Item) → Runnable script w last is → Gives buffer (answers is) r bytes
+-- there are such items, and the budget is document 01's: "Budgets are 0 to 4,294,967,295"
+abbrev pub CanRun : List ℕ → List ℕ → ℕ → ℕ → Type 0
+CanRun script w last budget = ((items : List Item) × Runnable script w last items) × (budget ≤ 4294967295)
+
+-- the table has its form, and its opening journal fits the buffer
+abbrev pub Opening : List ℕ → List ℕ → Type 0
+Opening table buffer = (isTable table ≡ true) × (openingLength (linesOf table) ≤ length buffer)
+
+-- what a function answers that ran the items below `last`, and the bytes of the journal buffer afterwards: those of the run over the table's lines
+abbrev pub GivesTable : List ℕ → List ℕ → ℕ → ℕ → List ℕ → List ℕ → Answer → List ℕ → Type 0
+GivesTable script w last budget table buffer r bytes =
+    (is : List Item) → Runnable script w last is → Gives buffer (ranItems (step (lent buffer)) budget is (linesOf table)) r bytes
+
+-- the same of any bytes as the table, 7 and 9 tested
+abbrev pub GivesScript : List ℕ → List ℕ → ℕ → ℕ → List ℕ → List ℕ → Answer → List ℕ → Type 0
+GivesScript script w last budget table buffer r bytes =
+    (is : List Item) → Runnable script w last is → Gives buffer (ranScript table budget (length buffer) (items-of is)) r bytes

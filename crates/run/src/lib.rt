@@ -3,22 +3,15 @@ mod items;
 pub mod values;
 
 ghost use mathlib.Core.Path.{_≡_};
-ghost use mathlib.Core.Bool.{true};
-ghost use mathlib.Core.List.{List};
 ghost use Prim.Native.Nat.{_+_, _*_, _≤_};
 ghost use lib.ListN.{length};
 ghost use lib.Dec.{leb};
-ghost use Rattle.definitions.specs.Bytes.{linesOf};
-ghost use Rattle.definitions.specs.Table.{isTable};
-ghost use Rattle.definitions.specs.Edit.{step};
-ghost use Rattle.definitions.specs.Control.{Item};
-ghost use Rattle.definitions.specs.Script.{items as «items-of»};
-ghost use Rattle.definitions.specs.Run.{openingLength, ranItems, ranScript};
-ghost use Rattle.editor.specs.Shows.{lent};
-ghost use Rattle.run.specs.Answers.{Ran};
-ghost use Rattle.run.specs.Items.{Runnable, GivesItems};
+ghost use Rattle.run.specs.Answers.{refusedBy, Ran};
+ghost use Rattle.run.specs.Items.{CanRun, Opening, GivesTable, GivesScript};
+use answers::Answer as Read;
+use answers::number;
+use answers::place;
 use items::run_items;
-use script::Decoded;
 use text::Form;
 
 // How a run ends: done, stopped or refused.
@@ -64,8 +57,8 @@ fn run_table(
     end: usize,
     journal: &mut [u8],
 ) -> Answer
-    requires { ⌜ (isTable (now table) ≡ true) × (openingLength (linesOf (now table)) ≤ length (now journal)) × ((is : List Item) × Runnable (now script) (now work) end is) × (budget ≤ 4294967295) ⌝ }
-    ensures { λ r. ⌜ GivesItems (now (script .entry)) (now (work .entry)) end (now (journal .entry)) (λ is. ranItems (step (lent (now (journal .entry)))) budget is (linesOf (now (table .entry)))) r (now (journal .exit)) ⌝ }
+    requires { ⌜ Opening (now table) (now journal) × CanRun (now script) (now work) end budget ⌝ }
+    ensures { λ r. ⌜ GivesTable (now (script .entry)) (now (work .entry)) end budget (now (table .entry)) (now (journal .entry)) r (now (journal .exit)) ⌝ }
 {
     let st = editor::ends::open_journal(table, journal);
     let ended = run_items(script, table, work, end, budget, journal, st);
@@ -99,8 +92,8 @@ fn run_decoded(
     end: usize,
     journal: &mut [u8],
 ) -> Answer
-    requires { ⌜ ((is : List Item) × Runnable (now script) (now work) end is) × (budget ≤ 4294967295) ⌝ }
-    ensures { λ r. ⌜ GivesItems (now (script .entry)) (now (work .entry)) end (now (journal .entry)) (λ is. ranScript (now (table .entry)) budget (length (now (journal .entry))) («items-of» is)) r (now (journal .exit)) ⌝ }
+    requires { ⌜ CanRun (now script) (now work) end budget ⌝ }
+    ensures { λ r. ⌜ GivesScript (now (script .entry)) (now (work .entry)) end budget (now (table .entry)) (now (journal .entry)) r (now (journal .exit)) ⌝ }
 {
     let form = text::table_form(table);
     let Form::Lines(lines) = form else {
@@ -115,6 +108,16 @@ fn run_decoded(
     Answer::Refused {
         number: 9,
         place: 0,
+    }
+}
+
+// The refusal of a script that does not decode, with the reader's number and place.
+fn refused(decoded: Read) -> Answer
+    ensures { λ r. ⌜ r ≡ refusedBy decoded ⌝ }
+{
+    Answer::Refused {
+        number: number(decoded) as usize,
+        place: place(decoded),
     }
 }
 
@@ -136,11 +139,8 @@ pub fn run(table: &[u8], script: &[u8], budget: u32, work: &mut [u32], journal: 
         };
     }
     let decoded = script::read_script(script, work);
-    match decoded {
-        Decoded::Items(end) => run_decoded(table, script, budget as usize, work, end, journal),
-        Decoded::Refused(n, place) => Answer::Refused {
-            number: n as usize,
-            place,
-        },
-    }
+    let Read::Done(end) = decoded else {
+        return refused(decoded);
+    };
+    run_decoded(table, script, budget as usize, work, end, journal)
 }

@@ -1,109 +1,52 @@
-// The values of an answer, one by one.
+// Document 01's values of an answer.
 ghost use mathlib.Core.Path.{_≡_};
-ghost use Rattle.run.specs.Answers.{numberOf, stepsOf, furthestOf, lengthOf, placeOf};
+ghost use Rattle.run.specs.Answers.{valuesOf};
 use crate::Answer;
 
-// Document 01's number: 0 is done.
-pub fn number(a: Answer) -> usize
-    ensures { λ r. ⌜ r ≡ numberOf a ⌝ }
-{
-    match a {
-        Answer::Done {
-            steps,
-            furthest,
-            length,
-        } => 0,
-        Answer::Stopped {
-            number,
-            steps,
-            furthest,
-            length,
-            place,
-        } => number,
-        Answer::Refused { number, place } => number,
-    }
+// Number, steps, furthest source line read, the journal's length, and the place in the script.
+pub struct Values {
+    pub number: usize,
+    pub steps: usize,
+    pub furthest: usize,
+    pub length: usize,
+    pub place: usize,
 }
 
-// The steps that were made.
-pub fn steps(a: Answer) -> usize
-    ensures { λ r. ⌜ r ≡ stepsOf a ⌝ }
+// The values of an answer. Done, number and place are 0; refused, steps, furthest line and length are.
+pub fn of(a: Answer) -> Values
+    ensures { λ r. ⌜ r ≡ valuesOf a ⌝ }
 {
     match a {
         Answer::Done {
             steps,
             furthest,
             length,
-        } => steps,
+        } => Values {
+            number: 0,
+            steps,
+            furthest,
+            length,
+            place: 0,
+        },
         Answer::Stopped {
             number,
             steps,
             furthest,
             length,
             place,
-        } => steps,
-        Answer::Refused { number, place } => 0,
-    }
-}
-
-// The furthest source line read.
-pub fn furthest(a: Answer) -> usize
-    ensures { λ r. ⌜ r ≡ furthestOf a ⌝ }
-{
-    match a {
-        Answer::Done {
-            steps,
-            furthest,
-            length,
-        } => furthest,
-        Answer::Stopped {
+        } => Values {
             number,
             steps,
             furthest,
             length,
             place,
-        } => furthest,
-        Answer::Refused { number, place } => 0,
-    }
-}
-
-// The journal's length.
-pub fn length(a: Answer) -> usize
-    ensures { λ r. ⌜ r ≡ lengthOf a ⌝ }
-{
-    match a {
-        Answer::Done {
-            steps,
-            furthest,
-            length,
-        } => length,
-        Answer::Stopped {
+        },
+        Answer::Refused { number, place } => Values {
             number,
-            steps,
-            furthest,
-            length,
+            steps: 0,
+            furthest: 0,
+            length: 0,
             place,
-        } => length,
-        Answer::Refused { number, place } => 0,
-    }
-}
-
-// The place in the script; 0 where done.
-pub fn place(a: Answer) -> usize
-    ensures { λ r. ⌜ r ≡ placeOf a ⌝ }
-{
-    match a {
-        Answer::Done {
-            steps,
-            furthest,
-            length,
-        } => 0,
-        Answer::Stopped {
-            number,
-            steps,
-            furthest,
-            length,
-            place,
-        } => place,
-        Answer::Refused { number, place } => place,
+        },
     }
 }

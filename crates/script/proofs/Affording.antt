@@ -172,10 +172,10 @@ module _ {s : List ℕ} {at k due others depth : ℕ} {acc : List Item} (a : Aff
           spare = λ pos digit. omega arith;
         }
 
-    -- ELSE, before p, and its `(`
-    pub affords-else : (p : ℕ) → at < p → Affords s (p + 1) (k + 2) 0 others depth (bracket ∷ otherwise ∷ acc)
+    -- ELSE, and its `(` at the place
+    pub affords-else : Affords s (at + 1) (k + 2) 0 others depth (bracket ∷ otherwise ∷ acc)
     unfolding openIn mostIn openAfter
-    affords-else p after = record {
+    affords-else = record {
       opened = omega (arith, a .opened);
       most = a .most;
       so-far = omega (arith, a .so-far, open-low acc);

@@ -2,7 +2,7 @@
 use mathlib.Core.Path.{_≡_, refl, ap}
 use mathlib.Core.Bool.{Bool, true, false, not}
 use mathlib.Core.List.{List}
-use Prim.Native.Nat.{ℕ, zero, suc, _+_, _-_, _≤_, _<_}
+use Prim.Native.Nat.{ℕ, zero, suc, _+_, _≤_, _<_}
 use native.Mathlib.Omega.{arith}
 use lib.ListN.{length, set}
 use lib.Dec.{eqb}
@@ -12,6 +12,9 @@ use Rattle.definitions.specs.Control.{Item, simple, opens, leave, forever, bran
 use Rattle.definitions.specs.Reader.{Cursor, got, refused, Token, token}
 use Rattle.definitions.specs.Commands.{prefix, moves, deletes, seeks, insertsString, insertsLines, replaces, alters, points, branches, loops, skipThen, shapeOf, decode}
 use Rattle.definitions.specs.Script.{Due, Group, isInGroup, decoded, named, countRead}
+use Rattle.answers.specs.declared.Answer.{Answer}
+use Rattle.answers.specs.declared.Follow.{Follow}
+use Rattle.answers.specs.declared.State.{State}
 use Rattle.lexer.specs.Places.{cursorAt}
 use Rattle.lexer.specs.Shapes.{plainOf, seekOf, changeOf, shapeIn}
 use Rattle.lexer.specs.declared.shapes.Plain.{Plain as PlainHere}
@@ -25,12 +28,10 @@ use Rattle.items.specs.Depth.{openAfter}
 use Rattle.script.specs.Reading.{groupsIn, ReadSoFar, CommandRoom, CommandRead, counted}
 use Rattle.script.specs.Commands.{plainKind}
 use Rattle.script.specs.Searches.{NameOf}
-use Rattle.script.specs.declared.State.{State}
-use Rattle.script.specs.declared.Command.{Command}
 use Rattle.script.proofs.Items.{one-is, named-apart, whole-one, prefix-one, plain-item}
 
-pub room-of : (s w : List ℕ) (st : State) (acc : List Item) (next : ℕ) → ReadSoFar s w st acc → st .at < next → next ≤ length s → CommandRoom s w (st .at) next (st .k)
-room-of s w st acc next h less to = record { named = less; inside = to; room = omega (arith, h .affords .room, h .deep, h .inside); fits = h .fits }
+pub room-of : (s w : List ℕ) (st : State) (at : ℕ) (acc : List Item) (next : ℕ) → ReadSoFar s w st at acc → at < next → next ≤ length s → CommandRoom s w at next (st .k)
+room-of s w st at acc next h less to = record { named = less; inside = to; room = omega (arith, h .affords .room, h .deep, h .inside); fits = h .fits }
 
 -- ---- by shape
 
@@ -95,24 +96,24 @@ pub long-loop : (shape : ShapeHere) (place at : ℕ) (b : Bool) → shape ≡ Lo
 unfolding NameOf
 long-loop shape place at b e h = rw e at h
 
-module _ (s w w' : List ℕ) (place at k : ℕ) (r : CommandRoom s w place at k) (g : Bool) (shape : ShapeHere) (x : Command) where
+module _ (s w w' : List ℕ) (place at k : ℕ) (r : CommandRoom s w place at k) (g : Bool) (shape : ShapeHere) (x : Answer) where
   room : k + 16 < length w
   room = omega (arith, r .room, r .fits .work)
 
-  pub plain-written : (p : PlainHere) (kind : ℕ) → shape ≡ Plain p → kind ≡ plainKind p → (w' ≡ set w k (head kind place)) × (x ≡ Command.Whole at (k + 1))
+  pub plain-written : (p : PlainHere) (kind : ℕ) → shape ≡ Plain p → kind ≡ plainKind p → (w' ≡ set w k (head kind place)) × (x ≡ Answer.Command Follow.Nothing at (k + 1))
       → CommandRead s w w' place k (decode g place (shapeIn shape) (cursorAt s at)) x
   unfolding decode shapeIn openAfter
   plain-written p kind e is (we, xe) = rw (e, we, xe, is)
       (whole-one s w place at k r (decode g place (shapeIn (Plain p)) (cursorAt s at)) (simple place (plainOf p)) at (omega arith) (r .inside) (λ n. omega arith) (head (plainKind p) place) refl
       (plain-item s (set w k (head (plainKind p) place)) k place p (one-is w k (head (plainKind p) place) room)))
 
-  pub leaves-written : shape ≡ Leaves → (w' ≡ set w k (head leaveKind place)) × (x ≡ Command.Whole at (k + 1)) → CommandRead s w w' place k (decode g place (shapeIn shape) (cursorAt s at)) x
+  pub leaves-written : shape ≡ Leaves → (w' ≡ set w k (head leaveKind place)) × (x ≡ Answer.Command Follow.Nothing at (k + 1)) → CommandRead s w w' place k (decode g place (shapeIn shape) (cursorAt s at)) x
   unfolding decode shapeIn ItemAt openAfter
   leaves-written e (we, xe) = rw (e, we, xe)
       (whole-one s w place at k r (decode g place (shapeIn Leaves) (cursorAt s at)) (leave place) at (omega arith) (r .inside) (λ n. omega arith) (head leaveKind place) refl
       (refl, one-is w k (head leaveKind place) room))
 
-  pub repeats-written : shape ≡ Repeats → NameOf shape place at → (w' ≡ set w k (head repeatKind place)) × (x ≡ Command.Prefix false at (k + 1)) → CommandRead s w w' place k (decode g place (shapeIn shape) (cursorAt s at)) x
+  pub repeats-written : shape ≡ Repeats → NameOf shape place at → (w' ≡ set w k (head repeatKind place)) × (x ≡ Answer.Command (Follow.Body false) at (k + 1)) → CommandRead s w w' place k (decode g place (shapeIn shape) (cursorAt s at)) x
   unfolding decode shapeIn ItemAt OpenerAt openAfter
   repeats-written e long (we, xe) =
       let far = long-repeat shape place at e long in
@@ -121,7 +122,7 @@ module _ (s w w' : List ℕ) (place at k : ℕ) (r : CommandRoom s w place at k)
       (refl, one-is w k (head repeatKind place) room))
 
   pub eof-written : (next : ℕ) → shape ≡ BranchesEof → NameOf shape place at → skipThen (cursorAt s at) ≡ cursorAt s next → at ≤ next → next ≤ length s
-      → (w' ≡ set w k (head ifEofKind place)) × (x ≡ Command.Prefix true next (k + 1)) → CommandRead s w w' place k (decode g place (shapeIn shape) (cursorAt s at)) x
+      → (w' ≡ set w k (head ifEofKind place)) × (x ≡ Answer.Command (Follow.Body true) next (k + 1)) → CommandRead s w w' place k (decode g place (shapeIn shape) (cursorAt s at)) x
   unfolding decode shapeIn ItemAt OpenerAt openAfter
   eof-written next e long then from to (we, xe) =
       let far = long-eof shape place at e long in

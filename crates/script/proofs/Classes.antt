@@ -2,7 +2,7 @@
 use mathlib.Core.Path.{_≡_, _∙_}
 use mathlib.Core.Bool.{true, false}
 use mathlib.Core.List.{List}
-use Prim.Native.Nat.{ℕ, _+_, _-_, _≤_, _<_}
+use Prim.Native.Nat.{ℕ, _+_, _≤_, _<_}
 use native.Mathlib.Omega.{arith}
 use lib.ListN.{length, getD, drop-of-length-le}
 use lib.Seq.{drop-cons}
@@ -11,12 +11,13 @@ use Rattle.definitions.specs.Bytes.{isDigit, isLetter}
 use Rattle.definitions.specs.Control.{Item}
 use Rattle.definitions.specs.Reader.{placeAt, skipSpaces, skipComment, token, digits, name}
 use Rattle.definitions.specs.Script.{Due, Group, AfterRound, done, openGroup, closeGroup, separator, lineItems, scriptEnd, countRead, named, classOf, byClass, readAt, readOne}
+use Rattle.answers.specs.declared.Answer.{Answer}
+use Rattle.answers.specs.declared.State.{State}
+use Rattle.answers.specs.Answers.{RoundOr}
 use Rattle.lexer.specs.Places.{cursorAt}
 use Rattle.lexer.proofs.AtPlace.{next-in, after-in}
 use Rattle.lexer.proofs.Blanks.{comment-more}
 use Rattle.script.specs.Reading.{dueOf, groupsIn, readingOf, ReadSoFar, RoundRead}
-use Rattle.script.specs.declared.State.{State}
-use Rattle.script.specs.declared.Step.{Step}
 use Rattle.script.proofs.Affording.{affords-on}
 
 module _ (due : Due) (groups : List Group) (acc : List Item) (s : List ℕ) (at : ℕ) where
@@ -70,17 +71,15 @@ module _ (due : Due) (groups : List Group) (acc : List Item) (s : List ℕ) (at 
 
 -- ---- after the spaces
 
-module _ (s w : List ℕ) (st : State) (acc : List Item) (i : ℕ) where
-  pub past-spaces : skipSpaces (cursorAt s (st .at)) ≡ cursorAt s i
-      → readOne (readingOf s w st acc) ≡ readAt (dueOf (st .due) (st .elses)) (groupsIn w (st .depth)) acc (cursorAt s i)
+module _ (s w : List ℕ) (st : State) (at : ℕ) (acc : List Item) (i : ℕ) where
+  pub past-spaces : skipSpaces (cursorAt s at) ≡ cursorAt s i → readOne (readingOf s w st at acc) ≡ readAt (dueOf (st .due) (st .elses)) (groupsIn w (st .depth)) acc (cursorAt s i)
   unfolding readOne readingOf
   past-spaces e = rw e
 
-  pub stands-on : ReadSoFar s w st acc → st .at ≤ i → i ≤ length s → ReadSoFar s w (record { at = i; k = st .k; due = st .due; elses = st .elses; depth = st .depth }) acc
-  stands-on h from to = record { inside = to; deep = h .deep; gathered = h .gathered; affords = affords-on (h .affords) i from; fits = h .fits }
+  pub stands-on : ReadSoFar s w st at acc → at ≤ i → i ≤ length s → ReadSoFar s w st i acc
+  stands-on h from to = record { inside = to; deep = h .deep; no-body = h .no-body; gathered = h .gathered; affords = affords-on (h .affords) i from; fits = h .fits }
 
-pub comes-from : (s w : List ℕ) (at i : ℕ) (x : AfterRound) (r : Step) → at ≤ i → RoundRead s w i x r → RoundRead s w at x r
-unfolding RoundRead
-comes-from s w at i x (Step.More st) le (acc, e, h, far) = (acc, e, h, omega arith)
-comes-from s w at i x (Step.Done n) le h = h
-comes-from s w at i x (Step.Refused n p) le h = h
+pub comes-from : (s w : List ℕ) (at i : ℕ) (x : AfterRound) (r : Answer) → at ≤ i → RoundRead s w i x r → RoundRead s w at x r
+comes-from s w at i x r le (RoundOr.more st next (acc, e, h, far)) = RoundOr.more st next (acc, e, h, omega arith)
+comes-from s w at i x r le (RoundOr.done n h) = RoundOr.done n h
+comes-from s w at i x r le (RoundOr.refused n p h) = RoundOr.refused n p h

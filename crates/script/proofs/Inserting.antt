@@ -2,7 +2,7 @@
 use mathlib.Core.Path.{_≡_, refl, sym, ap, _∙_}
 use mathlib.Core.Logic.{inl, inr}
 use mathlib.Core.Bool.{Bool, true, false, cond}
-use mathlib.Core.Option.{Option, none, some}
+use mathlib.Core.Option.{none, some}
 use mathlib.Core.List.{List, [], _∷_}
 use Prim.Native.Nat.{ℕ, suc, _+_, _-_, _≤_, _<_}
 use native.Mathlib.Omega.{arith}
@@ -10,28 +10,26 @@ use lib.ListN.{length, take, drop, getD, set, length-set, length-drop}
 use lib.Seq.{getD-set-same, getD-set-other, length-take-le}
 use lib.Dec.{eqb}
 use borrow.Author.Tests.{eqb-false}
-use Rattle.definitions.specs.Bytes.{Line, linesOf}
-use Rattle.definitions.specs.Editor.{Target}
+use Rattle.definitions.specs.Bytes.{Line}
 use Rattle.definitions.specs.Edit.{insert, replace}
 use Rattle.definitions.specs.Control.{Item, simple}
-use Rattle.definitions.specs.Reader.{Got, got, andThen, skipSpaces, quoted}
-use Rattle.definitions.specs.Commands.{Decoded, whole, insertsString, insertsLines, replaces, Span, lineSpan, optionalTarget, scriptLines, replaceOp, decode}
+use Rattle.definitions.specs.Reader.{Got, got, refused, andThen, skipSpaces, quoted}
+use Rattle.definitions.specs.Commands.{Decoded, whole, insertsString, insertsLines, replaces, lineSpan, optionalTarget, scriptLines, replaceOp, decode}
+use Rattle.answers.specs.declared.Answer.{Answer}
+use Rattle.answers.specs.declared.Follow.{Follow}
+use Rattle.answers.specs.Answers.{CommandOr}
 use Rattle.lexer.specs.Places.{cursorAt}
-use Rattle.lexer.specs.Answers.{answers, answersTwo}
+use Rattle.lexer.specs.Answers.{TwoAt, QuotedRead}
 use Rattle.lexer.specs.Targets.{targetOf, throughOf, spanOf, optionOf}
 use Rattle.lexer.specs.Inserted.{linesTo}
-use Rattle.lexer.proofs.Given.{given-is, given-are}
-use Rattle.lexer.specs.declared.Answer.{Answer}
-use Rattle.lexer.specs.declared.Two.{Two}
+use Rattle.lexer.proofs.Given.{goes-on, passed-up}
 use Rattle.items.specs.Kinds.{insertStringKind, insertLinesKind, replaceKind}
 use Rattle.items.specs.Words.{head, spotCode, partOf, StringIn, LinesIn, OpAt, ItemAt, headWith, stringWord}
 use Rattle.items.specs.Depth.{openAfter}
-use Rattle.script.specs.Reading.{CommandRoom, Unwritten, UnwrittenBy, CommandIs, CommandRead}
-use Rattle.script.specs.Commands.{refusedBy, refusedByTwo}
+use Rattle.script.specs.Reading.{CommandRoom, Unwritten, CommandIs, CommandRead}
 use Rattle.items.specs.Arguments.{spanNumber, spanWord, spotWord}
-use Rattle.script.specs.declared.Command.{Command}
 use Rattle.script.proofs.Keeping.{kept-set}
-use Rattle.script.proofs.Items.{two-stay, first-is, second-is, upward, upward-two, whole-two, target-code}
+use Rattle.script.proofs.Items.{two-stay, first-is, second-is, whole-two, target-code}
 use Rattle.script.proofs.LineSpans.{span-item}
 
 -- ---- parts of the script
@@ -81,29 +79,27 @@ module _ (s w : List ℕ) (place at k : ℕ) (r : CommandRoom s w place at k) wh
 
   pub whole-four : (x : Got Decoded) (i : Item) (next : ℕ) → ((n : ℕ) → openAfter n i ≡ n + 0) → place + 2 ≤ next → next ≤ length s → (a b c d : ℕ) → x ≡ got (whole i) (cursorAt s next)
       → ItemAt s (set (set (set (set w k a) (k + 1) b) (k + 2) c) (k + 3) d) k (k + 4) i
-      → CommandRead s w (set (set (set (set w k a) (k + 1) b) (k + 2) c) (k + 3) d) place k x (Command.Whole next (k + 4))
-  unfolding CommandIs UnwrittenBy
-  whole-four x i next quiet from to a b c d e it = record {
-    kept = four-stay w k a b c d (omega (arith, far));
-    is = (i, e, record { passed = omega arith; inside = to; forth = omega arith; two = omega arith; opening = quiet; item = it });
-  }
+      → CommandRead s w (set (set (set (set w k a) (k + 1) b) (k + 2) c) (k + 3) d) place k x (Answer.Command Follow.Nothing next (k + 4))
+  unfolding CommandIs
+  whole-four x i next quiet from to a b c d e it = CommandOr.read Follow.Nothing next (k + 4) (
+    four-stay w k a b c d (omega (arith, far)),
+    (i, e, record { passed = omega arith; inside = to; forth = omega arith; two = omega arith; opening = quiet; item = it }),
+  )
 
   -- ---- IS
 
-  module _ (i : ℕ) (spaces : skipSpaces (cursorAt s at) ≡ cursorAt s i) (after : at ≤ i) (x : Two) (read : quoted (cursorAt s i) ≡ answersTwo (λ a e. take (e - a) (drop a s)) s x) where
-    pub string-refused : (n p : ℕ) (c : Command) → x ≡ Two.Refused n p → c ≡ refusedByTwo x → CommandRead s w w place k (decode false place insertsString (cursorAt s at)) c
+  module _ (i : ℕ) (spaces : skipSpaces (cursorAt s at) ≡ cursorAt s i) where
+    pub string-refused : (n p : ℕ) → quoted (cursorAt s i) ≡ refused n p → decode false place insertsString (cursorAt s at) ≡ refused n p
     unfolding decode
-    string-refused n p c is by =
-        upward-two s w place k n p (λ a e. take (e - a) (drop a s)) (quoted (skipSpaces (cursorAt s at))) (λ l c₁. got (whole (simple place (insert none (l ∷ [])))) c₁) x c (ap quoted spaces ∙ read) is by
+    string-refused n p e = passed-up (quoted (skipSpaces (cursorAt s at))) _ n p (ap quoted spaces ∙ e)
 
-    pub string-written : (start end next v u : ℕ) → v ≡ head insertStringKind place → u ≡ stringWord start (end - start) → x ≡ Two.Are start end next
-        → (start ≡ suc i) × (start ≤ end) × (end ≤ next) × (next ≤ length s)
-        → CommandRead s w (set (set w k v) (k + 1) u) place k (decode false place insertsString (cursorAt s at)) (Command.Whole next (k + 2))
-    unfolding decode andThen ItemAt OpAt openAfter
-    string-written start end next v u hd wd is (one, le, from, to) =
+    pub string-written : at ≤ i → (start end next v u : ℕ) → v ≡ head insertStringKind place → u ≡ stringWord start (end - start)
+        → TwoAt s (λ a e. take (e - a) (drop a s)) (QuotedRead i) (quoted (cursorAt s i)) start end next
+        → CommandRead s w (set (set w k v) (k + 1) u) place k (decode false place insertsString (cursorAt s at)) (Answer.Command Follow.Nothing next (k + 2))
+    unfolding decode ItemAt OpAt openAfter
+    string-written after start end next v u hd wd (read, (one, le, from), to) =
         whole-two s w place at k r (decode false place insertsString (cursorAt s at)) (simple place (insert none ((take (end - start) (drop start s)) ∷ []))) next (omega arith) to (λ n. omega arith) v u
-        (ap (λ (y : Got Line). andThen y (λ l c₁. got (whole (simple place (insert none (l ∷ [])))) c₁))
-        (ap quoted spaces ∙ given-are (λ a e. take (e - a) (drop a s)) s x (quoted (cursorAt s i)) read start end next is))
+        (goes-on (quoted (skipSpaces (cursorAt s at))) _ (take (end - start) (drop start s)) (cursorAt s next) (ap quoted spaces ∙ read))
         (inl (
           refl,
           first-is w k v u (omega (arith, far)) ∙ hd,
@@ -117,29 +113,25 @@ module _ (s w : List ℕ) (place at k : ℕ) (r : CommandRoom s w place at k) wh
 
   -- ---- I and R: the lines of the script
 
-  module _ (grouped : Bool) (from : ℕ) (y : Two) (lines : scriptLines grouped (cursorAt s from) ≡ answersTwo (linesTo s) s y) (f : List Line → Item) (x : Got Decoded)
+  module _ (grouped : Bool) (from : ℕ) (f : List Line → Item) (x : Got Decoded)
       (is : x ≡ andThen (scriptLines grouped (cursorAt s from)) (λ ls c₂. got (whole (f ls)) c₂)) where
-    pub lines-refused : (n p : ℕ) (c : Command) → y ≡ Two.Refused n p → c ≡ refusedByTwo y → CommandRead s w w place k x c
-    lines-refused n p c e by = rw is (upward-two s w place k n p (linesTo s) (scriptLines grouped (cursorAt s from)) (λ ls c₂. got (whole (f ls)) c₂) y c lines e by)
+    pub lines-refused : (n p : ℕ) → scriptLines grouped (cursorAt s from) ≡ refused n p → x ≡ refused n p
+    lines-refused n p e = is ∙ passed-up (scriptLines grouped (cursorAt s from)) _ n p e
 
-    pub lines-read : (start end next : ℕ) → y ≡ Two.Are start end next → x ≡ got (whole (f (linesTo s start end))) (cursorAt s next)
-    unfolding andThen
-    lines-read start end next e =
-        is ∙ ap (λ (g : Got (List Line)). andThen g (λ ls c₂. got (whole (f ls)) c₂)) (given-are (linesTo s) s y (scriptLines grouped (cursorAt s from)) lines start end next e)
+    pub lines-read : (start end next : ℕ) → scriptLines grouped (cursorAt s from) ≡ got (linesTo s start end) (cursorAt s next)
+        → x ≡ got (whole (f (linesTo s start end))) (cursorAt s next)
+    lines-read start end next e = is ∙ goes-on (scriptLines grouped (cursorAt s from)) _ (linesTo s start end) (cursorAt s next) e
 
   -- I
-  module _ (grouped : Bool) (x : Answer) (read : optionalTarget (cursorAt s at) ≡ answers optionOf s x) where
-    pub spot-refused : (n p : ℕ) (c : Command) → x ≡ Answer.Refused n p → c ≡ refusedBy x → CommandRead s w w place k (decode grouped place insertsLines (cursorAt s at)) c
+  module _ (grouped : Bool) where
+    pub spot-refused : (n p : ℕ) → optionalTarget (cursorAt s at) ≡ refused n p → decode grouped place insertsLines (cursorAt s at) ≡ refused n p
     unfolding decode
-    spot-refused n p c is by =
-        upward s w place k n p optionOf (optionalTarget (cursorAt s at)) (λ a c₁. andThen (scriptLines grouped c₁) (λ ls c₂. got (whole (simple place (insert a ls))) c₂)) x c read is by
+    spot-refused n p e = passed-up (optionalTarget (cursorAt s at)) _ n p e
 
-    pub spot-read : (a from : ℕ) → x ≡ Answer.Is a from → decode grouped place insertsLines (cursorAt s at)
+    pub spot-read : (a from : ℕ) → optionalTarget (cursorAt s at) ≡ got (optionOf a) (cursorAt s from) → decode grouped place insertsLines (cursorAt s at)
         ≡ andThen (scriptLines grouped (cursorAt s from)) (λ ls c₂. got (whole (simple place (insert (optionOf a) ls))) c₂)
-    unfolding decode andThen
-    spot-read a from is =
-        ap (λ (y : Got (Option Target)). andThen y (λ t c₁. andThen (scriptLines grouped c₁) (λ ls c₂. got (whole (simple place (insert t ls))) c₂)))
-        (given-is optionOf s x (optionalTarget (cursorAt s at)) read a from is)
+    unfolding decode
+    spot-read a from e = goes-on (optionalTarget (cursorAt s at)) _ (optionOf a) (cursorAt s from) e
 
   pub spot-code : (a : ℕ) → a ≤ 65537 → spotCode (optionOf a) ≡ spotWord a
   unfolding spotCode optionOf spotWord
@@ -151,7 +143,7 @@ module _ (s w : List ℕ) (place at k : ℕ) (r : CommandRoom s w place at k) wh
 
   pub inserts-written : (x : Got Decoded) (a start end next v u : ℕ) → a ≤ 65537 → v ≡ head insertLinesKind place → u ≡ spotWord a
       → x ≡ got (whole (simple place (insert (optionOf a) (linesTo s start end)))) (cursorAt s next) → at ≤ start → start ≤ end → next ≡ suc end → next ≤ length s
-      → CommandRead s w (set (set (set (set w k v) (k + 1) u) (k + 2) start) (k + 3) end) place k x (Command.Whole next (k + 4))
+      → CommandRead s w (set (set (set (set w k v) (k + 1) u) (k + 2) start) (k + 3) end) place k x (Answer.Command Follow.Nothing next (k + 4))
   unfolding ItemAt OpAt openAfter
   inserts-written x a start end next v u small hd wd e from le nx to =
       whole-four x (simple place (insert (optionOf a) (linesTo s start end))) next (λ n. omega arith) (omega (arith, r .named)) to v u start end e
@@ -167,22 +159,19 @@ module _ (s w : List ℕ) (place at k : ℕ) (r : CommandRoom s w place at k) wh
       room = omega (arith, far)
 
   -- R
-  module _ (grouped : Bool) (x : Two) (read : lineSpan (cursorAt s at) ≡ answersTwo spanOf s x) where
-    pub span-refused : (n p : ℕ) (c : Command) → x ≡ Two.Refused n p → c ≡ refusedByTwo x → CommandRead s w w place k (decode grouped place replaces (cursorAt s at)) c
+  module _ (grouped : Bool) where
+    pub span-refused : (n p : ℕ) → lineSpan (cursorAt s at) ≡ refused n p → decode grouped place replaces (cursorAt s at) ≡ refused n p
     unfolding decode
-    span-refused n p c is by =
-        upward-two s w place k n p spanOf (lineSpan (cursorAt s at)) (λ a c₁. andThen (scriptLines grouped c₁) (λ ls c₂. got (whole (simple place (replaceOp a ls))) c₂)) x c read is by
+    span-refused n p e = passed-up (lineSpan (cursorAt s at)) _ n p e
 
-    pub span-read : (a b from : ℕ) → x ≡ Two.Are a b from → decode grouped place replaces (cursorAt s at)
+    pub span-read : (a b from : ℕ) → lineSpan (cursorAt s at) ≡ got (spanOf a b) (cursorAt s from) → decode grouped place replaces (cursorAt s at)
         ≡ andThen (scriptLines grouped (cursorAt s from)) (λ ls c₂. got (whole (simple place (replace (targetOf a) (throughOf b) ls))) c₂)
-    unfolding decode andThen spanOf replaceOp
-    span-read a b from is =
-        ap (λ (y : Got Span). andThen y (λ t c₁. andThen (scriptLines grouped c₁) (λ ls c₂. got (whole (simple place (replaceOp t ls))) c₂)))
-        (given-are spanOf s x (lineSpan (cursorAt s at)) read a b from is)
+    unfolding decode spanOf replaceOp
+    span-read a b from e = goes-on (lineSpan (cursorAt s at)) _ (spanOf a b) (cursorAt s from) e
 
   pub replaces-written : (x : Got Decoded) (a b start end next v u : ℕ) → a < 65536 → v ≡ headWith replaceKind place (spanNumber b) → u ≡ spanWord a b
       → x ≡ got (whole (simple place (replace (targetOf a) (throughOf b) (linesTo s start end)))) (cursorAt s next) → at ≤ start → start ≤ end → next ≡ suc end → next ≤ length s
-      → CommandRead s w (set (set (set (set w k v) (k + 1) u) (k + 2) start) (k + 3) end) place k x (Command.Whole next (k + 4))
+      → CommandRead s w (set (set (set (set w k v) (k + 1) u) (k + 2) start) (k + 3) end) place k x (Answer.Command Follow.Nothing next (k + 4))
   unfolding ItemAt OpAt openAfter
   replaces-written x a b start end next v u small hd wd e from le nx to =
       whole-four x (simple place (replace (targetOf a) (throughOf b) (linesTo s start end))) next (λ n. omega arith) (omega (arith, r .named)) to v u start end e (

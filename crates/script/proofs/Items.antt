@@ -10,26 +10,27 @@ use lib.Seq.{getD-set-same, getD-set-other}
 use lib.Dec.{eqb}
 use borrow.Author.Tests.{le-leb, lt-leb, eqb-true}
 use Rattle.definitions.specs.Bytes.{isDigit}
-use Rattle.definitions.specs.Editor.{Target, here, line, eof}
+use Rattle.definitions.specs.Editor.{here, line, eof}
 use Rattle.definitions.specs.Edit.{move}
 use Rattle.definitions.specs.Control.{times, Item, simple, opens}
-use Rattle.definitions.specs.Reader.{Cursor, Got, got, refused, andThen, skipSpaces, token, digits}
+use Rattle.definitions.specs.Reader.{Got, got, refused, skipSpaces, token, digits}
 use Rattle.definitions.specs.Commands.{Decoded, whole, prefix, moves, target, decode}
+use Rattle.answers.specs.declared.Answer.{Answer}
+use Rattle.answers.specs.declared.Follow.{Follow}
+use Rattle.answers.specs.Answers.{CommandOr}
 use Rattle.lexer.specs.Places.{cursorAt}
-use Rattle.lexer.specs.Answers.{answers, answersTwo, capped}
+use Rattle.lexer.specs.Answers.{NumberAt, NumberUpTo, capped}
 use Rattle.lexer.specs.Targets.{targetOf}
 use Rattle.lexer.specs.Shapes.{plainOf}
 use Rattle.lexer.proofs.Digits.{capped-small, capped-large}
-use Rattle.lexer.specs.declared.Answer.{Answer}
-use Rattle.lexer.specs.declared.Two.{Two}
+use Rattle.lexer.proofs.Given.{goes-on, passed-up}
 use Rattle.lexer.specs.declared.shapes.Plain.{Plain}
 use Rattle.lexer.specs.declared.shapes.Plain.the-variants.{Next, Previous, Copy, PointStart, Right, Left, CutByte, Lower, Upper, Quit}
 use Rattle.items.specs.Words.{head, targetCode, OpAt, TimesAt, OpenerAt, ItemAt, headWith}
 use Rattle.items.specs.Kinds.{caseKind, moveKind, countKind, longCountKind}
 use Rattle.items.specs.Depth.{openAfter}
-use Rattle.script.specs.Reading.{CommandRoom, Apart, Unwritten, UnwrittenBy, CommandIs, CommandRead, counted}
-use Rattle.script.specs.Commands.{refusedBy, refusedByTwo, plainKind}
-use Rattle.script.specs.declared.Command.{Command}
+use Rattle.script.specs.Reading.{CommandRoom, Apart, Unwritten, CommandIs, CommandRead, counted}
+use Rattle.script.specs.Commands.{plainKind}
 use Rattle.script.proofs.Keeping.{kept-all, kept-set}
 
 -- ---- words one by one
@@ -51,23 +52,6 @@ module _ (w : List ℕ) (k a b : ℕ) (room : k + 17 < length w) where
   pub second-is : getD (set (set w k a) (k + 1) b) (k + 1) 0 ≡ b
   second-is = getD-set-same (set w k a) (k + 1) b 0 (rw (length-set w k a) (omega arith))
 
--- ---- refusals
-
-pub refused-written : (s w w' : List ℕ) (place k : ℕ) (x : Got Decoded) (n p : ℕ) → x ≡ refused n p → CommandRead s w w' place k x (Command.Refused n p)
-unfolding CommandIs UnwrittenBy
-refused-written s w w' place k x n p e = record { kept = tt; is = e }
-
--- an argument was refused
-module _ {A : Type 0} (s w : List ℕ) (place k n p : ℕ) (f : ℕ → A) (x : Got A) (on : A → Cursor → Got Decoded) where
-  pub upward : (a : Answer) (r : Command) → x ≡ answers f s a → a ≡ Answer.Refused n p → r ≡ refusedBy a → CommandRead s w w place k (andThen x on) r
-  unfolding answers andThen refusedBy
-  upward a r e is by = rw (by, is) (refused-written s w w place k (andThen x on) n p (ap (λ (y : Got A). andThen y on) (e ∙ ap (answers f s) is)))
-
-module _ {A : Type 0} (s w : List ℕ) (place k n p : ℕ) (f : ℕ → ℕ → A) (x : Got A) (on : A → Cursor → Got Decoded) where
-  pub upward-two : (a : Two) (r : Command) → x ≡ answersTwo f s a → a ≡ Two.Refused n p → r ≡ refusedByTwo a → CommandRead s w w place k (andThen x on) r
-  unfolding answersTwo andThen refusedByTwo
-  upward-two a r e is by = rw (by, is) (refused-written s w w place k (andThen x on) n p (ap (λ (y : Got A). andThen y on) (e ∙ ap (answersTwo f s) is)))
-
 -- ---- an item of one or two words
 
 -- a prefix with words to spare, whatever stands before and behind it
@@ -82,27 +66,27 @@ module _ (s w : List ℕ) (place at k : ℕ) (r : CommandRoom s w place at k) (x
   pub room-two : k + 34 ≤ length w
   room-two = omega (arith, r .room, r .named, r .inside, r .fits .work)
 
-  pub whole-one : ((n : ℕ) → openAfter n i ≡ n + 0) → (a : ℕ) → x ≡ got (whole i) (cursorAt s next) → ItemAt s (set w k a) k (k + 1) i → CommandRead s w (set w k a) place k x (Command.Whole next (k + 1))
-  unfolding CommandIs UnwrittenBy
-  whole-one quiet a e it = record {
-    kept = one-stays w k a (omega (arith, room-two));
-    is = (i, e, record { passed = omega (arith, r .named); inside = to; forth = omega arith; two = omega (arith, r .named); opening = quiet; item = it });
-  }
+  pub whole-one : ((n : ℕ) → openAfter n i ≡ n + 0) → (a : ℕ) → x ≡ got (whole i) (cursorAt s next) → ItemAt s (set w k a) k (k + 1) i → CommandRead s w (set w k a) place k x (Answer.Command Follow.Nothing next (k + 1))
+  unfolding CommandIs
+  whole-one quiet a e it = CommandOr.read Follow.Nothing next (k + 1) (
+    one-stays w k a (omega (arith, room-two)),
+    (i, e, record { passed = omega (arith, r .named); inside = to; forth = omega arith; two = omega (arith, r .named); opening = quiet; item = it }),
+  )
 
-  pub prefix-one : ((n : ℕ) → openAfter n i ≡ n + 1) → Apart s place k next (k + 1) → (a : ℕ) (b : Bool) → x ≡ got (prefix b i) (cursorAt s next) → ItemAt s (set w k a) k (k + 1) i → CommandRead s w (set w k a) place k x (Command.Prefix b next (k + 1))
-  unfolding CommandIs UnwrittenBy
-  prefix-one one-more apart a b e it = record {
-    kept = one-stays w k a (omega (arith, room-two));
-    is = (i, e, record { passed = omega (arith, r .named); inside = to; forth = omega arith; two = omega (arith, r .named); opening = one-more; item = it }, apart);
-  }
+  pub prefix-one : ((n : ℕ) → openAfter n i ≡ n + 1) → Apart s place k next (k + 1) → (a : ℕ) (b : Bool) → x ≡ got (prefix b i) (cursorAt s next) → ItemAt s (set w k a) k (k + 1) i → CommandRead s w (set w k a) place k x (Answer.Command (Follow.Body b) next (k + 1))
+  unfolding CommandIs
+  prefix-one one-more apart a b e it = CommandOr.read (Follow.Body b) next (k + 1) (
+    one-stays w k a (omega (arith, room-two)),
+    (i, e, record { passed = omega (arith, r .named); inside = to; forth = omega arith; two = omega (arith, r .named); opening = one-more; item = it }, apart),
+  )
 
   pub whole-two : ((n : ℕ) → openAfter n i ≡ n + 0) → (a b : ℕ) → x ≡ got (whole i) (cursorAt s next) → ItemAt s (set (set w k a) (k + 1) b) k (k + 2) i
-      → CommandRead s w (set (set w k a) (k + 1) b) place k x (Command.Whole next (k + 2))
-  unfolding CommandIs UnwrittenBy
-  whole-two quiet a b e it = record {
-    kept = two-stay w k a b (omega (arith, room-two));
-    is = (i, e, record { passed = omega (arith, r .named); inside = to; forth = omega arith; two = omega (arith, r .named); opening = quiet; item = it });
-  }
+      → CommandRead s w (set (set w k a) (k + 1) b) place k x (Answer.Command Follow.Nothing next (k + 2))
+  unfolding CommandIs
+  whole-two quiet a b e it = CommandOr.read Follow.Nothing next (k + 2) (
+    two-stay w k a b (omega (arith, room-two)),
+    (i, e, record { passed = omega (arith, r .named); inside = to; forth = omega arith; two = omega (arith, r .named); opening = quiet; item = it }),
+  )
 
 -- ---- counts
 
@@ -121,7 +105,7 @@ module _ (s w : List ℕ) (place k v next : ℕ) (r : CommandRoom s w place (pla
       over n e m = rw (e, counted, lt-leb n 65535 m)
 
   pub small-count : Apart s place k next (k + 1) → (a : ℕ) → a ≡ headWith countKind place v → v < 512 → place < next → next ≤ length s
-      → CommandRead s w (set w k a) place k (counted place (digits (cursorAt s place))) (Command.Prefix false next (k + 1))
+      → CommandRead s w (set w k a) place k (counted place (digits (cursorAt s place))) (Answer.Command (Follow.Body false) next (k + 1))
   unfolding ItemAt OpenerAt TimesAt openAfter
   small-count apart a is h far to =
       prefix-one s w place (place + 1) k r (counted place (digits (cursorAt s place))) (opens place (times v)) next (omega arith) to (λ n. refl) apart a false
@@ -129,13 +113,13 @@ module _ (s w : List ℕ) (place k v next : ℕ) (r : CommandRoom s w place (pla
       (inl (h, (refl, one-is w k a (omega (arith, r .room, r .named, r .inside, r .fits .work)) ∙ is)))
 
   pub large-count : Apart s place k next (k + 2) → (a : ℕ) → a ≡ head longCountKind place → v ≤ 65535 → suc place < next → next ≤ length s
-      → CommandRead s w (set (set w k a) (k + 1) v) place k (counted place (digits (cursorAt s place))) (Command.Prefix false next (k + 2))
-  unfolding ItemAt OpenerAt TimesAt CommandIs UnwrittenBy openAfter
+      → CommandRead s w (set (set w k a) (k + 1) v) place k (counted place (digits (cursorAt s place))) (Answer.Command (Follow.Body false) next (k + 2))
+  unfolding ItemAt OpenerAt TimesAt CommandIs openAfter
   large-count apart a is h far to =
       let room : k + 17 < length w = omega (arith, r .room, r .named, r .inside, r .fits .work) in
-      record {
-        kept = two-stay w k a v room;
-        is = (
+      CommandOr.read (Follow.Body false) next (k + 2) (
+        two-stay w k a v room,
+        (
           opens place (times v),
           is-counted h,
           record {
@@ -147,8 +131,8 @@ module _ (s w : List ℕ) (place k v next : ℕ) (r : CommandRoom s w place (pla
             item = inr (refl, first-is w k a v room ∙ is, second-is w k a v room);
           },
           apart,
-        );
-      }
+        ),
+      )
 
 -- ---- commands of one word
 
@@ -176,18 +160,17 @@ target-code n h = go (eqb n 0) (eqb n 65536) refl refl
     go false true e f = sym (eqb-true n 65536 f)
     go false false e f = refl
 
-module _ (s w : List ℕ) (place at k : ℕ) (r : CommandRoom s w place at k) (i : ℕ) (spaces : skipSpaces (cursorAt s at) ≡ cursorAt s i) (after : at ≤ i) (x : Answer)
-    (read : target (cursorAt s i) ≡ answers targetOf s x) where
-  pub moves-refused : (n p : ℕ) (c : Command) → x ≡ Answer.Refused n p → c ≡ refusedBy x → CommandRead s w w place k (decode false place moves (cursorAt s at)) c
+module _ (s w : List ℕ) (place at k : ℕ) (r : CommandRoom s w place at k) (i : ℕ) (spaces : skipSpaces (cursorAt s at) ≡ cursorAt s i) where
+  pub moves-refused : (n p : ℕ) → target (cursorAt s i) ≡ refused n p → decode false place moves (cursorAt s at) ≡ refused n p
   unfolding decode
-  moves-refused n p c is by = upward s w place k n p targetOf (target (skipSpaces (cursorAt s at))) (λ a c₁. got (whole (simple place (move a))) c₁) x c (ap target spaces ∙ read) is by
+  moves-refused n p e = passed-up (target (skipSpaces (cursorAt s at))) _ n p (ap target spaces ∙ e)
 
-  pub moves-written : (a next v : ℕ) → v ≡ head moveKind place → x ≡ Answer.Is a next → (a ≤ 65536) × (suc i ≤ next) × (next ≤ length s)
-      → CommandRead s w (set (set w k v) (k + 1) a) place k (decode false place moves (cursorAt s at)) (Command.Whole next (k + 2))
-  unfolding decode andThen answers ItemAt OpAt openAfter
-  moves-written a next v hd is (small, from, to) =
+  pub moves-written : at ≤ i → (a next v : ℕ) → v ≡ head moveKind place → NumberAt s targetOf (NumberUpTo 65536 (suc i)) (target (cursorAt s i)) a next
+      → CommandRead s w (set (set w k v) (k + 1) a) place k (decode false place moves (cursorAt s at)) (Answer.Command Follow.Nothing next (k + 2))
+  unfolding decode ItemAt OpAt openAfter
+  moves-written after a next v hd (read, (small, from), to) =
       whole-two s w place at k r (decode false place moves (cursorAt s at)) (simple place (move (targetOf a))) next (omega arith) to (λ n. omega arith) v a
-      (ap (λ (y : Got Target). andThen y (λ t c₁. got (whole (simple place (move t))) c₁)) (ap target spaces ∙ read ∙ ap (answers targetOf s) is))
+      (goes-on (target (skipSpaces (cursorAt s at))) _ (targetOf a) (cursorAt s next) (ap target spaces ∙ read))
       (refl, first-is w k v a room ∙ hd, second-is w k v a room ∙ sym (target-code a small))
     where
       room : k + 17 < length w

@@ -6,11 +6,11 @@ use native.Mathlib.Omega.{arith}
 use lib.ListN.{length, getD, set, length-set}
 use lib.Seq.{getD-set-other}
 use Rattle.definitions.specs.Control.{Item}
+use Rattle.answers.specs.declared.State.{State}
 use Rattle.items.specs.Words.{ItemAt, ItemsAt}
 use Rattle.items.proofs.Keeping.{item-kept}
 use Rattle.script.specs.Gathered.{Gathered}
 use Rattle.script.specs.Reading.{groupsIn, bodiesIn, Fits, ReadSoFar, Unwritten}
-use Rattle.script.specs.declared.State.{State}
 
 -- ---- items
 
@@ -59,14 +59,15 @@ module _ (k n : ℕ) (w w' : List ℕ) (h : Unwritten k n w w') where
   acc-kept s acc le g = gathered-kept s w w' k (h .below) (omega (arith, h .same-length)) k acc (omega arith) g
 
 -- the next free word is far from the groups' words
-pub free : (s w : List ℕ) (st : State) (acc : List Item) → ReadSoFar s w st acc → st .k + st .due + 32 ≤ length w
-free s w st acc h = omega (arith, h .affords .room, h .deep, h .fits .work, h .inside)
+pub free : (s w : List ℕ) (st : State) (at : ℕ) (acc : List Item) → ReadSoFar s w st at acc → st .k + st .due + 32 ≤ length w
+free s w st at acc h = omega (arith, h .affords .room, h .deep, h .fits .work, h .inside)
 
-pub stands-kept : (s w w' : List ℕ) (st : State) (acc : List Item) → Unwritten (st .k) 16 w w' → ReadSoFar s w st acc → ReadSoFar s w' st acc
-stands-kept s w w' st acc k h = record {
+pub stands-kept : (s w w' : List ℕ) (st : State) (at : ℕ) (acc : List Item) → Unwritten (st .k) 16 w w' → ReadSoFar s w st at acc → ReadSoFar s w' st at acc
+stands-kept s w w' st at acc k h = record {
   inside = h .inside;
   deep = h .deep;
-  gathered = acc-kept (st .k) 16 w w' k s acc (omega (arith, free s w st acc h)) (h .gathered);
+  no-body = h .no-body;
+  gathered = acc-kept (st .k) 16 w w' k s acc (omega (arith, free s w st at acc h)) (h .gathered);
   affords = rw (bodies-kept (st .k) 16 w w' k (st .depth) (h .deep)) (h .affords);
   fits = fits-kept (st .k) 16 w w' k s (h .fits);
 }

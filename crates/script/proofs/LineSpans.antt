@@ -1,8 +1,8 @@
 -- The lines of D and R in words. Assumes nothing.
-use mathlib.Core.Path.{_≡_, refl, ap, _∙_}
+use mathlib.Core.Path.{_≡_, refl, _∙_}
 use mathlib.Core.Bool.{Bool, true, false, cond}
 use mathlib.Core.List.{List}
-use Prim.Native.Nat.{ℕ, _+_, _-_, _*_, _≤_, _<_}
+use Prim.Native.Nat.{ℕ, _+_, _-_, _*_, _<_}
 use native.Mathlib.Omega.{arith}
 use lib.ListN.{length, getD, set}
 use lib.Dec.{eqb}
@@ -10,21 +10,20 @@ use borrow.Author.Tests.{eqb-true}
 use Rattle.definitions.specs.Editor.{alone, upTo, toEof}
 use Rattle.definitions.specs.Edit.{delete}
 use Rattle.definitions.specs.Control.{simple}
-use Rattle.definitions.specs.Reader.{Got, got, andThen}
-use Rattle.definitions.specs.Commands.{whole, deletes, Span, lineSpan, deleteOp, decode}
+use Rattle.definitions.specs.Reader.{refused}
+use Rattle.definitions.specs.Commands.{deletes, lineSpan, deleteOp, decode}
+use Rattle.answers.specs.declared.Answer.{Answer}
+use Rattle.answers.specs.declared.Follow.{Follow}
 use Rattle.lexer.specs.Places.{cursorAt}
-use Rattle.lexer.specs.Answers.{answersTwo}
-use Rattle.lexer.specs.Targets.{targetOf, throughOf, spanOf}
-use Rattle.lexer.proofs.Given.{given-are}
-use Rattle.lexer.specs.declared.Two.{Two}
+use Rattle.lexer.specs.Answers.{TwoAt}
+use Rattle.lexer.specs.Targets.{targetOf, throughOf, spanOf, SpanRead}
+use Rattle.lexer.proofs.Given.{goes-on, passed-up}
 use Rattle.items.specs.Kinds.{deleteKind}
 use Rattle.items.specs.Words.{headWith, targetCode, endBit, lastCode, SpanAt, OpAt, ItemAt}
 use Rattle.items.specs.Depth.{openAfter}
 use Rattle.script.specs.Reading.{CommandRoom, CommandRead}
-use Rattle.script.specs.Commands.{refusedByTwo}
 use Rattle.items.specs.Arguments.{spanNumber, spanWord}
-use Rattle.script.specs.declared.Command.{Command}
-use Rattle.script.proofs.Items.{upward-two, whole-two, first-is, second-is, target-code}
+use Rattle.script.proofs.Items.{whole-two, first-is, second-is, target-code}
 
 -- ---- the two words
 
@@ -48,17 +47,17 @@ span-item s w k kind place a b h g less near = go (eqb b 0) (eqb b 65536) refl r
 
 -- ---- D
 
-module _ (s w : List ℕ) (place at k : ℕ) (r : CommandRoom s w place at k) (x : Two) (read : lineSpan (cursorAt s at) ≡ answersTwo spanOf s x) where
-  pub deletes-refused : (n p : ℕ) (c : Command) → x ≡ Two.Refused n p → c ≡ refusedByTwo x → CommandRead s w w place k (decode false place deletes (cursorAt s at)) c
+module _ (s w : List ℕ) (place at k : ℕ) (r : CommandRoom s w place at k) where
+  pub deletes-refused : (n p : ℕ) → lineSpan (cursorAt s at) ≡ refused n p → decode false place deletes (cursorAt s at) ≡ refused n p
   unfolding decode
-  deletes-refused n p c is by = upward-two s w place k n p spanOf (lineSpan (cursorAt s at)) (λ y c₁. got (whole (simple place (deleteOp y))) c₁) x c read is by
+  deletes-refused n p e = passed-up (lineSpan (cursorAt s at)) _ n p e
 
-  pub deletes-written : (a b next v u : ℕ) → v ≡ headWith deleteKind place (spanNumber b) → u ≡ spanWord a b → x ≡ Two.Are a b next → (a ≤ 65535) × (b ≤ 65536) × (at ≤ next) × (next ≤ length s)
-      → CommandRead s w (set (set w k v) (k + 1) u) place k (decode false place deletes (cursorAt s at)) (Command.Whole next (k + 2))
-  unfolding decode andThen spanOf deleteOp ItemAt OpAt openAfter
-  deletes-written a b next v u hd wd is (le, small, from, to) =
+  pub deletes-written : (a b next v u : ℕ) → v ≡ headWith deleteKind place (spanNumber b) → u ≡ spanWord a b → TwoAt s spanOf (SpanRead at) (lineSpan (cursorAt s at)) a b next
+      → CommandRead s w (set (set w k v) (k + 1) u) place k (decode false place deletes (cursorAt s at)) (Answer.Command Follow.Nothing next (k + 2))
+  unfolding decode spanOf deleteOp ItemAt OpAt openAfter
+  deletes-written a b next v u hd wd (read, (le, small, from), to) =
       whole-two s w place at k r (decode false place deletes (cursorAt s at)) (simple place (delete (targetOf a) (throughOf b))) next from to (λ n. omega arith) v u
-      (ap (λ (y : Got Span). andThen y (λ z c₁. got (whole (simple place (deleteOp z))) c₁)) (given-are spanOf s x (lineSpan (cursorAt s at)) read a b next is))
+      (goes-on (lineSpan (cursorAt s at)) _ (spanOf a b) (cursorAt s next) read)
       (refl, span-item s (set (set w k v) (k + 1) u) k deleteKind place a b (first-is w k v u room ∙ hd) (second-is w k v u room ∙ wd) (omega arith) (omega (arith, r .named, r .inside, r .fits .small)))
     where
       room : k + 17 < length w

@@ -13,14 +13,15 @@ use Rattle.definitions.specs.Control.{Item, opens, bare, bracket, otherwise}
 use Rattle.definitions.specs.Reader.{nextByte, placeAt}
 use Rattle.definitions.specs.Script.{nothing, Group, group, reading, refusedAt, more, done, closes, openGroup, groupItems, groupOf, elseGroup, isElse, afterElse, groupEnd, closeGroup}
 use Rattle.matching.specs.Words.{bitOf}
+use Rattle.answers.specs.declared.Answer.{Answer}
+use Rattle.answers.specs.declared.State.{State}
+use Rattle.answers.specs.Answers.{RoundOr}
 use Rattle.lexer.specs.Places.{cursorAt}
 use Rattle.lexer.proofs.AtPlace.{is-next, not-next, after-in, after-next, next-inside}
 use Rattle.items.specs.Kinds.{bracketKind, elseKind, bareKind}
 use Rattle.items.specs.Words.{head, ItemAt, OpenerAt, Closed}
 use Rattle.script.specs.Gathered.{Gathered}
 use Rattle.script.specs.Reading.{dueOf, groupIn, groupsIn, bodiesIn, readingOf, Fits, Affords, ReadSoFar, Unwritten, RoundRead}
-use Rattle.script.specs.declared.State.{State}
-use Rattle.script.specs.declared.Step.{Step}
 use Rattle.script.proofs.Keeping.{gather, acc-kept, groups-kept, bodies-kept, fits-kept, free, kept-all, kept-set}
 use Rattle.script.proofs.Affording.{affords-bare, affords-body, affords-end, affords-else}
 use Rattle.script.proofs.Closing.{closed-kept, gathered-closes}
@@ -98,14 +99,15 @@ module _ (s w w' : List ℕ) (k d d' x : ℕ) (one-more : d' ≡ d + 1) (kept : 
 
   pub opened : (from next k' : ℕ) (acc : List Item) (g : Group) → groupIn x ≡ g → Gathered s w' k' acc → from < next → next ≤ length s → d < 16 → Fits s w
       → Affords s next k' 0 (x / 2 + bodiesIn w d) d' acc
-      → RoundRead s w' from (more (reading (cursorAt s next) nothing (g ∷ groupsIn w d) acc)) (Step.More (record { at = next; k = k'; due = 0; elses = false; depth = d' }))
-  unfolding RoundRead readingOf dueOf
-  opened from next k' acc g is gathered far within deep fits affords = (
+      → RoundRead s w' from (more (reading (cursorAt s next) nothing (g ∷ groupsIn w d) acc)) (Answer.More (record { k = k'; due = 0; elses = false; depth = d' }) next)
+  unfolding readingOf dueOf
+  opened from next k' acc g is gathered far within deep fits affords = RoundOr.more (record { k = k'; due = 0; elses = false; depth = d' }) next (
     acc,
     rw (groups-more, is),
     record {
       inside = within;
       deep = omega arith;
+      no-body = λ z. refl;
       gathered = gathered;
       affords = rw bodies-more affords;
       fits = fits-kept k d w w' kept s fits;
@@ -113,21 +115,21 @@ module _ (s w w' : List ℕ) (k d d' x : ℕ) (one-more : d' ≡ d + 1) (kept : 
     far,
   )
 
-module _ (s w : List ℕ) (st : State) (acc : List Item) (h : ReadSoFar s w st acc) where
+module _ (s w : List ℕ) (st : State) (at : ℕ) (acc : List Item) (h : ReadSoFar s w st at acc) where
   pub ending-room : 0 < st .depth → (n : ℕ) → n ≡ getD w (length w - st .depth) 0 / 2 → (st .k + n + 16 ≤ length w) × (n ≤ 32800)
   ending-room pos n is =
       let half = some-bodies w (st .depth) (λ z. omega (arith, z)) in
       (omega (arith, h .affords .room, h .deep, h .fits .work, h .inside, half), omega (arith, h .affords .room, h .deep, h .fits .small, h .inside, half))
 
-  module _ (less : st .at < length s) where
+  module _ (less : at < length s) where
     module _ (deep : st .depth < 16) where
-      pub opens-bare : st .due ≡ 0 → (a : ℕ) → a ≡ head bareKind (st .at) →
-          RoundRead s (set (set (set w (st .k) a) (st .k + 1) bracketKind) (length w - (st .depth + 1)) 2) (st .at)
-          (more (reading (cursorAt s (st .at + 1)) nothing (group 1 false ∷ groupsIn w (st .depth)) (bracket ∷ opens (st .at) bare ∷ acc)))
-          (Step.More (record { at = st .at + 1; k = st .k + 2; due = 0; elses = false; depth = st .depth + 1 }))
+      pub opens-bare : st .due ≡ 0 → (a : ℕ) → a ≡ head bareKind at →
+          RoundRead s (set (set (set w (st .k) a) (st .k + 1) bracketKind) (length w - (st .depth + 1)) 2) at
+          (more (reading (cursorAt s (at + 1)) nothing (group 1 false ∷ groupsIn w (st .depth)) (bracket ∷ opens at bare ∷ acc)))
+          (Answer.More (record { k = st .k + 2; due = 0; elses = false; depth = st .depth + 1 }) (at + 1))
       unfolding ItemAt OpenerAt groupIn
       opens-bare z a is =
-          let room = free s w st acc h in
+          let room = free s w st at acc h in
           let top : ℕ = length w - (st .depth + 1) in
           let far : top + st .depth < length w = omega (arith, room) in
           let near : st .k + 1 < top = omega (arith, room) in
@@ -135,19 +137,19 @@ module _ (s w : List ℕ) (st : State) (acc : List Item) (h : ReadSoFar s w st a
           let kept : Unwritten (st .k) (st .depth) w w' = two-stay w (st .k) top (st .depth) far a bracketKind 2 near in
           let e : st .k + 2 ≡ st .k + 1 + 1 = omega arith in
           opened s w w' (st .k) (st .depth) (st .depth + 1) 2 refl kept (two-top w (st .k) top (st .depth) far a bracketKind 2 near)
-          (st .at) (st .at + 1) (st .k + 2) (bracket ∷ opens (st .at) bare ∷ acc) (group 1 false) refl
-          (gather s w' (st .k + 1) (st .k + 2) bracket (opens (st .at) bare ∷ acc) (omega arith) (e, two-second w (st .k) top (st .depth) far a bracketKind 2 near)
-          (gather s w' (st .k) (st .k + 1) (opens (st .at) bare) acc (omega arith) (refl, two-first w (st .k) top (st .depth) far a bracketKind 2 near ∙ is)
+          at (at + 1) (st .k + 2) (bracket ∷ opens at bare ∷ acc) (group 1 false) refl
+          (gather s w' (st .k + 1) (st .k + 2) bracket (opens at bare ∷ acc) (omega arith) (e, two-second w (st .k) top (st .depth) far a bracketKind 2 near)
+          (gather s w' (st .k) (st .k + 1) (opens at bare) acc (omega arith) (refl, two-first w (st .k) top (st .depth) far a bracketKind 2 near ∙ is)
           (acc-kept (st .k) (st .depth) w w' kept s acc (omega (arith, room)) (h .gathered))))
-          (omega arith) (omega arith) deep (h .fits) (affords-bare (h .affords) z (st .at))
+          (omega arith) (omega arith) deep (h .fits) (affords-bare (h .affords) z at)
 
       pub opens-body : (x : ℕ) → x ≡ 2 * st .due + bitOf (st .elses) →
-          RoundRead s (set (set w (st .k) bracketKind) (length w - (st .depth + 1)) x) (st .at)
-          (more (reading (cursorAt s (st .at + 1)) nothing (group (st .due) (st .elses) ∷ groupsIn w (st .depth)) (bracket ∷ acc)))
-          (Step.More (record { at = st .at + 1; k = st .k + 1; due = 0; elses = false; depth = st .depth + 1 }))
+          RoundRead s (set (set w (st .k) bracketKind) (length w - (st .depth + 1)) x) at
+          (more (reading (cursorAt s (at + 1)) nothing (group (st .due) (st .elses) ∷ groupsIn w (st .depth)) (bracket ∷ acc)))
+          (Answer.More (record { k = st .k + 1; due = 0; elses = false; depth = st .depth + 1 }) (at + 1))
       unfolding ItemAt
       opens-body x is =
-          let room = free s w st acc h in
+          let room = free s w st at acc h in
           let top : ℕ = length w - (st .depth + 1) in
           let far : top + st .depth < length w = omega (arith, room) in
           let near : st .k < top = omega (arith, room) in
@@ -155,7 +157,7 @@ module _ (s w : List ℕ) (st : State) (acc : List Item) (h : ReadSoFar s w st a
           let kept : Unwritten (st .k) (st .depth) w w' = one-stays w (st .k) top (st .depth) far bracketKind x near in
           let half : x / 2 ≡ st .due = ap (λ (n : ℕ). n / 2) is ∙ flag-half (st .due) (st .elses) in
           opened s w w' (st .k) (st .depth) (st .depth + 1) x refl kept (one-top w (st .k) top (st .depth) far bracketKind x near)
-          (st .at) (st .at + 1) (st .k + 1) (bracket ∷ acc) (group (st .due) (st .elses)) (ap groupIn is ∙ group-back (st .due) (st .elses))
+          at (at + 1) (st .k + 1) (bracket ∷ acc) (group (st .due) (st .elses)) (ap groupIn is ∙ group-back (st .due) (st .elses))
           (gather s w' (st .k) (st .k + 1) bracket acc (omega arith) (refl, one-first w (st .k) top (st .depth) far bracketKind x near)
           (acc-kept (st .k) (st .depth) w w' kept s acc (omega (arith, room)) (h .gathered)))
           (omega arith) (omega arith) deep (h .fits) (rw half (affords-body (h .affords)))
@@ -163,35 +165,36 @@ module _ (s w : List ℕ) (st : State) (acc : List Item) (h : ReadSoFar s w st a
       shallow : ltb (length (groupsIn w (st .depth))) 16 ≡ true
       shallow = lt-ltb (length (groupsIn w (st .depth))) 16 (rw (many-groups w (st .depth)) deep)
 
-      pub opening-bare : st .due ≡ 0 → openGroup (dueOf (st .due) (st .elses)) (groupsIn w (st .depth)) acc (cursorAt s (st .at))
-          ≡ more (reading (cursorAt s (st .at + 1)) nothing (group 1 false ∷ groupsIn w (st .depth)) (bracket ∷ opens (st .at) bare ∷ acc))
+      pub opening-bare : st .due ≡ 0 → openGroup (dueOf (st .due) (st .elses)) (groupsIn w (st .depth)) acc (cursorAt s at)
+          ≡ more (reading (cursorAt s (at + 1)) nothing (group 1 false ∷ groupsIn w (st .depth)) (bracket ∷ opens at bare ∷ acc))
       unfolding openGroup groupOf groupItems placeAt
-      opening-bare z = rw (shallow, none-due (st .due) (st .elses) z, after-in s (st .at) less)
+      opening-bare z = rw (shallow, none-due (st .due) (st .elses) z, after-in s at less)
 
-      pub opening-body : (st .due ≡ 0 → ⊥) → openGroup (dueOf (st .due) (st .elses)) (groupsIn w (st .depth)) acc (cursorAt s (st .at))
-          ≡ more (reading (cursorAt s (st .at + 1)) nothing (group (st .due) (st .elses) ∷ groupsIn w (st .depth)) (bracket ∷ acc))
+      pub opening-body : (st .due ≡ 0 → ⊥) → openGroup (dueOf (st .due) (st .elses)) (groupsIn w (st .depth)) acc (cursorAt s at)
+          ≡ more (reading (cursorAt s (at + 1)) nothing (group (st .due) (st .elses) ∷ groupsIn w (st .depth)) (bracket ∷ acc))
       unfolding openGroup groupOf groupItems placeAt
-      opening-body z = rw (shallow, some-due (st .due) (st .elses) z, after-in s (st .at) less)
+      opening-body z = rw (shallow, some-due (st .due) (st .elses) z, after-in s at less)
 
-    pub too-deep : 16 ≤ st .depth → openGroup (dueOf (st .due) (st .elses)) (groupsIn w (st .depth)) acc (cursorAt s (st .at)) ≡ done (refusedAt 5 (st .at))
+    pub too-deep : 16 ≤ st .depth → openGroup (dueOf (st .due) (st .elses)) (groupsIn w (st .depth)) acc (cursorAt s at) ≡ done (refusedAt 5 at)
     unfolding openGroup placeAt
     too-deep deep = rw (le-ltb (length (groupsIn w (st .depth))) 16 (rw (many-groups w (st .depth)) deep))
 
     -- ---- a group ends
 
     pub ends : 0 < st .depth → st .due ≡ 0 → (n : ℕ) → n ≡ getD w (length w - st .depth) 0 / 2 → (w' : List ℕ) → Closed (st .k) n w w'
-        → RoundRead s w' (st .at) (more (reading (cursorAt s (st .at + 1)) nothing (groupsIn w (st .depth - 1)) (closes n acc)))
-        (Step.More (record { at = st .at + 1; k = st .k + n; due = 0; elses = false; depth = st .depth - 1 }))
-    unfolding RoundRead readingOf dueOf
+        → RoundRead s w' at (more (reading (cursorAt s (at + 1)) nothing (groupsIn w (st .depth - 1)) (closes n acc)))
+        (Answer.More (record { k = st .k + n; due = 0; elses = false; depth = st .depth - 1 }) (at + 1))
+    unfolding readingOf dueOf
     ends pos z n is w' c =
         let half : bodiesIn w (st .depth) ≡ n + bodiesIn w (st .depth - 1) = some-bodies w (st .depth) (λ z. omega (arith, z)) ∙ ap (λ (m : ℕ). m + bodiesIn w (st .depth - 1)) (sym is) in
         let far : st .k + n + 16 ≤ length w = omega (arith, h .affords .room, h .deep, h .fits .work, h .inside, half) in
-        let kept : Unwritten (st .k) 16 w w' = closed-kept (st .k) 16 (st .k) n w w' (omega arith) far c in (
+        let kept : Unwritten (st .k) 16 w w' = closed-kept (st .k) 16 (st .k) n w w' (omega arith) far c in RoundOr.more (record { k = st .k + n; due = 0; elses = false; depth = st .depth - 1 }) (at + 1) (
           closes n acc,
           rw (groups-kept (st .k) 16 w w' kept (st .depth - 1) (omega (arith, h .deep))),
           record {
             inside = omega arith;
             deep = omega (arith, h .deep);
+            no-body = λ z. refl;
             gathered = gathered-closes s w' (st .k) n acc (c .inside) (acc-kept (st .k) 16 w w' kept s acc (omega (arith, far)) (h .gathered));
             affords = rw (bodies-kept (st .k) 16 w w' kept (st .depth - 1) (omega (arith, h .deep))) (affords-end (h .affords) z n (bodiesIn w (st .depth - 1)) half pos);
             fits = fits-kept (st .k) 16 w w' kept s (h .fits);
@@ -199,56 +202,56 @@ module _ (s w : List ℕ) (st : State) (acc : List Item) (h : ReadSoFar s w st a
           omega arith,
         )
 
-    pub missing-body : (st .due ≡ 0 → ⊥) → closeGroup (dueOf (st .due) (st .elses)) (groupsIn w (st .depth)) acc (cursorAt s (st .at)) ≡ done (refusedAt 3 (st .at))
+    pub missing-body : (st .due ≡ 0 → ⊥) → closeGroup (dueOf (st .due) (st .elses)) (groupsIn w (st .depth)) acc (cursorAt s at) ≡ done (refusedAt 3 at)
     unfolding closeGroup placeAt
     missing-body z = rw (some-due (st .due) (st .elses) z)
 
-    pub unmatched : st .due ≡ 0 → st .depth ≡ 0 → closeGroup (dueOf (st .due) (st .elses)) (groupsIn w (st .depth)) acc (cursorAt s (st .at)) ≡ done (refusedAt 5 (st .at))
+    pub unmatched : st .due ≡ 0 → st .depth ≡ 0 → closeGroup (dueOf (st .due) (st .elses)) (groupsIn w (st .depth)) acc (cursorAt s at) ≡ done (refusedAt 5 at)
     unfolding closeGroup placeAt
     unmatched z d = rw (none-due (st .due) (st .elses) z, no-groups w (st .depth) d)
 
     module _ (z : st .due ≡ 0) (d : st .depth ≡ 0 → ⊥) where
       pub closing-plain : (getD w (length w - st .depth) 0 % 2 ≡ 1 → ⊥)
-          → closeGroup (dueOf (st .due) (st .elses)) (groupsIn w (st .depth)) acc (cursorAt s (st .at))
-          ≡ more (reading (cursorAt s (st .at + 1)) nothing (groupsIn w (st .depth - 1)) (closes (getD w (length w - st .depth) 0 / 2) acc))
+          → closeGroup (dueOf (st .due) (st .elses)) (groupsIn w (st .depth)) acc (cursorAt s at)
+          ≡ more (reading (cursorAt s (at + 1)) nothing (groupsIn w (st .depth - 1)) (closes (getD w (length w - st .depth) 0 / 2) acc))
       unfolding closeGroup groupEnd groupIn
       closing-plain e =
-          rw (none-due (st .due) (st .elses) z, some-groups w (st .depth) d, after-in s (st .at) less, ne-eqb (getD w (length w - st .depth) 0 % 2) 1 e)
+          rw (none-due (st .due) (st .elses) z, some-groups w (st .depth) d, after-in s at less, ne-eqb (getD w (length w - st .depth) 0 % 2) 1 e)
 
-      pub closing-alone : getD w (length w - st .depth) 0 % 2 ≡ 1 → isElse (cursorAt s (st .at + 1)) ≡ false
-          → closeGroup (dueOf (st .due) (st .elses)) (groupsIn w (st .depth)) acc (cursorAt s (st .at))
-          ≡ more (reading (cursorAt s (st .at + 1)) nothing (groupsIn w (st .depth - 1)) (closes (getD w (length w - st .depth) 0 / 2) acc))
+      pub closing-alone : getD w (length w - st .depth) 0 % 2 ≡ 1 → isElse (cursorAt s (at + 1)) ≡ false
+          → closeGroup (dueOf (st .due) (st .elses)) (groupsIn w (st .depth)) acc (cursorAt s at)
+          ≡ more (reading (cursorAt s (at + 1)) nothing (groupsIn w (st .depth - 1)) (closes (getD w (length w - st .depth) 0 / 2) acc))
       unfolding closeGroup groupEnd groupIn
       closing-alone e f =
-          rw (none-due (st .due) (st .elses) z, some-groups w (st .depth) d, after-in s (st .at) less, eq-eqb (getD w (length w - st .depth) 0 % 2) 1 e, f)
+          rw (none-due (st .due) (st .elses) z, some-groups w (st .depth) d, after-in s at less, eq-eqb (getD w (length w - st .depth) 0 % 2) 1 e, f)
 
-      pub closing-else : (p : ℕ) → getD w (length w - st .depth) 0 % 2 ≡ 1 → isElse (cursorAt s (st .at + 1)) ≡ true → afterElse (cursorAt s (st .at + 1)) ≡ cursorAt s p
-          → closeGroup (dueOf (st .due) (st .elses)) (groupsIn w (st .depth)) acc (cursorAt s (st .at))
+      pub closing-else : (p : ℕ) → getD w (length w - st .depth) 0 % 2 ≡ 1 → isElse (cursorAt s (at + 1)) ≡ true → afterElse (cursorAt s (at + 1)) ≡ cursorAt s p
+          → closeGroup (dueOf (st .due) (st .elses)) (groupsIn w (st .depth)) acc (cursorAt s at)
           ≡ elseGroup (getD w (length w - st .depth) 0 / 2) (groupsIn w (st .depth - 1)) acc (cursorAt s p)
       unfolding closeGroup groupEnd groupIn
       closing-else p e f g =
-          rw (none-due (st .due) (st .elses) z, some-groups w (st .depth) d, after-in s (st .at) less, eq-eqb (getD w (length w - st .depth) 0 % 2) 1 e, f, g)
+          rw (none-due (st .due) (st .elses) z, some-groups w (st .depth) d, after-in s at less, eq-eqb (getD w (length w - st .depth) 0 % 2) 1 e, f, g)
 
-  -- ---- ELSE, before p
+  -- ---- after ELSE
 
-  module _ (p n : ℕ) where
-    pub else-missing : (nextByte (cursorAt s p) ≡ 40 → ⊥) → elseGroup n (groupsIn w (st .depth - 1)) acc (cursorAt s p) ≡ done (refusedAt 3 p)
+  module _ (n : ℕ) where
+    pub else-missing : (nextByte (cursorAt s at) ≡ 40 → ⊥) → elseGroup n (groupsIn w (st .depth - 1)) acc (cursorAt s at) ≡ done (refusedAt 3 at)
     unfolding elseGroup placeAt
-    else-missing e = rw (not-next 40 (cursorAt s p) e)
+    else-missing e = rw (not-next 40 (cursorAt s at) e)
 
-    else-there : nextByte (cursorAt s p) ≡ 40 → elseGroup n (groupsIn w (st .depth - 1)) acc (cursorAt s p)
-        ≡ more (reading (cursorAt s (p + 1)) nothing (group n false ∷ groupsIn w (st .depth - 1)) (bracket ∷ otherwise ∷ acc))
+    else-there : nextByte (cursorAt s at) ≡ 40 → elseGroup n (groupsIn w (st .depth - 1)) acc (cursorAt s at)
+        ≡ more (reading (cursorAt s (at + 1)) nothing (group n false ∷ groupsIn w (st .depth - 1)) (bracket ∷ otherwise ∷ acc))
     unfolding elseGroup
-    else-there e = rw (is-next 40 (cursorAt s p) e, after-next s p (rw e (omega arith)))
+    else-there e = rw (is-next 40 (cursorAt s at) e, after-next s at (rw e (omega arith)))
 
-    pub else-opens : 0 < st .depth → st .due ≡ 0 → st .at < p → n ≡ getD w (length w - st .depth) 0 / 2 → nextByte (cursorAt s p) ≡ 40
-        → RoundRead s (set (set (set w (st .k) elseKind) (st .k + 1) bracketKind) (length w - st .depth) (2 * n)) (st .at) (elseGroup n (groupsIn w (st .depth - 1)) acc (cursorAt s p))
-        (Step.More (record { at = p + 1; k = st .k + 2; due = 0; elses = false; depth = st .depth }))
+    pub else-opens : 0 < st .depth → st .due ≡ 0 → n ≡ getD w (length w - st .depth) 0 / 2 → nextByte (cursorAt s at) ≡ 40
+        → RoundRead s (set (set (set w (st .k) elseKind) (st .k + 1) bracketKind) (length w - st .depth) (2 * n)) at (elseGroup n (groupsIn w (st .depth - 1)) acc (cursorAt s at))
+        (Answer.More (record { k = st .k + 2; due = 0; elses = false; depth = st .depth }) (at + 1))
     unfolding ItemAt bitOf
-    else-opens pos z after is e =
-        let within : p < length s = next-inside s p (rw e (omega arith)) in
+    else-opens pos z is e =
+        let within : at < length s = next-inside s at (rw e (omega arith)) in
         let half : bodiesIn w (st .depth) ≡ n + bodiesIn w (st .depth - 1) = some-bodies w (st .depth) (λ z. omega (arith, z)) ∙ ap (λ (m : ℕ). m + bodiesIn w (st .depth - 1)) (sym is) in
-        let room = free s w st acc h in
+        let room = free s w st at acc h in
         let top : ℕ = length w - st .depth in
         let far : top + (st .depth - 1) < length w = omega (arith, room, h .deep) in
         let near : st .k + 1 < top = omega (arith, room, h .deep) in
@@ -259,8 +262,8 @@ module _ (s w : List ℕ) (st : State) (acc : List Item) (h : ReadSoFar s w st a
         let twice : 2 * n / 2 ≡ n = omega arith in
         rw (else-there e)
         (opened s w w' (st .k) (st .depth - 1) (st .depth) (2 * n) (omega arith) kept (two-top w (st .k) top (st .depth - 1) far elseKind bracketKind (2 * n) near)
-        (st .at) (p + 1) (st .k + 2) (bracket ∷ otherwise ∷ acc) (group n false) (ap groupIn zero-flag ∙ group-back n false)
+        at (at + 1) (st .k + 2) (bracket ∷ otherwise ∷ acc) (group n false) (ap groupIn zero-flag ∙ group-back n false)
         (gather s w' (st .k + 1) (st .k + 2) bracket (otherwise ∷ acc) (omega arith) (e2, two-second w (st .k) top (st .depth - 1) far elseKind bracketKind (2 * n) near)
         (gather s w' (st .k) (st .k + 1) otherwise acc (omega arith) (refl, two-first w (st .k) top (st .depth - 1) far elseKind bracketKind (2 * n) near)
         (acc-kept (st .k) (st .depth - 1) w w' kept s acc (omega (arith, room)) (h .gathered))))
-        (omega arith) (omega arith) (omega (arith, h .deep)) (h .fits) (rw (twice, ← half) (affords-else (h .affords) z p after)))
+        (omega arith) (omega arith) (omega (arith, h .deep)) (h .fits) (rw (twice, ← half) (affords-else (h .affords) z)))

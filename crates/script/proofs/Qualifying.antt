@@ -1,5 +1,5 @@
 -- Commands with qualified strings in words. Assumes nothing.
-use mathlib.Core.Path.{_≡_, refl, ap, _∙_}
+use mathlib.Core.Path.{_≡_, refl, _∙_}
 use mathlib.Core.Bool.{Bool, false}
 use mathlib.Core.List.{List, [], _∷_}
 use Prim.Native.Nat.{ℕ, suc, _+_, _-_, _≤_, _<_}
@@ -10,37 +10,27 @@ use Rattle.definitions.specs.Matching.{Qualified, qualified}
 use Rattle.definitions.specs.Search.{one}
 use Rattle.definitions.specs.Edit.{Change, alter, point}
 use Rattle.definitions.specs.Control.{simple}
-use Rattle.definitions.specs.Reader.{Got, got, andThen}
-use Rattle.definitions.specs.Strings.{Pair, qualifiedString, twoStrings}
-use Rattle.definitions.specs.Commands.{whole, alters, points, alterOp, decode}
+use Rattle.definitions.specs.Reader.{refused}
+use Rattle.definitions.specs.Strings.{pair, qualifiedString, twoStrings}
+use Rattle.definitions.specs.Commands.{alters, points, alterOp, decode}
 use Rattle.matching.specs.Quals.{qualifiersOf}
 use Rattle.matching.specs.Words.{stringWords, Encodes, Writable}
 use Rattle.matching.specs.declared.Quals.{Quals}
 use Rattle.matching.proofs.Keeping.{string-encodes, kept-behind}
+use Rattle.answers.specs.declared.Answer.{Answer}
+use Rattle.answers.specs.declared.Follow.{Follow}
+use Rattle.answers.specs.Answers.{CommandOr}
 use Rattle.lexer.specs.Places.{cursorAt}
-use Rattle.strings.specs.Answers.{StringAt, Quoted, Paired}
-use Rattle.strings.specs.declared.OneString.{OneString}
-use Rattle.strings.specs.declared.TwoStrings.{TwoStrings}
-use Rattle.strings.proofs.Callers.{string-not, string-at, string-is, pair-not, pair-at, pair-is, string-few, string-writable}
+use Rattle.lexer.proofs.Given.{goes-on, passed-up}
+use Rattle.strings.specs.Answers.{StringAt, QuotedAt, PairedAt}
+use Rattle.strings.proofs.Callers.{string-few, string-writable}
 use Rattle.items.specs.Words.{head, OpAt, ItemAt, stringWord}
 use Rattle.items.specs.Kinds.{changeKind, pointKind}
 use Rattle.items.specs.Depth.{openAfter}
-use Rattle.script.specs.Reading.{CommandRoom, Unwritten, UnwrittenBy, CommandIs, CommandRead}
-use Rattle.script.specs.Commands.{refusedByString, refusedByPair}
-use Rattle.script.specs.declared.Command.{Command}
+use Rattle.script.specs.Reading.{CommandRoom, Unwritten, CommandIs, CommandRead}
 use Rattle.script.proofs.Keeping.{kept-set}
-use Rattle.script.proofs.Items.{one-stays, one-is, refused-written}
+use Rattle.script.proofs.Items.{one-stays, one-is}
 use Rattle.script.proofs.Inserting.{string-in}
-
--- ---- refusals
-
-pub refused-string : (a : OneString) (r : Command) (n p : ℕ) → r ≡ refusedByString a → a ≡ OneString.Refused n p → r ≡ Command.Refused n p
-unfolding refusedByString
-refused-string a r n p by e = by ∙ rw e
-
-pub refused-pair : (a : TwoStrings) (r : Command) (n p : ℕ) → r ≡ refusedByPair a → a ≡ TwoStrings.Refused n p → r ≡ Command.Refused n p
-unfolding refusedByPair
-refused-pair a r n p by e = by ∙ rw e
 
 -- ---- words stored in a run
 
@@ -88,26 +78,24 @@ module _ (s w : List ℕ) (place at k : ℕ) (r : CommandRoom s w place at k) wh
 
   -- ---- PA and PB
 
-  module _ (after : Bool) (x : OneString) (read : Quoted s at (qualifiedString false (cursorAt s at)) x) where
-    pub points-refused : (n p : ℕ) → x ≡ OneString.Refused n p → CommandRead s w w place k (decode false place (points after) (cursorAt s at)) (Command.Refused n p)
-    unfolding decode andThen
-    points-refused n p is =
-        refused-written s w w place k (decode false place (points after) (cursorAt s at)) n p
-        (ap (λ (y : Got Qualified). andThen y (λ q c₁. got (whole (simple place (point after q))) c₁)) (string-not s at (qualifiedString false (cursorAt s at)) x read n p is))
+  module _ (after : Bool) where
+    pub points-refused : (n p : ℕ) → qualifiedString false (cursorAt s at) ≡ refused n p → decode false place (points after) (cursorAt s at) ≡ refused n p
+    unfolding decode
+    points-refused n p e = passed-up (qualifiedString false (cursorAt s at)) _ n p e
 
-    pub points-written : (q : Quals) (start end next : ℕ) → x ≡ OneString.Next q start end next → (v m : ℕ) (w' : List ℕ) → v ≡ head (pointKind after) place
+    pub points-written : (q : Quals) (start end next : ℕ) → QuotedAt s at (qualifiedString false (cursorAt s at)) q start end next → (v m : ℕ) (w' : List ℕ)
+        → v ≡ head (pointKind after) place
         → w' ≡ sets (set w k v) (k + 1) (stringWords (qualifiersOf q) start (end - start)) → m ≡ k + 1 + length (stringWords (qualifiersOf q) start (end - start))
-        → CommandRead s w w' place k (decode false place (points after) (cursorAt s at)) (Command.Whole next m)
-    unfolding decode andThen ItemAt OpAt CommandIs UnwrittenBy openAfter
-    points-written q start end next is v m w' hd we me =
-        let stands = string-at s at (qualifiedString false (cursorAt s at)) x read q start end next is in
+        → CommandRead s w w' place k (decode false place (points after) (cursorAt s at)) (Answer.Command Follow.Nothing next m)
+    unfolding decode ItemAt OpAt CommandIs openAfter
+    points-written q start end next (read, stands) v m w' hd we me =
         let few = string-few s at q start end next stands in
         let l : Qualified = qualified (qualifiersOf q) (take (end - start) (drop start s)) in
-        rw (we, me) (record {
-          kept = string-stays q start end next stands v;
-          is = (
+        rw (we, me) (CommandOr.read Follow.Nothing next (k + 1 + length (stringWords (qualifiersOf q) start (end - start))) (
+          string-stays q start end next stands v,
+          (
             simple place (point after l),
-            ap (λ (y : Got Qualified). andThen y (λ z c₁. got (whole (simple place (point after z))) c₁)) (string-is s at (qualifiedString false (cursorAt s at)) x read q start end next is),
+            goes-on (qualifiedString false (cursorAt s at)) _ l (cursorAt s next) read,
             record {
               passed = omega (arith, r .named, stands .after, stands .ordered, stands .ends);
               inside = stands .within;
@@ -116,26 +104,23 @@ module _ (s w : List ℕ) (place at k : ℕ) (r : CommandRoom s w place at k) wh
               opening = λ n. omega arith;
               item = (string-head q start end next stands v ∙ hd, string-there q start end next stands v);
             },
-          );
-        })
+          ),
+        ))
 
   -- ---- A, B, E, AP, BP, EP
 
-  module _ (change : Change) (pointing : Bool) (x : TwoStrings) (read : Paired s at (twoStrings (cursorAt s at)) x) where
-    pub alters-refused : (n p : ℕ) → x ≡ TwoStrings.Refused n p → CommandRead s w w place k (decode false place (alters change pointing) (cursorAt s at)) (Command.Refused n p)
-    unfolding decode andThen
-    alters-refused n p is =
-        refused-written s w w place k (decode false place (alters change pointing) (cursorAt s at)) n p
-        (ap (λ (y : Got Pair). andThen y (λ q c₁. got (whole (simple place (alterOp change pointing q))) c₁)) (pair-not s at (twoStrings (cursorAt s at)) x read n p is))
+  module _ (change : Change) (pointing : Bool) where
+    pub alters-refused : (n p : ℕ) → twoStrings (cursorAt s at) ≡ refused n p → decode false place (alters change pointing) (cursorAt s at) ≡ refused n p
+    unfolding decode
+    alters-refused n p e = passed-up (twoStrings (cursorAt s at)) _ n p e
 
-    pub alters-written : (q : Quals) (start end second second-end next : ℕ) → x ≡ TwoStrings.Next q start end second second-end next → (v m u : ℕ) (w' : List ℕ)
+    pub alters-written : (q : Quals) (start end second second-end next : ℕ) → PairedAt s at (twoStrings (cursorAt s at)) q start end second second-end next → (v m u : ℕ) (w' : List ℕ)
         → v ≡ head (changeKind change pointing) place
         → w' ≡ sets (set w k v) (k + 1) (stringWords (qualifiersOf q) start (end - start)) → m ≡ k + 1 + length (stringWords (qualifiersOf q) start (end - start))
         → u ≡ stringWord second (second-end - second)
-        → CommandRead s w (set w' m u) place k (decode false place (alters change pointing) (cursorAt s at)) (Command.Whole next (m + 1))
-    unfolding decode andThen ItemAt OpAt CommandIs alterOp UnwrittenBy openAfter
-    alters-written q start end second second-end next is v m u w' hd we me wd =
-        let stands = pair-at s at (twoStrings (cursorAt s at)) x read q start end second second-end next is in
+        → CommandRead s w (set w' m u) place k (decode false place (alters change pointing) (cursorAt s at)) (Answer.Command Follow.Nothing next (m + 1))
+    unfolding decode ItemAt OpAt CommandIs alterOp openAfter
+    alters-written q start end second second-end next (read, stands) v m u w' hd we me wd =
         let few = string-few s at q start end second (stands .first) in
         let room = string-room q start end second (stands .first) in
         let l : Qualified = qualified (qualifiersOf q) (take (end - start) (drop start s)) in
@@ -143,12 +128,11 @@ module _ (s w : List ℕ) (place at k : ℕ) (r : CommandRoom s w place at k) wh
         let w2 : List ℕ = sets (set w k v) (k + 1) (stringWords (qualifiersOf q) start (end - start)) in
         let inside : n < length w2 = rw (length-sets (set w k v) (k + 1) (stringWords (qualifiersOf q) start (end - start)), length-set w k v) (omega (arith, room)) in
         let there = string-there q start end second (stands .first) v in
-        rw (we, me) (record {
-          kept = kept-set k 16 n u w w2 (omega arith) (omega (arith, room)) (string-stays q start end second (stands .first) v);
-          is = (
+        rw (we, me) (CommandOr.read Follow.Nothing next (n + 1) (
+          kept-set k 16 n u w w2 (omega arith) (omega (arith, room)) (string-stays q start end second (stands .first) v),
+          (
             simple place (alter change pointing l (take (second-end - second) (drop second s))),
-            ap (λ (y : Got Pair). andThen y (λ z c₁. got (whole (simple place (alterOp change pointing z))) c₁))
-                (pair-is s at (twoStrings (cursorAt s at)) x read q start end second second-end next is),
+            goes-on (twoStrings (cursorAt s at)) _ (pair l (take (second-end - second) (drop second s))) (cursorAt s next) read,
             record {
               passed = omega (arith, r .named, stands .first .after, stands .first .ordered, stands .first .ends, stands .ordered, stands .ends);
               inside = stands .within;
@@ -163,5 +147,5 @@ module _ (s w : List ℕ) (place at k : ℕ) (r : CommandRoom s w place at k) wh
                 rw (getD-set-same w2 n u 0 inside) (string-in s u second second-end (stands .ordered) (omega (arith, stands .ends, stands .within)) wd),
               );
             },
-          );
-        })
+          ),
+        ))

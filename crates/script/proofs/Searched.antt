@@ -12,22 +12,24 @@ use Rattle.definitions.specs.Bytes.{isDigit}
 use Rattle.definitions.specs.Search.{Search}
 use Rattle.definitions.specs.Edit.{is}
 use Rattle.definitions.specs.Control.{Seek, Item, seek, opens, branch, loop}
-use Rattle.definitions.specs.Reader.{Got, got, refused, andThen}
+use Rattle.definitions.specs.Reader.{Got, got, refused}
 use Rattle.definitions.specs.Strings.{searchExpression}
-use Rattle.definitions.specs.Commands.{whole, prefix, seeks, branches, loops, skipThen, testOf, decode}
+use Rattle.definitions.specs.Commands.{prefix, seeks, branches, loops, skipThen, testOf, decode}
 use Rattle.matching.proofs.Running.{forward}
 use Rattle.matching.proofs.Keeping.{kept-append, kept-ahead}
+use Rattle.answers.specs.declared.Answer.{Answer}
+use Rattle.answers.specs.declared.Follow.{Follow}
+use Rattle.answers.specs.Answers.{CommandOr}
 use Rattle.lexer.specs.Places.{cursorAt}
+use Rattle.lexer.proofs.Given.{goes-on, passed-up}
 use Rattle.searches.specs.Parsing.{SearchRoom, SearchWritten}
-use Rattle.searches.specs.declared.Parse.{Parse}
 use Rattle.items.specs.Words.{head, SearchAt, OpenerAt, ItemAt}
 use Rattle.items.specs.Kinds.{seekKind, branchKind, loopKind, ifKind, unlessKind, whileKind, untilKind}
 use Rattle.items.specs.Depth.{openAfter}
-use Rattle.script.specs.Reading.{CommandRoom, Laid, Apart, Unwritten, UnwrittenBy, CommandIs, CommandRead}
-use Rattle.script.specs.Searches.{refusedSearch, Found, Searched}
-use Rattle.script.specs.declared.Command.{Command}
+use Rattle.script.specs.Reading.{CommandRoom, Laid, Apart, Unwritten, CommandIs, CommandRead}
+use Rattle.script.specs.Searches.{Found}
 use Rattle.script.proofs.Keeping.{kept-set}
-use Rattle.script.proofs.Items.{first-is, second-is, refused-written}
+use Rattle.script.proofs.Items.{first-is, second-is}
 
 module _ (s w : List ℕ) (place at k : ℕ) (r : CommandRoom s w place at k) where
   pub search-room : SearchRoom s (take (length w - 16) w) at (k + 2)
@@ -94,37 +96,10 @@ module _ (s w : List ℕ) (place at k : ℕ) (r : CommandRoom s w place at k) wh
       pub search-small : (next m : ℕ) (x : ℕ → Got Search) → SearchWritten s (take (length w - 16) w) ys at (k + 2) 0 x next m → m ≤ 40000
       search-small next m x wr = omega (arith, wr .room, wr .within, r .room, r .named, r .inside, r .fits .small)
 
--- ---- the answers, taken apart
-
-pub refused-search : (a : Parse) (r : Command) (n p : ℕ) → r ≡ refusedSearch a → a ≡ Parse.Refused n p → r ≡ Command.Refused n p
-unfolding refusedSearch
-refused-search a r n p by e = by ∙ rw e
-
-module _ (s w w' : List ℕ) (at k first : ℕ) (x : Got Search) (a : Parse) (h : Searched s w w' at k first x a) where
-  pub found-next : (next m : ℕ) → a ≡ Parse.Next next m → Found s w w' at k first next m x
-  unfolding Searched
-  found-next next m e = rw e at h
-
-  pub found-refused : (n p : ℕ) → a ≡ Parse.Refused n p → x ≡ refused n p
-  unfolding Searched
-  found-refused n p e = rw e at h
-
-pub searched-next : (s w w' : List ℕ) (at k first : ℕ) (x : Got Search) (a : Parse) (next m : ℕ) → a ≡ Parse.Next next m → Found s w w' at k first next m x → Searched s w w' at k first x a
-unfolding Searched
-searched-next s w w' at k first x a next m e h = rw e h
-
-pub searched-refused : (s w w' : List ℕ) (at k first : ℕ) (x : Got Search) (a : Parse) (n p : ℕ) → a ≡ Parse.Refused n p → x ≡ refused n p → Searched s w w' at k first x a
-unfolding Searched
-searched-refused s w w' at k first x a n p e h = rw e h
-
 -- ---- F, BF, DF; IF, UL; WH, UT
 
-module _ (s w w' : List ℕ) (place at k : ℕ) (r : CommandRoom s w place at k) (first : ℕ) (a : Parse)
-    (h : Searched s w w' at k first (searchExpression (cursorAt s at)) a) where
-  module _ (next m : ℕ) (e : a ≡ Parse.Next next m) where
-    pub found : Found s w w' at k first next m (searchExpression (cursorAt s at))
-    found = found-next s w w' at k first (searchExpression (cursorAt s at)) a h next m e
-
+module _ (s w w' : List ℕ) (place at k : ℕ) (r : CommandRoom s w place at k) (first : ℕ) where
+  module _ (next m : ℕ) (found : Found s w w' at k first next m (searchExpression (cursorAt s at))) where
     laid : (i : Item) (after due : ℕ) → place + 1 + due ≤ at → due ≤ 1 → next ≤ after → after ≤ length s → ((n : ℕ) → openAfter n i ≡ n + due) → ItemAt s w' k m i
         → Laid s w' place k after m due i
     laid i after due long le from to opening it =
@@ -151,16 +126,16 @@ module _ (s w w' : List ℕ) (place at k : ℕ) (r : CommandRoom s w place at k)
     lies-at : (f : ℕ) → first ≡ f → SearchAt s w' k m f (found .search)
     lies-at f hd = subst (λ (y : ℕ). SearchAt s w' k m y (found .search)) hd (found .lies)
 
-    pub seeks-written : (f : Seek) → first ≡ head (seekKind f) place → CommandRead s w w' place k (decode false place (seeks f) (cursorAt s at)) (Command.Whole next m)
-    unfolding decode andThen CommandIs UnwrittenBy ItemAt openAfter
-    seeks-written f hd = record {
-      kept = found .kept;
-      is = (
+    pub seeks-written : (f : Seek) → first ≡ head (seekKind f) place → CommandRead s w w' place k (decode false place (seeks f) (cursorAt s at)) (Answer.Command Follow.Nothing next m)
+    unfolding decode CommandIs ItemAt openAfter
+    seeks-written f hd = CommandOr.read Follow.Nothing next m (
+      found .kept,
+      (
         seek place f (found .search),
-        ap (λ (y : Got Search). andThen y (λ se c₁. got (whole (seek place f se)) c₁)) (found .is),
+        goes-on (searchExpression (cursorAt s at)) _ (found .search) (cursorAt s next) (found .is),
         laid (seek place f (found .search)) next 0 (omega (arith, r .named)) (omega arith) (omega arith) (found .inside) (λ n. omega arith) (lies-at (head (seekKind f) place) hd),
-      );
-    }
+      ),
+    )
 
     branch-item : (b : Bool) → first ≡ head (branchKind b) place → ItemAt s w' k m (opens place (branch (testOf b (found .search))))
     unfolding ItemAt OpenerAt branchKind testOf
@@ -173,47 +148,41 @@ module _ (s w w' : List ℕ) (place at k : ℕ) (r : CommandRoom s w place at k)
     loop-item false hd = lies-at (head untilKind place) hd
 
     pub branches-written : (b : Bool) (after : ℕ) → place + 2 ≤ at → first ≡ head (branchKind b) place → skipThen (cursorAt s next) ≡ cursorAt s after → next ≤ after → after ≤ length s
-        → CommandRead s w w' place k (decode false place (branches b) (cursorAt s at)) (Command.Prefix true after m)
-    unfolding decode andThen CommandIs UnwrittenBy openAfter
-    branches-written b after long hd then from to = record {
-      kept = found .kept;
-      is = (
+        → CommandRead s w w' place k (decode false place (branches b) (cursorAt s at)) (Answer.Command (Follow.Body true) after m)
+    unfolding decode CommandIs openAfter
+    branches-written b after long hd then from to = CommandOr.read (Follow.Body true) after m (
+      found .kept,
+      (
         opens place (branch (testOf b (found .search))),
-        ap (λ (y : Got Search). andThen y (λ se c₁. got (prefix true (opens place (branch (testOf b se)))) (skipThen c₁))) (found .is)
+        goes-on (searchExpression (cursorAt s at)) _ (found .search) (cursorAt s next) (found .is)
             ∙ ap (got (prefix true (opens place (branch (testOf b (found .search)))))) then,
         laid (opens place (branch (testOf b (found .search)))) after 1 (omega arith) (omega arith) from to (λ n. refl) (branch-item b hd),
         apart after long from to,
-      );
-    }
+      ),
+    )
 
     pub loops-written : (b : Bool) → place + 2 ≤ at → first ≡ head (loopKind b) place
-        → CommandRead s w w' place k (decode false place (loops b) (cursorAt s at)) (Command.Prefix false next m)
-    unfolding decode andThen CommandIs UnwrittenBy openAfter
-    loops-written b long hd = record {
-      kept = found .kept;
-      is = (
+        → CommandRead s w w' place k (decode false place (loops b) (cursorAt s at)) (Answer.Command (Follow.Body false) next m)
+    unfolding decode CommandIs openAfter
+    loops-written b long hd = CommandOr.read (Follow.Body false) next m (
+      found .kept,
+      (
         opens place (loop (testOf b (found .search))),
-        ap (λ (y : Got Search). andThen y (λ se c₁. got (prefix false (opens place (loop (testOf b se)))) c₁)) (found .is),
+        goes-on (searchExpression (cursorAt s at)) _ (found .search) (cursorAt s next) (found .is),
         laid (opens place (loop (testOf b (found .search)))) next 1 (omega arith) (omega arith) (omega arith) (found .inside) (λ n. refl) (loop-item b hd),
         apart next long (omega arith) (found .inside),
-      );
-    }
+      ),
+    )
 
-  module _ (n p : ℕ) (e : a ≡ Parse.Refused n p) where
-    not-found : searchExpression (cursorAt s at) ≡ refused n p
-    not-found = found-refused s w w' at k first (searchExpression (cursorAt s at)) a h n p e
+module _ (s : List ℕ) (place at n p : ℕ) (e : searchExpression (cursorAt s at) ≡ refused n p) where
+  pub seeks-refused : (f : Seek) → decode false place (seeks f) (cursorAt s at) ≡ refused n p
+  unfolding decode
+  seeks-refused f = passed-up (searchExpression (cursorAt s at)) _ n p e
 
-    pub seeks-refused : (f : Seek) → CommandRead s w w' place k (decode false place (seeks f) (cursorAt s at)) (Command.Refused n p)
-    unfolding decode andThen
-    seeks-refused f = refused-written s w w' place k (decode false place (seeks f) (cursorAt s at)) n p
-        (ap (λ (y : Got Search). andThen y (λ se c₁. got (whole (seek place f se)) c₁)) not-found)
+  pub branches-refused : (b : Bool) → decode false place (branches b) (cursorAt s at) ≡ refused n p
+  unfolding decode
+  branches-refused b = passed-up (searchExpression (cursorAt s at)) _ n p e
 
-    pub branches-refused : (b : Bool) → CommandRead s w w' place k (decode false place (branches b) (cursorAt s at)) (Command.Refused n p)
-    unfolding decode andThen
-    branches-refused b = refused-written s w w' place k (decode false place (branches b) (cursorAt s at)) n p
-        (ap (λ (y : Got Search). andThen y (λ se c₁. got (prefix true (opens place (branch (testOf b se)))) (skipThen c₁))) not-found)
-
-    pub loops-refused : (b : Bool) → CommandRead s w w' place k (decode false place (loops b) (cursorAt s at)) (Command.Refused n p)
-    unfolding decode andThen
-    loops-refused b = refused-written s w w' place k (decode false place (loops b) (cursorAt s at)) n p
-        (ap (λ (y : Got Search). andThen y (λ se c₁. got (prefix false (opens place (loop (testOf b se)))) c₁)) not-found)
+  pub loops-refused : (b : Bool) → decode false place (loops b) (cursorAt s at) ≡ refused n p
+  unfolding decode
+  loops-refused b = passed-up (searchExpression (cursorAt s at)) _ n p e

@@ -1,30 +1,14 @@
--- Kinds of commands, and answers of the readers of arguments.
+-- Kinds of commands, and a command read by its shape.
+use mathlib.Core.Bool.{Bool}
+use mathlib.Core.List.{List}
 use Prim.Native.Nat.{ℕ}
-use Rattle.lexer.specs.declared.Answer.{Answer}
-use Rattle.lexer.specs.declared.Two.{Two}
+use Rattle.definitions.specs.Commands.{Shape, decode}
+use Rattle.answers.specs.declared.Answer.{Answer}
+use Rattle.lexer.specs.Places.{cursorAt}
 use Rattle.lexer.specs.declared.shapes.Plain.{Plain}
 use Rattle.lexer.specs.declared.shapes.Plain.the-variants.{Next, Previous, Copy, PointStart, Right, Left, CutByte, Lower, Upper, Quit}
-use Rattle.strings.specs.declared.OneString.{OneString}
-use Rattle.strings.specs.declared.TwoStrings.{TwoStrings}
+use Rattle.script.specs.Reading.{CommandRead}
 use Rattle.items.specs.Kinds.{quitKind, nextKind, previousKind, copyKind, pointStartKind, rightKind, leftKind, cutByteKind, lowerKind, upperKind}
-use Rattle.script.specs.declared.Command.{Command}
-
--- a refusal of an argument refuses the command; 0 is no number of a refusal
-unfoldable pub refusedBy : Answer → Command
-refusedBy (Answer.Is k next) = Command.Refused 0 next
-refusedBy (Answer.Refused n p) = Command.Refused n p
-
-unfoldable pub refusedByTwo : Two → Command
-refusedByTwo (Two.Are a b next) = Command.Refused 0 next
-refusedByTwo (Two.Refused n p) = Command.Refused n p
-
-unfoldable pub refusedByString : OneString → Command
-refusedByString (OneString.Next q start end next) = Command.Refused 0 next
-refusedByString (OneString.Refused n p) = Command.Refused n p
-
-unfoldable pub refusedByPair : TwoStrings → Command
-refusedByPair (TwoStrings.Next q start end second secondEnd next) = Command.Refused 0 next
-refusedByPair (TwoStrings.Refused n p) = Command.Refused n p
 
 -- the kind of a command of one word
 unfoldable pub plainKind : Plain → ℕ
@@ -38,3 +22,7 @@ plainKind Left = leftKind
 plainKind CutByte = cutByteKind
 plainKind Lower = lowerKind
 plainKind Upper = upperKind
+
+-- a command of this shape was read, whose name stands at `place` and whose arguments begin at `at`
+abbrev pub ShapeRead : List ℕ → List ℕ → List ℕ → ℕ → ℕ → ℕ → Bool → Shape → Answer → Type 0
+ShapeRead s w w' place at k grouped shape = CommandRead s w w' place k (decode grouped place shape (cursorAt s at))

@@ -1,40 +1,47 @@
 -- The reader that carries its place, where a round leaves it, and rounds that read no command.
+use mathlib.Core.Path.{_≡_}
 use mathlib.Core.Bool.{cond}
 use mathlib.Core.List.{List}
 use Prim.Native.Nat.{ℕ}
 use lib.Dec.{eqb}
+use denote.Ref.{now}
 use Rattle.definitions.specs.Control.{Item}
 use Rattle.definitions.specs.Script.{readOne}
+use Rattle.answers.specs.declared.Answer.{Answer}
+use Rattle.answers.specs.declared.State.{State}
 use Rattle.script.specs.Reading.{readingOf, ReadSoFar, RoundRead}
-use Rattle.script.specs.declared.State.{State}
-use Rattle.script.specs.declared.Step.{Step}
 use Rattle.script.specs.declared.reading.Reader.{Reader}
 
--- the state, at another place
-abbrev pub standing : State → ℕ → State
-standing st at = record { at = at; k = st .k; due = st .due; elses = st .elses; depth = st .depth }
+-- ---- the reader
 
--- after what was read; at the place of a refusal; at the script's end it stays
-abbrev pub placeAfter : ℕ → Step → ℕ
-placeAfter at (Step.More st) = st .at
-placeAfter at (Step.Done n) = at
-placeAfter at (Step.Refused n p) = p
+-- where a round that began at `at` leaves it: after what was read; it stays where reading does not go on
+unfoldable pub placeAfter : ℕ → Answer → ℕ
+placeAfter at (Answer.Past next) = at
+placeAfter at (Answer.Number n next) = at
+placeAfter at (Answer.Two a b next) = at
+placeAfter at (Answer.Qualifiers q next) = at
+placeAfter at (Answer.OneString q start end next) = at
+placeAfter at (Answer.TwoStrings q start end second secondEnd next) = at
+placeAfter at (Answer.Search next m) = at
+placeAfter at (Answer.Command follow next m) = at
+placeAfter at (Answer.More st next) = next
+placeAfter at (Answer.Done n) = at
+placeAfter at (Answer.Refused n p) = at
 
--- the reader, at another place; and after a round
-abbrev pub movedTo : Reader → ℕ → Reader
-movedTo r at = record { script = r .script; at = at }
+-- a round from the state st and the place `from` on, in which the words w become w′, and which leaves the reader at `at`
+abbrev pub Turned : List ℕ → List ℕ → List ℕ → State → ℕ → ℕ → Answer → Type 0
+Turned s w w′ st from at r = ((acc : List Item) → ReadSoFar s w st from acc → RoundRead s w′ from (readOne (readingOf s w st from acc)) r) × (at ≡ placeAfter from r)
 
-abbrev pub movedBy : Reader → Step → Reader
-movedBy r step = movedTo r (placeAfter (r .at) step)
+-- the reader r makes that round, and is r′ then: it still has its script
+abbrev pub Moves : Reader → Reader → List ℕ → List ℕ → State → Answer → Type 0
+Moves r r′ w w′ st q = (r′ .script ≡ r .script) × Turned (now (r .script)) w w′ st (r .at) (r′ .at) q
 
--- a round at a place, whatever the place of the state
-abbrev pub RoundAt : List ℕ → List ℕ → List ℕ → ℕ → State → Step → Type 0
-RoundAt s w w′ at st r = (acc : List Item) → ReadSoFar s w (standing st at) acc → RoundRead s w′ at (readOne (readingOf s w (standing st at) acc)) r
+-- ---- rounds that read no command
 
--- `;`, a line end in a group, or a comment, up to `next`: where a body must follow it is missing, 3
-unfoldable pub separated : State → ℕ → Step
-separated st next = cond (eqb (st .due) 0) (Step.More (standing st next)) (Step.Refused 3 (st .at))
+-- `;`, a line end in a group, or a comment, from `at` up to `next`: where a body must follow it is missing, 3
+unfoldable pub separated : State → ℕ → ℕ → Answer
+separated st at next = cond (eqb (st .due) 0) (Answer.More st next) (Answer.Refused 3 at)
 
 -- the script's end: a body that is missing is 3, a group that is never closed 5
-unfoldable pub ended : State → Step
-ended st = cond (eqb (st .due) 0) (cond (eqb (st .depth) 0) (Step.Done (st .k)) (Step.Refused 5 (st .at))) (Step.Refused 3 (st .at))
+unfoldable pub ended : State → ℕ → Answer
+ended st at = cond (eqb (st .due) 0) (cond (eqb (st .depth) 0) (Answer.Done (st .k)) (Answer.Refused 5 at)) (Answer.Refused 3 at)

@@ -11,15 +11,16 @@ use Rattle.definitions.specs.Table.{isScript}
 use Rattle.definitions.specs.Reader.{Got, got, refused, Token, token}
 use Rattle.definitions.specs.Commands.{Decoded as Command-read, whole, prefix}
 use Rattle.definitions.specs.Script.{Due, nothing, body, Group, group, Reading, reading, Script, items, refusedAt, AfterRound, more, done, decoded}
+use Rattle.answers.specs.declared.Answer.{Answer}
+use Rattle.answers.specs.declared.Follow.{Follow}
+use Rattle.answers.specs.declared.State.{State}
+use Rattle.answers.specs.Answers.{CommandOr, RoundOr, DoneOr}
 use Rattle.lexer.specs.Places.{cursorAt}
+use Rattle.lexer.specs.Answers.{Refuses}
 use Rattle.items.specs.Words.{ItemAt}
 use Rattle.items.specs.Reserve.{ItemsReady}
 use Rattle.script.specs.Gathered.{Gathered, openIn, mostIn}
 use Rattle.items.specs.Depth.{openAfter}
-use Rattle.script.specs.declared.State.{State}
-use Rattle.script.specs.declared.Step.{Step}
-use Rattle.script.specs.declared.Command.{Command}
-use Rattle.script.specs.declared.Decoded.{Decoded}
 
 -- ---- what the numbers stand for
 
@@ -42,8 +43,9 @@ unfoldable pub bodiesIn : List ℕ → ℕ → ℕ
 bodiesIn w zero = 0
 bodiesIn w (suc d) = getD w (length w - suc d) 0 / 2 + bodiesIn w d
 
-unfoldable pub readingOf : List ℕ → List ℕ → State → List Item → Reading
-readingOf s w st acc = reading (cursorAt s (st .at)) (dueOf (st .due) (st .elses)) (groupsIn w (st .depth)) acc
+-- the reading from a place on
+unfoldable pub readingOf : List ℕ → List ℕ → State → ℕ → List Item → Reading
+readingOf s w st at acc = reading (cursorAt s at) (dueOf (st .due) (st .elses)) (groupsIn w (st .depth)) acc
 
 -- ---- the work area
 
@@ -65,12 +67,13 @@ pub record Affords (s : List ℕ) (at k due others depth : ℕ) (acc : List Item
   pub room : k + due + others + most ≤ 2 * at + 2 * depth
   pub spare : 0 < due → isDigit (getD s at 0) ≡ true → suc (k + due + others + most) ≤ 2 * at + 2 * depth
 
--- the state stands for the reading with the items `acc`
-pub record ReadSoFar (s w : List ℕ) (st : State) (acc : List Item) : Type 0 where
-  pub inside : st .at ≤ length s
+-- the state stands for the reading from the place `at` on, with the items `acc`
+pub record ReadSoFar (s w : List ℕ) (st : State) (at : ℕ) (acc : List Item) : Type 0 where
+  pub inside : at ≤ length s
   pub deep : st .depth ≤ 16
+  pub no-body : st .due ≡ 0 → st .elses ≡ false
   pub gathered : Gathered s w (st .k) acc
-  pub affords : Affords s (st .at) (st .k) (st .due) (bodiesIn w (st .depth)) (st .depth) acc
+  pub affords : Affords s at (st .k) (st .due) (bodiesIn w (st .depth)) (st .depth) acc
   pub fits : Fits s w
 
 -- the words below k and the last d stay
@@ -102,21 +105,20 @@ pub record Apart (s : List ℕ) (place k next m : ℕ) : Type 0 where
   pub named : isDigit (getD s place 0) ≡ false → m + 2 ≤ k + 2 * (next - place)
   pub followed : isDigit (getD s next 0) ≡ true → m + 3 ≤ k + 2 * (next - place)
 
-unfoldable pub CommandIs : List ℕ → List ℕ → ℕ → ℕ → Got Command-read → Command → Type 0
-CommandIs s w place k x (Command.Whole next m) = (i : Item) × (x ≡ got (whole i) (cursorAt s next)) × Laid s w place k next m 0 i
-CommandIs s w place k x (Command.Prefix e next m) = (i : Item) × (x ≡ got (prefix e i) (cursorAt s next)) × Laid s w place k next m 1 i × Apart s place k next m
-CommandIs s w place k x (Command.Refused n p) = x ≡ refused n p
+-- the item of a whole command; of one that a command or group must follow
+abbrev pub WholeIs : List ℕ → List ℕ → ℕ → ℕ → Got Command-read → ℕ → ℕ → Type 0
+WholeIs s w place k x next m = (i : Item) × (x ≡ got (whole i) (cursorAt s next)) × Laid s w place k next m 0 i
 
--- a command that was read leaves the words before it, and those of the groups
-unfoldable pub UnwrittenBy : Command → ℕ → List ℕ → List ℕ → Type 0
-UnwrittenBy (Command.Whole next m) k w w' = Unwritten k 16 w w'
-UnwrittenBy (Command.Prefix e next m) k w w' = Unwritten k 16 w w'
-UnwrittenBy (Command.Refused n p) k w w' = Unit {0}
+abbrev pub PrefixIs : List ℕ → List ℕ → ℕ → ℕ → Got Command-read → Bool → ℕ → ℕ → Type 0
+PrefixIs s w place k x e next m = (i : Item) × (x ≡ got (prefix e i) (cursorAt s next)) × Laid s w place k next m 1 i × Apart s place k next m
 
--- the answer r of the reader of a command, with the words before and after
-pub record CommandRead (s w w' : List ℕ) (place k : ℕ) (x : Got Command-read) (r : Command) : Type 0 where
-  pub kept : UnwrittenBy r k w w'
-  pub is : CommandIs s w' place k x r
+unfoldable pub CommandIs : List ℕ → List ℕ → ℕ → ℕ → Got Command-read → Follow → ℕ → ℕ → Type 0
+CommandIs s w place k x Follow.Nothing next m = WholeIs s w place k x next m
+CommandIs s w place k x (Follow.Body e) next m = PrefixIs s w place k x e next m
+
+-- what the reader of a command answers, with the words before and after: those before it, and those of the groups, stay
+abbrev pub CommandRead : List ℕ → List ℕ → List ℕ → ℕ → ℕ → Got Command-read → Answer → Type 0
+CommandRead s w w' place k x = CommandOr (λ follow next m. Unwritten k 16 w w' × CommandIs s w' place k x follow next m) (Refuses x)
 
 -- a repeat count at `place`
 unfoldable pub counted : ℕ → Token → Got Command-read
@@ -124,35 +126,39 @@ counted place (token n c) = cond (leb n 65535) (got (prefix false (opens place (
 
 -- ---- one round
 
+-- reading goes on at `next`, beyond the place `at` where the round began; the items end at n
+abbrev pub Onward : List ℕ → List ℕ → ℕ → AfterRound → State → ℕ → Type 0
+Onward s w at x st next = (acc : List Item) × (x ≡ more (readingOf s w st next acc)) × ReadSoFar s w st next acc × (at < next)
+
+abbrev pub Finished : List ℕ → List ℕ → AfterRound → ℕ → Type 0
+Finished s w x n = (is : List Item) × (x ≡ done (items is)) × ItemsReady s w n is
+
 -- the answer r of a round that began at place `at`, with the words after it
-unfoldable pub RoundRead : List ℕ → List ℕ → ℕ → AfterRound → Step → Type 0
-RoundRead s w at x (Step.More st) = (acc : List Item) × (x ≡ more (readingOf s w st acc)) × ReadSoFar s w st acc × (at < st .at)
-RoundRead s w at x (Step.Done n) = (is : List Item) × (x ≡ done (items is)) × ItemsReady s w n is
-RoundRead s w at x (Step.Refused n p) = x ≡ done (refusedAt n p)
+abbrev pub RoundRead : List ℕ → List ℕ → ℕ → AfterRound → Answer → Type 0
+RoundRead s w at x = RoundOr (Onward s w at x) (Finished s w x) (λ n p. x ≡ done (refusedAt n p))
 
 -- ---- the whole script
 
 -- the answer r of the reader, with the words after it: the items lie in the words from 0 on, and leave one word for each body open at once, and the reserve
-unfoldable pub ScriptRead : List ℕ → List ℕ → Script → Decoded → Type 0
-ScriptRead s w x (Decoded.Items n) = (is : List Item) × (x ≡ items is) × ItemsReady s w n is
-ScriptRead s w x (Decoded.Refused n p) = x ≡ refusedAt n p
+abbrev pub ScriptRead : List ℕ → List ℕ → Script → Answer → Type 0
+ScriptRead s w x = DoneOr (λ n. (is : List Item) × (x ≡ items is) × ItemsReady s w n is) (λ n p. x ≡ refusedAt n p)
 
 -- ---- what the functions of a round are handed, and what they answer
 
--- the state stands for a reading of the script; of some script, before its end
-abbrev pub Halfway : List ℕ → List ℕ → State → Type 0
-Halfway s w st = (acc : List Item) × ReadSoFar s w st acc
+-- the state stands for a reading of the script from a place on; of some script, before its end
+abbrev pub Halfway : List ℕ → List ℕ → State → ℕ → Type 0
+Halfway s w st at = (acc : List Item) × ReadSoFar s w st at acc
 
-abbrev pub HalfwayIn : List ℕ → State → Type 0
-HalfwayIn w st = (s : List ℕ) × (acc : List Item) × ReadSoFar s w st acc × (st .at < length s)
+abbrev pub HalfwayIn : List ℕ → State → ℕ → Type 0
+HalfwayIn w st at = (s : List ℕ) × (acc : List Item) × ReadSoFar s w st at acc × (at < length s)
 
--- a round from the state st on, in which the words w become w′, answers `next` of what is due, of the open groups and of the items: of one script, or of any
-abbrev pub RoundOf : List ℕ → List ℕ → List ℕ → State → (Due → List Group → List Item → AfterRound) → Step → Type 0
-RoundOf s w w′ st next r = (acc : List Item) → ReadSoFar s w st acc → RoundRead s w′ (st .at) (next (dueOf (st .due) (st .elses)) (groupsIn w (st .depth)) acc) r
+-- a round from the state st and the place `at` on, in which the words w become w′, answers `next` of what is due, of the open groups and of the items: of one script, or of any
+abbrev pub RoundOf : List ℕ → List ℕ → List ℕ → State → ℕ → (Due → List Group → List Item → AfterRound) → Answer → Type 0
+RoundOf s w w′ st at next r = (acc : List Item) → ReadSoFar s w st at acc → RoundRead s w′ at (next (dueOf (st .due) (st .elses)) (groupsIn w (st .depth)) acc) r
 
-abbrev pub RoundIn : List ℕ → List ℕ → State → (List ℕ → Due → List Group → List Item → AfterRound) → Step → Type 0
-RoundIn w w′ st next r =
-    (s : List ℕ) (acc : List Item) → ReadSoFar s w st acc → st .at < length s → RoundRead s w′ (st .at) (next s (dueOf (st .due) (st .elses)) (groupsIn w (st .depth)) acc) r
+abbrev pub RoundIn : List ℕ → List ℕ → State → ℕ → (List ℕ → Due → List Group → List Item → AfterRound) → Answer → Type 0
+RoundIn w w′ st at next r =
+    (s : List ℕ) (acc : List Item) → ReadSoFar s w st at acc → at < length s → RoundRead s w′ at (next s (dueOf (st .due) (st .elses)) (groupsIn w (st .depth)) acc) r
 
 -- reading goes on at a place, nothing due
 abbrev pub goesOn : List ℕ → ℕ → List Group → List Item → AfterRound
@@ -166,8 +172,8 @@ outerGroups w st = groupsIn w (st .depth - 1)
 abbrev pub bodiesAt : List ℕ → ℕ → ℕ
 bodiesAt w d = getD w (length w - d) 0 / 2
 
--- the command that was read leads on from the state st
-abbrev pub Finishes : List ℕ → List ℕ → State → Command → Step → Type 0
+-- the command that was read leads on from the state st, wherever it began
+abbrev pub Finishes : List ℕ → List ℕ → State → Answer → Answer → Type 0
 Finishes w w′ st c r =
-    (s before : List ℕ) (acc : List Item) (x : Got Command-read) → ReadSoFar s before st acc → CommandRead s before w (st .at) (st .k) x c
-    → RoundRead s w′ (st .at) (decoded (dueOf (st .due) (st .elses)) (groupsIn before (st .depth)) acc x) r
+    (s before : List ℕ) (at : ℕ) (acc : List Item) (x : Got Command-read) → ReadSoFar s before st at acc → CommandRead s before w at (st .k) x c
+    → RoundRead s w′ at (decoded (dueOf (st .due) (st .elses)) (groupsIn before (st .depth)) acc x) r

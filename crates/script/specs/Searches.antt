@@ -5,20 +5,16 @@ use mathlib.Core.List.{List}
 use Prim.Native.Nat.{ℕ, suc, _+_, _-_, _*_, _≤_, _<_}
 use lib.ListN.{length, getD}
 use Rattle.definitions.specs.Bytes.{isDigit}
-use Rattle.definitions.specs.Reader.{Got, got, refused}
+use Rattle.definitions.specs.Reader.{Got, got}
 use Rattle.definitions.specs.Search.{Search}
+use Rattle.answers.specs.declared.Answer.{Answer}
+use Rattle.answers.specs.Answers.{SearchOr}
 use Rattle.lexer.specs.Places.{cursorAt}
+use Rattle.lexer.specs.Answers.{Refuses}
 use Rattle.lexer.specs.declared.shapes.Shape.{Shape}
 use Rattle.lexer.specs.declared.shapes.Shape.the-variants.{Plain, Leaves, Seeks, Moves, Deletes, InsertsString, InsertsLines, Replaces, Alters, Points, Repeats, Branches, BranchesEof, Loops, Unknown}
-use Rattle.searches.specs.declared.Parse.{Parse}
 use Rattle.items.specs.Words.{SearchAt}
 use Rattle.script.specs.Reading.{Unwritten}
-use Rattle.script.specs.declared.Command.{Command}
-
--- a refusal of the search refuses the command; 0 is no number of a refusal
-unfoldable pub refusedSearch : Parse → Command
-refusedSearch (Parse.Next next m) = Command.Refused 0 next
-refusedSearch (Parse.Refused n p) = Command.Refused n p
 
 -- the names of prefixes have two letters at least
 unfoldable pub NameOf : Shape → ℕ → ℕ → Type 0
@@ -50,6 +46,5 @@ pub record Found (s w w' : List ℕ) (at k first next m : ℕ) (x : Got Search) 
   pub two : m + 2 * (length s - next) ≤ k + 2 + 2 * (length s - at)
   pub spare : isDigit (getD s next 0) ≡ true → suc m + 2 * (length s - next) ≤ k + 2 + 2 * (length s - at)
 
-unfoldable pub Searched : List ℕ → List ℕ → List ℕ → ℕ → ℕ → ℕ → Got Search → Parse → Type 0
-Searched s w w' at k first x (Parse.Next next m) = Found s w w' at k first next m x
-Searched s w w' at k first x (Parse.Refused n p) = x ≡ refused n p
+abbrev pub Searched : List ℕ → List ℕ → List ℕ → ℕ → ℕ → ℕ → Got Search → Answer → Type 0
+Searched s w w' at k first x = SearchOr (λ next m. Found s w w' at k first next m x) (Refuses x)

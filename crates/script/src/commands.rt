@@ -5,12 +5,15 @@ ghost use Prim.Native.Nat.{_+_, _≤_, _<_};
 ghost use lib.ListN.{length, set, getD};
 ghost use Rattle.definitions.specs.Bytes.{isDigit};
 ghost use Rattle.definitions.specs.Reader.{digits as «digits-of»};
-ghost use Rattle.definitions.specs.Commands.{moves as «moves-shape», deletes as «deletes-shape», decode as «decode-of»};
+ghost use Rattle.definitions.specs.Commands.{moves as «moves-shape», deletes as «deletes-shape»};
 ghost use Rattle.lexer.specs.Places.{cursorAt};
 ghost use Rattle.items.specs.Words.{head as «head-of»};
 ghost use Rattle.script.specs.Reading.{CommandRoom, CommandRead, counted};
-ghost use Rattle.script.specs.Commands.{refusedBy, refusedByTwo, plainKind};
-use crate::Command;
+ghost use Rattle.script.specs.Commands.{plainKind, ShapeRead};
+ghost use Rattle.answers.specs.declared.Answer.{Answer};
+ghost use Rattle.answers.specs.declared.Follow.{Follow};
+use answers::Answer;
+use answers::Follow;
 use items::arguments::span_head;
 use items::arguments::span_word;
 use items::heads::head;
@@ -31,35 +34,14 @@ use items::kinds::RIGHT;
 use items::kinds::UPPER;
 use items::puts::put_one;
 use items::puts::put_two;
-use lexer::Answer;
-use lexer::Two;
 use lexer::numbers::digits;
 use lexer::shapes::Plain;
 use lexer::spaces::skip_spaces;
 use lexer::targets::line_span;
 use lexer::targets::target;
 
-// A refusal of an argument refuses the command. 0 is no number of a refusal.
-pub fn refusal(a: Answer) -> Command
-    ensures { λ r. ⌜ r ≡ refusedBy a ⌝ }
-{
-    match a {
-        Answer::Is(_, next) => Command::Refused(0, next),
-        Answer::Refused(n, p) => Command::Refused(n, p),
-    }
-}
-
-pub fn refusal_two(a: Two) -> Command
-    ensures { λ r. ⌜ r ≡ refusedByTwo a ⌝ }
-{
-    match a {
-        Two::Are(_, _, next) => Command::Refused(0, next),
-        Two::Refused(n, p) => Command::Refused(n, p),
-    }
-}
-
 // A repeat count, 0 to 65,535: one below 512 stands in the first word.
-pub fn count(s: &[u8], w: &mut [u32], k: usize, at: usize) -> Command
+pub fn count(s: &[u8], w: &mut [u32], k: usize, at: usize) -> Answer
     requires { ⌜ CommandRoom (now s) (now w) at (at + 1) k × (isDigit (getD (now s) at 0) ≡ true) ⌝ }
     ensures { λ r. ⌜ CommandRead (now (s .entry)) (now (w .entry)) (now (w .exit)) at k (counted at («digits-of» (cursorAt (now (s .entry)) at))) r ⌝ }
 {
@@ -67,14 +49,14 @@ pub fn count(s: &[u8], w: &mut [u32], k: usize, at: usize) -> Command
     let n = d.value;
     let next = d.next;
     if n > 65535 {
-        return Command::Refused(3, at);
+        return Answer::Refused(3, at);
     }
     if n < 512 {
         put_one(w, k, head_with(COUNT, at, n as u32));
-        return Command::Prefix(false, next, k + 1);
+        return Answer::Command(Follow::Body(false), next, k + 1);
     }
     put_two(w, k, head(LONG_COUNT, at), n as u32);
-    Command::Prefix(false, next, k + 2)
+    Answer::Command(Follow::Body(false), next, k + 2)
 }
 
 pub fn plain_kind(p: Plain) -> u32
@@ -95,12 +77,12 @@ pub fn plain_kind(p: Plain) -> u32
 }
 
 // A command of one word.
-pub fn whole_word(w: &mut [u32], k: usize, kind: u32, place: usize, at: usize) -> Command
+pub fn whole_word(w: &mut [u32], k: usize, kind: u32, place: usize, at: usize) -> Answer
     requires { ⌜ (k < length (now w)) × (kind < 256) × (place ≤ 16384) ⌝ }
-    ensures { λ r. ⌜ (now (w .exit) ≡ set (now (w .entry)) k («head-of» kind place)) × (r ≡ Command.Whole at (k + 1)) ⌝ }
+    ensures { λ r. ⌜ (now (w .exit) ≡ set (now (w .entry)) k («head-of» kind place)) × (r ≡ Answer.Command Follow.Nothing at (k + 1)) ⌝ }
 {
     w[k] = head(kind, place);
-    Command::Whole(at, k + 1)
+    Answer::Command(Follow::Nothing, at, k + 1)
 }
 
 // A prefix of one word.
@@ -111,36 +93,36 @@ pub fn prefix_word(
     place: usize,
     at: usize,
     elses: bool,
-) -> Command
+) -> Answer
     requires { ⌜ (k < length (now w)) × (kind < 256) × (place ≤ 16384) ⌝ }
-    ensures { λ r. ⌜ (now (w .exit) ≡ set (now (w .entry)) k («head-of» kind place)) × (r ≡ Command.Prefix elses at (k + 1)) ⌝ }
+    ensures { λ r. ⌜ (now (w .exit) ≡ set (now (w .entry)) k («head-of» kind place)) × (r ≡ Answer.Command (Follow.Body elses) at (k + 1)) ⌝ }
 {
     w[k] = head(kind, place);
-    Command::Prefix(elses, at, k + 1)
+    Answer::Command(Follow::Body(elses), at, k + 1)
 }
 
 // M: a line.
-pub fn moves(s: &[u8], w: &mut [u32], k: usize, place: usize, at: usize) -> Command
+pub fn moves(s: &[u8], w: &mut [u32], k: usize, place: usize, at: usize) -> Answer
     requires { ⌜ CommandRoom (now s) (now w) place at k ⌝ }
-    ensures { λ r. ⌜ CommandRead (now (s .entry)) (now (w .entry)) (now (w .exit)) place k («decode-of» false place «moves-shape» (cursorAt (now (s .entry)) at)) r ⌝ }
+    ensures { λ r. ⌜ ShapeRead (now (s .entry)) (now (w .entry)) (now (w .exit)) place at k false «moves-shape» r ⌝ }
 {
     let first = target(s, skip_spaces(s, at));
-    let Answer::Is(a, next) = first else {
-        return refusal(first);
+    let Answer::Number(a, next) = first else {
+        return first;
     };
     put_two(w, k, head(MOVE, place), a as u32);
-    Command::Whole(next, k + 2)
+    Answer::Command(Follow::Nothing, next, k + 2)
 }
 
 // D: lines.
-pub fn deletes(s: &[u8], w: &mut [u32], k: usize, place: usize, at: usize) -> Command
+pub fn deletes(s: &[u8], w: &mut [u32], k: usize, place: usize, at: usize) -> Answer
     requires { ⌜ CommandRoom (now s) (now w) place at k ⌝ }
-    ensures { λ r. ⌜ CommandRead (now (s .entry)) (now (w .entry)) (now (w .exit)) place k («decode-of» false place «deletes-shape» (cursorAt (now (s .entry)) at)) r ⌝ }
+    ensures { λ r. ⌜ ShapeRead (now (s .entry)) (now (w .entry)) (now (w .exit)) place at k false «deletes-shape» r ⌝ }
 {
     let span = line_span(s, at);
-    let Two::Are(a, b, next) = span else {
-        return refusal_two(span);
+    let Answer::Two(a, b, next) = span else {
+        return span;
     };
     put_two(w, k, span_head(DELETE, place, b), span_word(a, b));
-    Command::Whole(next, k + 2)
+    Answer::Command(Follow::Nothing, next, k + 2)
 }

@@ -1,11 +1,10 @@
 // Commands with strings or lines of the script: IS, I and R. Strings and lines stay in the script; their places are written.
 ghost use mathlib.Core.Bool.{false};
-ghost use Rattle.definitions.specs.Commands.{insertsString, insertsLines, replaces as «replaces-shape», decode as «decode-of»};
-ghost use Rattle.lexer.specs.Places.{cursorAt};
-ghost use Rattle.script.specs.Reading.{CommandRoom, CommandRead};
-use crate::Command;
-use crate::commands::refusal;
-use crate::commands::refusal_two;
+ghost use Rattle.definitions.specs.Commands.{insertsString, insertsLines, replaces as «replaces-shape»};
+ghost use Rattle.script.specs.Reading.{CommandRoom};
+ghost use Rattle.script.specs.Commands.{ShapeRead};
+use answers::Answer;
+use answers::Follow;
 use items::arguments::span_head;
 use items::arguments::span_word;
 use items::arguments::spot_word;
@@ -16,8 +15,6 @@ use items::kinds::INSERT_STRING;
 use items::kinds::REPLACE;
 use items::puts::put_four;
 use items::puts::put_two;
-use lexer::Answer;
-use lexer::Two;
 use lexer::lines::script_lines;
 use lexer::spaces::skip_spaces;
 use lexer::strings::quoted;
@@ -25,16 +22,16 @@ use lexer::targets::line_span;
 use lexer::targets::optional_target;
 
 // IS: a string.
-pub fn inserts_string(s: &[u8], w: &mut [u32], k: usize, place: usize, at: usize) -> Command
+pub fn inserts_string(s: &[u8], w: &mut [u32], k: usize, place: usize, at: usize) -> Answer
     requires { ⌜ CommandRoom (now s) (now w) place at k ⌝ }
-    ensures { λ r. ⌜ CommandRead (now (s .entry)) (now (w .entry)) (now (w .exit)) place k («decode-of» false place insertsString (cursorAt (now (s .entry)) at)) r ⌝ }
+    ensures { λ r. ⌜ ShapeRead (now (s .entry)) (now (w .entry)) (now (w .exit)) place at k false insertsString r ⌝ }
 {
     let string = quoted(s, skip_spaces(s, at));
-    let Two::Are(start, end, next) = string else {
-        return refusal_two(string);
+    let Answer::Two(start, end, next) = string else {
+        return string;
     };
     put_two(w, k, head(INSERT_STRING, place), string_word(start, end));
-    Command::Whole(next, k + 2)
+    Answer::Command(Follow::Nothing, next, k + 2)
 }
 
 // I: a line, and lines of the script.
@@ -45,17 +42,17 @@ pub fn inserts_lines(
     place: usize,
     at: usize,
     grouped: bool,
-) -> Command
+) -> Answer
     requires { ⌜ CommandRoom (now s) (now w) place at k ⌝ }
-    ensures { λ r. ⌜ CommandRead (now (s .entry)) (now (w .entry)) (now (w .exit)) place k («decode-of» grouped place insertsLines (cursorAt (now (s .entry)) at)) r ⌝ }
+    ensures { λ r. ⌜ ShapeRead (now (s .entry)) (now (w .entry)) (now (w .exit)) place at k grouped insertsLines r ⌝ }
 {
     let spot = optional_target(s, at);
-    let Answer::Is(a, from) = spot else {
-        return refusal(spot);
+    let Answer::Number(a, from) = spot else {
+        return spot;
     };
     let lines = script_lines(s, from, grouped);
-    let Two::Are(start, end, next) = lines else {
-        return refusal_two(lines);
+    let Answer::Two(start, end, next) = lines else {
+        return lines;
     };
     put_four(
         w,
@@ -65,28 +62,21 @@ pub fn inserts_lines(
         start as u32,
         end as u32,
     );
-    Command::Whole(next, k + 4)
+    Answer::Command(Follow::Nothing, next, k + 4)
 }
 
 // R: lines to delete, and lines of the script.
-pub fn replaces(
-    s: &[u8],
-    w: &mut [u32],
-    k: usize,
-    place: usize,
-    at: usize,
-    grouped: bool,
-) -> Command
+pub fn replaces(s: &[u8], w: &mut [u32], k: usize, place: usize, at: usize, grouped: bool) -> Answer
     requires { ⌜ CommandRoom (now s) (now w) place at k ⌝ }
-    ensures { λ r. ⌜ CommandRead (now (s .entry)) (now (w .entry)) (now (w .exit)) place k («decode-of» grouped place «replaces-shape» (cursorAt (now (s .entry)) at)) r ⌝ }
+    ensures { λ r. ⌜ ShapeRead (now (s .entry)) (now (w .entry)) (now (w .exit)) place at k grouped «replaces-shape» r ⌝ }
 {
     let span = line_span(s, at);
-    let Two::Are(a, b, from) = span else {
-        return refusal_two(span);
+    let Answer::Two(a, b, from) = span else {
+        return span;
     };
     let lines = script_lines(s, from, grouped);
-    let Two::Are(start, end, next) = lines else {
-        return refusal_two(lines);
+    let Answer::Two(start, end, next) = lines else {
+        return lines;
     };
     put_four(
         w,
@@ -96,5 +86,5 @@ pub fn replaces(
         start as u32,
         end as u32,
     );
-    Command::Whole(next, k + 4)
+    Answer::Command(Follow::Nothing, next, k + 4)
 }

@@ -18,6 +18,8 @@ ghost use Rattle.definitions.specs.Reader.{digits};
 ghost use Rattle.definitions.specs.Script.{countRead, readAt, readOne, readScript};
 ghost use Rattle.lexer.specs.Places.{cursorAt};
 ghost use Rattle.script.specs.Reading.{readingOf, Halfway, RoundOf, ScriptRead};
+use answers::Answer;
+use answers::State;
 use commands::count;
 use groups::close_group;
 use groups::open_group;
@@ -27,126 +29,89 @@ use lexer::names::name;
 use lexer::spaces::skip_comment;
 use lexer::spaces::skip_spaces;
 use named::named;
-use reading::round;
+use reading::read_round;
 use rounds::finish;
 use rounds::line_end;
 use rounds::script_end;
 use rounds::separator;
 
-// Where the reader stands. The open groups' words are the last of the work area.
-pub struct State {
-    // The next byte of the script, and the next free word.
+// A round, and where it left the reader.
+pub struct Round {
+    pub answer: Answer,
     pub at: usize,
-    pub k: usize,
-    // How many bodies the next command closes; 0 where none is due. elses: ELSE may follow it if it is a group.
-    pub due: usize,
-    pub elses: bool,
-    // Open groups.
-    pub depth: usize,
-}
-
-// After a round.
-pub enum Step {
-    More(State),
-    // The end of the items.
-    Done(usize),
-    // The number, and the place.
-    Refused(u32, usize),
-}
-
-// A command that was read: the place after it, and the word after it.
-pub enum Command {
-    Whole(usize, usize),
-    // A command or group must follow; true: if it is a group, ELSE may follow that.
-    Prefix(bool, usize, usize),
-    Refused(u32, usize),
-}
-
-// A whole script: the end of its items' words; or number and place.
-pub enum Decoded {
-    Items(usize),
-    Refused(u32, usize),
 }
 
 // A repeat count.
-fn counted(s: &[u8], w: &mut [u32], st: State) -> Step
-    requires { ⌜ Halfway (now s) (now w) st × (st .at < length (now s)) × (isDigit (getD (now s) (st .at) 0) ≡ true) ⌝ }
-    ensures { λ r. ⌜ RoundOf (now (s .entry)) (now (w .entry)) (now (w .exit)) st (λ due groups acc. countRead due groups acc (st .at) (digits (cursorAt (now (s .entry)) (st .at)))) r ⌝ }
+fn counted(s: &[u8], w: &mut [u32], st: State, at: usize) -> Answer
+    requires { ⌜ Halfway (now s) (now w) st at × (at < length (now s)) × (isDigit (getD (now s) at 0) ≡ true) ⌝ }
+    ensures { λ r. ⌜ RoundOf (now (s .entry)) (now (w .entry)) (now (w .exit)) st at (λ due groups acc. countRead due groups acc at (digits (cursorAt (now (s .entry)) at))) r ⌝ }
 {
-    let c = count(s, w, st.k, st.at);
+    let c = count(s, w, st.k, at);
     finish(w, st, c)
 }
 
 // Where a command may begin: the byte there says what it is.
-fn read_at(s: &[u8], w: &mut [u32], st: State) -> Step
-    requires { ⌜ Halfway (now s) (now w) st × (st .at < length (now s)) ⌝ }
-    ensures { λ r. ⌜ RoundOf (now (s .entry)) (now (w .entry)) (now (w .exit)) st (λ due groups acc. readAt due groups acc (cursorAt (now (s .entry)) (st .at))) r ⌝ }
+fn read_at(s: &[u8], w: &mut [u32], st: State, at: usize) -> Answer
+    requires { ⌜ Halfway (now s) (now w) st at × (at < length (now s)) ⌝ }
+    ensures { λ r. ⌜ RoundOf (now (s .entry)) (now (w .entry)) (now (w .exit)) st at (λ due groups acc. readAt due groups acc (cursorAt (now (s .entry)) at)) r ⌝ }
 {
-    let at = st.at;
     let b = s[at];
     if b == 59 {
-        return separator(st, at + 1);
+        return separator(st, at, at + 1);
     }
     if b == 10 {
-        return line_end(w, st);
+        return line_end(w, st, at);
     }
     if b == 40 {
-        return open_group(w, st);
+        return open_group(w, st, at);
     }
     if b == 41 {
-        return close_group(s, w, st);
+        return close_group(s, w, st, at);
     }
     if is_digit(b) {
-        return counted(s, w, st);
+        return counted(s, w, st, at);
     }
     if is_letter(b) {
         let n = name(s, at);
-        return named(s, w, st, n.letters, n.next);
+        return named(s, w, st, at, n.letters, n.next);
     }
     if b == 92 {
-        return separator(st, skip_comment(s, at + 1));
+        return separator(st, at, skip_comment(s, at + 1));
     }
-    named(s, w, st, b as u32, at + 1)
+    named(s, w, st, at, b as u32, at + 1)
 }
 
 // One round: a command, a prefix, a bracket or a separator; or the script's end.
-fn read_one(s: &[u8], w: &mut [u32], st: State) -> Step
-    requires { ⌜ Halfway (now s) (now w) st ⌝ }
-    ensures { λ r. ⌜ RoundOf (now (s .entry)) (now (w .entry)) (now (w .exit)) st (λ due groups acc. readOne (readingOf (now (s .entry)) (now (w .entry)) st acc)) r ⌝ }
+fn read_one(s: &[u8], w: &mut [u32], st: State, from: usize) -> Answer
+    requires { ⌜ Halfway (now s) (now w) st from ⌝ }
+    ensures { λ r. ⌜ RoundOf (now (s .entry)) (now (w .entry)) (now (w .exit)) st from (λ due groups acc. readOne (readingOf (now (s .entry)) (now (w .entry)) st from acc)) r ⌝ }
 {
-    let at = skip_spaces(s, st.at);
-    let mut here = st;
-    here.at = at;
+    let at = skip_spaces(s, from);
     if at < s.len() {
-        return read_at(s, w, here);
+        return read_at(s, w, st, at);
     }
-    script_end(here)
+    script_end(st, at)
 }
 
 // Reads a script: its items go to the work area, from the first word on.
-pub fn read_script(s: &[u8], w: &mut [u32]) -> Decoded
+pub fn read_script(s: &[u8], w: &mut [u32]) -> Answer
     requires { ⌜ (isScript (now s) ≡ true) × (2 * length (now s) + 64 ≤ length (now w)) ⌝ }
     ensures { λ r. ⌜ ScriptRead (now (s .entry)) (now (w .exit)) (readScript (now (s .entry))) r ⌝ }
 {
     let mut st = State {
-        at: 0,
         k: 0,
         due: 0,
         elses: false,
         depth: 0,
     };
+    let mut at = 0;
     loop {
-        let step = round(s, w, st);
-        match step {
-            Step::More(next) => {
-                st = next;
-            }
-            Step::Done(n) => {
-                return Decoded::Items(n);
-            }
-            Step::Refused(n, p) => {
-                return Decoded::Refused(n, p);
-            }
-        }
+        let round = read_round(s, w, st, at);
+        let answer = round.answer;
+        let Answer::More(next, _) = answer else {
+            return answer;
+        };
+        st = next;
+        at = round.at;
     }
 }

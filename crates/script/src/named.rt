@@ -2,15 +2,12 @@
 ghost use Prim.Native.Nat.{_+_, _≤_, _<_};
 ghost use lib.ListN.{length};
 ghost use Rattle.definitions.specs.Reader.{token};
-ghost use Rattle.definitions.specs.Commands.{decode as «decode-of»};
 ghost use Rattle.definitions.specs.Script.{named as «named-of»};
 ghost use Rattle.lexer.specs.Places.{cursorAt};
 ghost use Rattle.lexer.specs.Shapes.{shapeIn};
-ghost use Rattle.script.specs.Reading.{CommandRoom, CommandRead, Halfway, RoundOf};
+ghost use Rattle.script.specs.Reading.{CommandRoom, Halfway, RoundOf};
+ghost use Rattle.script.specs.Commands.{ShapeRead};
 ghost use Rattle.script.specs.Searches.{NameOf};
-use crate::Command;
-use crate::State;
-use crate::Step;
 use crate::commands::deletes;
 use crate::commands::moves;
 use crate::commands::plain_kind;
@@ -25,6 +22,8 @@ use crate::rounds::finish;
 use crate::searching::branches;
 use crate::searching::loops;
 use crate::searching::seeks;
+use answers::Answer;
+use answers::State;
 use items::kinds::AGP;
 use items::kinds::IF_EOF;
 use items::kinds::REPEAT;
@@ -41,9 +40,9 @@ fn decode(
     at: usize,
     shape: Shape,
     grouped: bool,
-) -> Command
+) -> Answer
     requires { ⌜ CommandRoom (now s) (now w) place at k × NameOf shape place at ⌝ }
-    ensures { λ r. ⌜ CommandRead (now (s .entry)) (now (w .entry)) (now (w .exit)) place k («decode-of» grouped place (shapeIn shape) (cursorAt (now (s .entry)) at)) r ⌝ }
+    ensures { λ r. ⌜ ShapeRead (now (s .entry)) (now (w .entry)) (now (w .exit)) place at k grouped (shapeIn shape) r ⌝ }
 {
     match shape {
         Shape::Plain(p) => whole_word(w, k, plain_kind(p), place, at),
@@ -60,16 +59,16 @@ fn decode(
         Shape::Branches(holds) => branches(s, w, k, place, at, holds),
         Shape::BranchesEof => prefix_word(w, k, IF_EOF, place, skip_then(s, at), true),
         Shape::Loops(holds) => loops(s, w, k, place, at, holds),
-        Shape::Unknown => Command::Refused(2, place),
+        Shape::Unknown => Answer::Refused(2, place),
     }
 }
 
-// A command with this name, which stands at the state's place and ends at `next`.
-pub fn named(s: &[u8], w: &mut [u32], st: State, letters: u32, next: usize) -> Step
-    requires { ⌜ Halfway (now s) (now w) st × (st .at < next) × (next ≤ length (now s)) × (256 ≤ letters → st .at + 2 ≤ next) ⌝ }
-    ensures { λ r. ⌜ RoundOf (now (s .entry)) (now (w .entry)) (now (w .exit)) st (λ due groups acc. «named-of» due groups acc (st .at) (token letters (cursorAt (now (s .entry)) next))) r ⌝ }
+// A command with this name, which stands at `at` and ends at `next`.
+pub fn named(s: &[u8], w: &mut [u32], st: State, at: usize, letters: u32, next: usize) -> Answer
+    requires { ⌜ Halfway (now s) (now w) st at × (at < next) × (next ≤ length (now s)) × (256 ≤ letters → at + 2 ≤ next) ⌝ }
+    ensures { λ r. ⌜ RoundOf (now (s .entry)) (now (w .entry)) (now (w .exit)) st at (λ due groups acc. «named-of» due groups acc at (token letters (cursorAt (now (s .entry)) next))) r ⌝ }
 {
     let shape = command(letters);
-    let c = decode(s, w, st.k, st.at, next, shape, st.depth != 0);
+    let c = decode(s, w, st.k, at, next, shape, st.depth != 0);
     finish(w, st, c)
 }

@@ -2,13 +2,13 @@
 ghost use mathlib.Core.Path.{_≡_};
 ghost use mathlib.Core.Bool.{false};
 ghost use Prim.Native.Nat.{_<_};
-ghost use Rattle.definitions.specs.Commands.{alters as «alters-shape», points as «points-shape», decode as «decode-of»};
-ghost use Rattle.lexer.specs.Places.{cursorAt};
+ghost use Rattle.definitions.specs.Commands.{alters as «alters-shape», points as «points-shape»};
 ghost use Rattle.lexer.specs.Shapes.{changeOf};
 ghost use Rattle.items.specs.Kinds.{changeKind, pointKind};
-ghost use Rattle.script.specs.Reading.{CommandRoom, CommandRead};
-ghost use Rattle.script.specs.Commands.{refusedByString, refusedByPair};
-use crate::Command;
+ghost use Rattle.script.specs.Reading.{CommandRoom};
+ghost use Rattle.script.specs.Commands.{ShapeRead};
+use answers::Answer;
+use answers::Follow;
 use items::arguments::string_word;
 use items::heads::head;
 use items::kinds::AFTER;
@@ -21,41 +21,8 @@ use items::kinds::POINT_AFTER;
 use items::kinds::POINT_BEFORE;
 use lexer::shapes::Change;
 use matching::search::put_string;
-use strings::OneString;
-use strings::TwoStrings;
 use strings::qualified_string;
 use strings::two_strings;
-
-// A refusal of a string refuses the command. 0 is no number of a refusal.
-fn refusal(string: OneString) -> Command
-    ensures { λ r. ⌜ r ≡ refusedByString string ⌝ }
-{
-    match string {
-        OneString::Next {
-            quals: _,
-            start: _,
-            end: _,
-            next,
-        } => Command::Refused(0, next),
-        OneString::Refused(n, p) => Command::Refused(n, p),
-    }
-}
-
-fn refusal_pair(both: TwoStrings) -> Command
-    ensures { λ r. ⌜ r ≡ refusedByPair both ⌝ }
-{
-    match both {
-        TwoStrings::Next {
-            quals: _,
-            start: _,
-            end: _,
-            second: _,
-            second_end: _,
-            next,
-        } => Command::Refused(0, next),
-        TwoStrings::Refused(n, p) => Command::Refused(n, p),
-    }
-}
 
 fn change_kind(change: Change, pointing: bool) -> u32
     ensures { λ r. ⌜ (r ≡ changeKind (changeOf change) pointing) × (r < 256) ⌝ }
@@ -82,12 +49,12 @@ pub fn alters(
     at: usize,
     change: Change,
     pointing: bool,
-) -> Command
+) -> Answer
     requires { ⌜ CommandRoom (now s) (now w) place at k ⌝ }
-    ensures { λ r. ⌜ CommandRead (now (s .entry)) (now (w .entry)) (now (w .exit)) place k («decode-of» false place («alters-shape» (changeOf change) pointing) (cursorAt (now (s .entry)) at)) r ⌝ }
+    ensures { λ r. ⌜ ShapeRead (now (s .entry)) (now (w .entry)) (now (w .exit)) place at k false («alters-shape» (changeOf change) pointing) r ⌝ }
 {
     let both = two_strings(s, at);
-    let TwoStrings::Next {
+    let Answer::TwoStrings {
         quals,
         start,
         end,
@@ -96,12 +63,12 @@ pub fn alters(
         next,
     } = both
     else {
-        return refusal_pair(both);
+        return both;
     };
     w[k] = head(change_kind(change, pointing), place);
     let m = put_string(w, k + 1, quals, start, end - start);
     w[m] = string_word(second, second_end);
-    Command::Whole(next, m + 1)
+    Answer::Command(Follow::Nothing, next, m + 1)
 }
 
 fn point_kind(after: bool) -> u32
@@ -111,21 +78,21 @@ fn point_kind(after: bool) -> u32
 }
 
 // PA (true), PB: a qualified string.
-pub fn points(s: &[u8], w: &mut [u32], k: usize, place: usize, at: usize, after: bool) -> Command
+pub fn points(s: &[u8], w: &mut [u32], k: usize, place: usize, at: usize, after: bool) -> Answer
     requires { ⌜ CommandRoom (now s) (now w) place at k ⌝ }
-    ensures { λ r. ⌜ CommandRead (now (s .entry)) (now (w .entry)) (now (w .exit)) place k («decode-of» false place («points-shape» after) (cursorAt (now (s .entry)) at)) r ⌝ }
+    ensures { λ r. ⌜ ShapeRead (now (s .entry)) (now (w .entry)) (now (w .exit)) place at k false («points-shape» after) r ⌝ }
 {
     let string = qualified_string(s, at, false);
-    let OneString::Next {
+    let Answer::OneString {
         quals,
         start,
         end,
         next,
     } = string
     else {
-        return refusal(string);
+        return string;
     };
     w[k] = head(point_kind(after), place);
     let m = put_string(w, k + 1, quals, start, end - start);
-    Command::Whole(next, m)
+    Answer::Command(Follow::Nothing, next, m)
 }

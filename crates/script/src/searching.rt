@@ -3,14 +3,16 @@ ghost use mathlib.Core.Path.{_≡_};
 ghost use mathlib.Core.Bool.{false};
 ghost use Prim.Native.Nat.{_+_, _≤_, _<_};
 ghost use Rattle.definitions.specs.Strings.{searchExpression};
-ghost use Rattle.definitions.specs.Commands.{seeks as «seeks-shape», branches as «branches-shape», loops as «loops-shape», decode as «decode-of»};
+ghost use Rattle.definitions.specs.Commands.{seeks as «seeks-shape», branches as «branches-shape», loops as «loops-shape»};
 ghost use Rattle.lexer.specs.Places.{cursorAt};
 ghost use Rattle.lexer.specs.Shapes.{seekOf};
 ghost use Rattle.items.specs.Kinds.{seekKind, branchKind, loopKind};
 ghost use Rattle.items.specs.Words.{head as «head-of»};
-ghost use Rattle.script.specs.Reading.{CommandRoom, CommandRead};
-ghost use Rattle.script.specs.Searches.{refusedSearch, Searched};
-use crate::Command;
+ghost use Rattle.script.specs.Reading.{CommandRoom};
+ghost use Rattle.script.specs.Commands.{ShapeRead};
+ghost use Rattle.script.specs.Searches.{Searched};
+use answers::Answer;
+use answers::Follow;
 use items::heads::head;
 use items::kinds::FIND;
 use items::kinds::FIND_BACK;
@@ -22,31 +24,20 @@ use items::kinds::WHILE;
 use items::puts::put_two;
 use lexer::shapes::Seek;
 use lexer::words::skip_then;
-use searches::Parse;
 use searches::search;
 
 // The first word, where the search ends, and the search. The groups' words are kept from it.
-fn search_words(s: &[u8], w: &mut [u32], k: usize, place: usize, at: usize, kind: u32) -> Parse
+fn search_words(s: &[u8], w: &mut [u32], k: usize, place: usize, at: usize, kind: u32) -> Answer
     requires { ⌜ CommandRoom (now s) (now w) place at k × (kind < 256) ⌝ }
     ensures { λ r. ⌜ Searched (now (s .entry)) (now (w .entry)) (now (w .exit)) at k («head-of» kind place) (searchExpression (cursorAt (now (s .entry)) at)) r ⌝ }
 {
     let limit = w.len() - 16;
     let found = search(s, at, &mut w[..limit], k + 2);
-    let Parse::Next(_, m) = found else {
+    let Answer::Search(_, m) = found else {
         return found;
     };
     put_two(w, k, head(kind, place), m as u32);
     found
-}
-
-// A refusal of the search refuses the command. 0 is no number of a refusal.
-fn refusal(found: Parse) -> Command
-    ensures { λ r. ⌜ r ≡ refusedSearch found ⌝ }
-{
-    match found {
-        Parse::Next(next, _) => Command::Refused(0, next),
-        Parse::Refused(n, p) => Command::Refused(n, p),
-    }
 }
 
 fn seek_kind(seek: Seek) -> u32
@@ -60,15 +51,15 @@ fn seek_kind(seek: Seek) -> u32
 }
 
 // F, BF, DF.
-pub fn seeks(s: &[u8], w: &mut [u32], k: usize, place: usize, at: usize, seek: Seek) -> Command
+pub fn seeks(s: &[u8], w: &mut [u32], k: usize, place: usize, at: usize, seek: Seek) -> Answer
     requires { ⌜ CommandRoom (now s) (now w) place at k ⌝ }
-    ensures { λ r. ⌜ CommandRead (now (s .entry)) (now (w .entry)) (now (w .exit)) place k («decode-of» false place («seeks-shape» (seekOf seek)) (cursorAt (now (s .entry)) at)) r ⌝ }
+    ensures { λ r. ⌜ ShapeRead (now (s .entry)) (now (w .entry)) (now (w .exit)) place at k false («seeks-shape» (seekOf seek)) r ⌝ }
 {
     let found = search_words(s, w, k, place, at, seek_kind(seek));
-    let Parse::Next(next, m) = found else {
-        return refusal(found);
+    let Answer::Search(next, m) = found else {
+        return found;
     };
-    Command::Whole(next, m)
+    Answer::Command(Follow::Nothing, next, m)
 }
 
 fn branch_kind(holds: bool) -> u32
@@ -78,15 +69,15 @@ fn branch_kind(holds: bool) -> u32
 }
 
 // IF (true), UL: THEN may follow.
-pub fn branches(s: &[u8], w: &mut [u32], k: usize, place: usize, at: usize, holds: bool) -> Command
+pub fn branches(s: &[u8], w: &mut [u32], k: usize, place: usize, at: usize, holds: bool) -> Answer
     requires { ⌜ CommandRoom (now s) (now w) place at k × (place + 2 ≤ at) ⌝ }
-    ensures { λ r. ⌜ CommandRead (now (s .entry)) (now (w .entry)) (now (w .exit)) place k («decode-of» false place («branches-shape» holds) (cursorAt (now (s .entry)) at)) r ⌝ }
+    ensures { λ r. ⌜ ShapeRead (now (s .entry)) (now (w .entry)) (now (w .exit)) place at k false («branches-shape» holds) r ⌝ }
 {
     let found = search_words(s, w, k, place, at, branch_kind(holds));
-    let Parse::Next(next, m) = found else {
-        return refusal(found);
+    let Answer::Search(next, m) = found else {
+        return found;
     };
-    Command::Prefix(true, skip_then(s, next), m)
+    Answer::Command(Follow::Body(true), skip_then(s, next), m)
 }
 
 fn loop_kind(holds: bool) -> u32
@@ -96,13 +87,13 @@ fn loop_kind(holds: bool) -> u32
 }
 
 // WH (true), UT.
-pub fn loops(s: &[u8], w: &mut [u32], k: usize, place: usize, at: usize, holds: bool) -> Command
+pub fn loops(s: &[u8], w: &mut [u32], k: usize, place: usize, at: usize, holds: bool) -> Answer
     requires { ⌜ CommandRoom (now s) (now w) place at k × (place + 2 ≤ at) ⌝ }
-    ensures { λ r. ⌜ CommandRead (now (s .entry)) (now (w .entry)) (now (w .exit)) place k («decode-of» false place («loops-shape» holds) (cursorAt (now (s .entry)) at)) r ⌝ }
+    ensures { λ r. ⌜ ShapeRead (now (s .entry)) (now (w .entry)) (now (w .exit)) place at k false («loops-shape» holds) r ⌝ }
 {
     let found = search_words(s, w, k, place, at, loop_kind(holds));
-    let Parse::Next(next, m) = found else {
-        return refusal(found);
+    let Answer::Search(next, m) = found else {
+        return found;
     };
-    Command::Prefix(false, next, m)
+    Answer::Command(Follow::Body(false), next, m)
 }

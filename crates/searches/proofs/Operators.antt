@@ -7,14 +7,13 @@ use native.Mathlib.Omega.{arith}
 use lib.ListN.{length, getD, length-drop}
 use borrow.Author.Tests.{eq-eqb, ne-eqb}
 use Rattle.definitions.specs.Reader.{placeAt, bytesLeft, nextByte, skipSpaces, skipBlank}
-use Rattle.definitions.specs.Search.{Search}
 use Rattle.definitions.specs.Strings.{closing, operator}
+use Rattle.answers.specs.declared.Answer.{Answer}
+use Rattle.answers.specs.Answers.{PastOr}
 use Rattle.lexer.specs.Places.{cursorAt}
-use Rattle.lexer.specs.Answers.{answers}
-use Rattle.lexer.specs.declared.Answer.{Answer}
 use Rattle.lexer.proofs.AtPlace.{is-next, not-next, next-in, next-end, after-in, next-inside}
 use Rattle.searches.specs.declared.Right.{Right}
-use Rattle.searches.specs.Parsing.{rightOf, RightOn, CloseOn}
+use Rattle.searches.specs.Parsing.{rightOf, RightOn, Closes}
 
 module _ (s : List ℕ) (at b i : ℕ) (blank : skipBlank (cursorAt s at) ≡ cursorAt s i) where
   absent : (nextByte (cursorAt s i) ≡ b → ⊥) → operator b (cursorAt s at) ≡ none
@@ -39,23 +38,23 @@ module _ (s : List ℕ) (at i : ℕ) (spaces : skipSpaces (cursorAt s at) ≡ cu
   pub bracket-inside : nextByte (cursorAt s i) ≡ 41 → i < length s
   bracket-inside e = next-inside s i (omega (arith, e))
 
-  pub closes-here : nextByte (cursorAt s i) ≡ 41 → at ≤ i
-      → ((se : Search) → closing se (skipSpaces (cursorAt s at)) ≡ answers (λ n. se) s (Answer.Is 0 (i + 1))) × CloseOn at (length s) (Answer.Is 0 (i + 1))
-  unfolding closing answers CloseOn
-  closes-here e from =
-      ((λ se. rw (spaces, is-next 41 (cursorAt s i) e, after-in s i (bracket-inside e))), (omega arith, omega (arith, bracket-inside e)))
+  pub closes-here : nextByte (cursorAt s i) ≡ 41 → at ≤ i → Closes s at (Answer.Past (i + 1))
+  unfolding closing
+  closes-here e from = PastOr.read (i + 1) (
+    λ se. rw (spaces, is-next 41 (cursorAt s i) e, after-in s i (bracket-inside e)),
+    omega arith,
+    omega (arith, bracket-inside e),
+  )
 
   module _ (other : nextByte (cursorAt s i) ≡ 41 → ⊥) (end : ℕ) (blank : skipBlank (cursorAt s i) ≡ cursorAt s end) (within : end ≤ length s) where
     left : bytesLeft (skipBlank (cursorAt s i)) ≡ length s - end
     unfolding bytesLeft
     left = rw blank (length-drop end s)
 
-    pub never-closed : length s ≤ end
-        → ((se : Search) → closing se (skipSpaces (cursorAt s at)) ≡ answers (λ n. se) s (Answer.Refused 5 end)) × CloseOn at (length s) (Answer.Refused 5 end)
-    unfolding closing answers CloseOn placeAt
-    never-closed h = ((λ se. rw (spaces, not-next 41 (cursorAt s i) other, left, eq-eqb (length s - end) 0 (omega arith), blank)), tt)
+    pub never-closed : length s ≤ end → Closes s at (Answer.Refused 5 end)
+    unfolding closing placeAt
+    never-closed h = PastOr.refused 5 end (λ se. rw (spaces, not-next 41 (cursorAt s i) other, left, eq-eqb (length s - end) 0 (omega arith), blank))
 
-    pub something-else : end < length s
-        → ((se : Search) → closing se (skipSpaces (cursorAt s at)) ≡ answers (λ n. se) s (Answer.Refused 3 i)) × CloseOn at (length s) (Answer.Refused 3 i)
-    unfolding closing answers CloseOn placeAt
-    something-else h = ((λ se. rw (spaces, not-next 41 (cursorAt s i) other, left, ne-eqb (length s - end) 0 (λ e. omega (arith, e)))), tt)
+    pub something-else : end < length s → Closes s at (Answer.Refused 3 i)
+    unfolding closing placeAt
+    something-else h = PastOr.refused 3 i (λ se. rw (spaces, not-next 41 (cursorAt s i) other, left, ne-eqb (length s - end) 0 (λ e. omega (arith, e))))

@@ -1,24 +1,22 @@
 -- Laws of a part: a bracketed search or one qualified string, one law for each way out. Assumes nothing.
-use mathlib.Core.Path.{_≡_, refl, _∙_}
+use mathlib.Core.Path.{_≡_, _∙_}
 use mathlib.Core.Bool.{true}
 use mathlib.Core.List.{List}
 use Prim.Native.Nat.{ℕ, _+_, _-_, _*_, _≤_, _<_}
 use native.Mathlib.Omega.{arith}
 use lib.ListN.{length, drop, length-drop}
 use Rattle.definitions.specs.Reader.{placeAt, bytesLeft, nextByte, afterByte, isNext, skipSpaces}
-use Rattle.definitions.specs.Search.{Search}
 use Rattle.definitions.specs.Strings.{closing, part, alternatives, searchExpression}
+use Rattle.answers.specs.declared.Answer.{Answer}
+use Rattle.answers.specs.Answers.{SearchOr}
 use Rattle.lexer.specs.Places.{cursorAt}
-use Rattle.lexer.specs.Answers.{answers}
-use Rattle.lexer.specs.declared.Answer.{Answer}
 use Rattle.lexer.proofs.AtPlace.{is-next, not-next, after-in, next-inside}
-use Rattle.searches.specs.declared.Parse.{Parse}
-use Rattle.searches.specs.Parsing.{CloseOn, closedOf, stringPart, SearchRoom, SearchWritten, Parsed}
+use Rattle.searches.specs.Parsing.{ClosesAt, NotClosed, stringPart, SearchRoom, SearchWritten, SearchRefused, Parsed}
 use Rattle.searches.proofs.Steps.{part-string, part-too-deep, part-inside, part-refused}
-use Rattle.searches.proofs.Answering.{is-read, is-refused, same-parsed, with-fuel}
+use Rattle.searches.proofs.Answering.{same-parsed, with-fuel}
 
 module _ (s : List ℕ) (at deep : ℕ) {i : ℕ} (spaces : skipSpaces (cursorAt s at) ≡ cursorAt s i) (from : at ≤ i) where
-  pub one-string : {u w : List ℕ} {k : ℕ} {r : Parse} → (nextByte (cursorAt s i) ≡ 40 → ⊥) → Parsed s u w at k 0 (λ n. stringPart (cursorAt s at)) r
+  pub one-string : {u w : List ℕ} {k : ℕ} {r : Answer} → (nextByte (cursorAt s i) ≡ 40 → ⊥) → Parsed s u w at k 0 (λ n. stringPart (cursorAt s at)) r
       → Parsed s u w at k (3 * (length s - at) + 1) (λ n. part n deep (cursorAt s at)) r
   one-string e parsed =
       same-parsed parsed (omega arith) (λ n h. part-string n deep (cursorAt s at) (omega arith) (rw spaces (not-next 40 (cursorAt s i) e)))
@@ -33,9 +31,9 @@ module _ (s : List ℕ) (at deep : ℕ) {i : ℕ} (spaces : skipSpaces (cursorAt
     inner : afterByte (skipSpaces (cursorAt s at)) ≡ cursorAt s (i + 1)
     inner = rw spaces (after-in s i bracket-within)
 
-    pub too-deep : {u w : List ℕ} {k : ℕ} → deep ≡ 0 → Parsed s u w at k (3 * (length s - at) + 1) (λ n. part n deep (cursorAt s at)) (Parse.Refused 5 i)
+    pub too-deep : {u w : List ℕ} {k : ℕ} → deep ≡ 0 → Parsed s u w at k (3 * (length s - at) + 1) (λ n. part n deep (cursorAt s at)) (Answer.Refused 5 i)
     unfolding placeAt
-    too-deep d = is-refused refl (λ n h. part-too-deep (cursorAt s at) opens n deep (omega arith) d ∙ rw spaces)
+    too-deep d = SearchOr.refused 5 i (λ n h. part-too-deep (cursorAt s at) opens n deep (omega arith) d ∙ rw spaces)
 
     pub inner-room : {u : List ℕ} {k : ℕ} → SearchRoom s u at k → SearchRoom s u (i + 1) k
     inner-room room = record {
@@ -45,41 +43,35 @@ module _ (s : List ℕ) (at deep : ℕ) {i : ℕ} (spaces : skipSpaces (cursorAt
       fits = omega (arith, room .fits, bracket-within);
     }
 
-    module _ {u w : List ℕ} {k : ℕ} {r : Parse} (some-left : deep ≡ 0 → ⊥)
-        (parsed : Parsed s u w (i + 1) k (3 * (length s - (i + 1)) + 3) (λ n. alternatives n (deep - 1) (cursorAt s (i + 1))) r) where
-      pub inner-refused : {w′ : List ℕ} {e p : ℕ} → r ≡ Parse.Refused e p → Parsed s u w′ at k (3 * (length s - at) + 1) (λ n. part n deep (cursorAt s at)) r
-      inner-refused {e = e} {p = p} is =
-          is-refused is (λ n h.
-          part-refused (cursorAt s at) opens n deep (omega arith) some-left e p (rw inner (parsed .refuses e p is (n - 1) (omega (arith, bracket-within)))))
+    module _ (some-left : deep ≡ 0 → ⊥) where
+      pub inner-refused : (e p : ℕ) → SearchRefused (3 * (length s - (i + 1)) + 3) (λ n. alternatives n (deep - 1) (cursorAt s (i + 1))) e p
+          → SearchRefused (3 * (length s - at) + 1) (λ n. part n deep (cursorAt s at)) e p
+      inner-refused e p refusal n h =
+          part-refused (cursorAt s at) opens n deep (omega arith) some-left e p (rw inner (refusal (n - 1) (omega (arith, bracket-within))))
 
-      module _ {past m : ℕ} (is : r ≡ Parse.Next past m) where
-        read : SearchWritten s u w (i + 1) k (3 * (length s - (i + 1)) + 3) (λ n. alternatives n (deep - 1) (cursorAt s (i + 1))) past m
-        read = parsed .reads past m is
-
-        pub inner-within : past ≤ length s
-        inner-within = read .within
-
+      module _ {u w : List ℕ} {k past m : ℕ}
+          (read : SearchWritten s u w (i + 1) k (3 * (length s - (i + 1)) + 3) (λ n. alternatives n (deep - 1) (cursorAt s (i + 1))) past m) where
         inside : (n : ℕ) → 3 * (length s - at) + 1 ≤ n → part n deep (cursorAt s at) ≡ closing (read .search) (skipSpaces (cursorAt s past))
         inside n h = part-inside (cursorAt s at) opens n deep (omega arith) some-left (read .search) (cursorAt s past)
             (rw inner (read .is (n - 1) (omega (arith, bracket-within))))
 
-        pub inner-closed : (a : Answer) → ((se : Search) → closing se (skipSpaces (cursorAt s past)) ≡ answers (λ n. se) s a) → CloseOn past (length s) a
-            → Parsed s u w at k (3 * (length s - at) + 1) (λ n. part n deep (cursorAt s at)) (closedOf a m)
-        unfolding closedOf CloseOn answers
-        inner-closed (Answer.Is v next) closes on = is-read refl (record {
+        pub inner-open : (e p : ℕ) → NotClosed s past e p → SearchRefused (3 * (length s - at) + 1) (λ n. part n deep (cursorAt s at)) e p
+        inner-open e p refusal n h = inside n h ∙ refusal (read .search)
+
+        pub inner-closed : (next : ℕ) → ClosesAt s past next → Parsed s u w at k (3 * (length s - at) + 1) (λ n. part n deep (cursorAt s at)) (Answer.Search next m)
+        inner-closed next (closes, taken, within) = SearchOr.read next m (record {
           search = read .search;
           is = λ n h. inside n h ∙ closes (read .search);
           encodes = read .encodes;
           kept = read .kept;
-          after = omega (arith, on .0, read .after);
-          within = on .1;
-          room = omega (arith, on .0, on .1, read .room, read .within);
-          spare = λ digit. omega (arith, on .0, on .1, read .room, read .within, bracket-within);
+          after = omega (arith, read .after);
+          within = within;
+          room = omega (arith, read .room, read .within);
+          spare = λ digit. omega (arith, read .room, read .within, bracket-within);
         })
-        inner-closed (Answer.Refused e p) closes on = is-refused refl (λ n h. inside n h ∙ closes (read .search))
 
 -- the whole expression
-pub whole-search : (s : List ℕ) (at : ℕ) {u w : List ℕ} {k : ℕ} {r : Parse} → Parsed s u w at k (3 * (length s - at) + 1) (λ n. part n 8 (cursorAt s at)) r
+pub whole-search : (s : List ℕ) (at : ℕ) {u w : List ℕ} {k : ℕ} {r : Answer} → Parsed s u w at k (3 * (length s - at) + 1) (λ n. part n 8 (cursorAt s at)) r
     → Parsed s u w at k 0 (λ n. searchExpression (cursorAt s at)) r
 unfolding searchExpression bytesLeft
 whole-search s at parsed =

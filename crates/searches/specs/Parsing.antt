@@ -7,14 +7,13 @@ use Prim.Native.Nat.{ℕ, suc, _+_, _-_, _*_, _≤_}
 use lib.ListN.{length, take, getD}
 use Rattle.definitions.specs.Bytes.{isDigit}
 use Rattle.definitions.specs.Table.{isScript}
-use Rattle.definitions.specs.Reader.{Cursor, Got, got, refused, andThen}
+use Rattle.definitions.specs.Reader.{Cursor, Got, got, refused, andThen, skipSpaces}
 use Rattle.definitions.specs.Search.{Search, one}
-use Rattle.definitions.specs.Strings.{qualifiedString}
+use Rattle.definitions.specs.Strings.{qualifiedString, closing}
 use Rattle.matching.specs.Words.{Encodes}
+use Rattle.answers.specs.declared.Answer.{Answer}
+use Rattle.answers.specs.Answers.{PastOr, SearchOr}
 use Rattle.lexer.specs.Places.{cursorAt}
-use Rattle.lexer.specs.declared.Answer.{Answer}
-use Rattle.strings.specs.declared.OneString.{OneString}
-use Rattle.searches.specs.declared.Parse.{Parse}
 use Rattle.searches.specs.declared.Right.{Right}
 
 -- ---- operators and brackets
@@ -28,19 +27,15 @@ unfoldable pub RightOn : ℕ → ℕ → Right → Type 0
 RightOn at n (Right.At next) = (suc at ≤ next) × (next ≤ n)
 RightOn at n Right.Missing = Unit {0}
 
--- the bracket takes a byte
-unfoldable pub CloseOn : ℕ → ℕ → Answer → Type 0
-CloseOn at n (Answer.Is k next) = (suc at ≤ next) × (next ≤ n)
-CloseOn at n (Answer.Refused k p) = Unit {0}
+-- the closing bracket, which takes a byte, after any search
+abbrev pub ClosesAt : List ℕ → ℕ → ℕ → Type 0
+ClosesAt s at next = ((se : Search) → closing se (skipSpaces (cursorAt s at)) ≡ got se (cursorAt s next)) × (suc at ≤ next) × (next ≤ length s)
 
-unfoldable pub closedOf : Answer → ℕ → Parse
-closedOf (Answer.Is k next) m = Parse.Next next m
-closedOf (Answer.Refused k p) m = Parse.Refused k p
+abbrev pub NotClosed : List ℕ → ℕ → ℕ → ℕ → Type 0
+NotClosed s at k p = (se : Search) → closing se (skipSpaces (cursorAt s at)) ≡ refused k p
 
--- a refusal is passed upward: 0, which is no number of a refusal, for an answer that is none
-unfoldable pub noPart : OneString → Parse
-noPart (OneString.Next q start end p) = Parse.Refused 0 p
-noPart (OneString.Refused k p) = Parse.Refused k p
+abbrev pub Closes : List ℕ → ℕ → Answer → Type 0
+Closes s at = PastOr (ClosesAt s at) (NotClosed s at)
 
 -- ---- searches
 
@@ -67,7 +62,10 @@ pub record SearchWritten (script before words : List ℕ) (at k bound : ℕ) (x 
   pub room : m + 2 * (length script - next) ≤ k + 2 * (length script - at)
   pub spare : isDigit (getD script next 0) ≡ true → suc m + 2 * (length script - next) ≤ k + 2 * (length script - at)
 
--- the answer r of a reader of a search at `at`, with the words before and after
-pub record Parsed (script before words : List ℕ) (at k bound : ℕ) (x : ℕ → Got Search) (r : Parse) : Type 0 where
-  pub reads : (next m : ℕ) → r ≡ Parse.Next next m → SearchWritten script before words at k bound x next m
-  pub refuses : (e p : ℕ) → r ≡ Parse.Refused e p → (n : ℕ) → bound ≤ n → x n ≡ refused e p
+-- the definition refuses, with `bound` fuel or more
+abbrev pub SearchRefused : ℕ → (ℕ → Got Search) → ℕ → ℕ → Type 0
+SearchRefused bound x e p = (n : ℕ) → bound ≤ n → x n ≡ refused e p
+
+-- what a reader of a search at `at` answers, with the words before and after
+abbrev pub Parsed : List ℕ → List ℕ → List ℕ → ℕ → ℕ → ℕ → (ℕ → Got Search) → Answer → Type 0
+Parsed script before words at k bound x = SearchOr (SearchWritten script before words at k bound x) (SearchRefused bound x)

@@ -1,27 +1,16 @@
 // Search expressions. The reader writes each part's words into the work area, in the order in which they are tested.
-use lexer::Answer;
+use answers::Answer;
 use lexer::bytes::next_byte;
 use lexer::spaces::skip_blank;
 use lexer::spaces::skip_spaces;
 use matching::search::put_string;
-use strings::OneString;
 use strings::qualified_string;
 ghost use mathlib.Core.Path.{_≡_};
 ghost use Prim.Native.Nat.{_+_, _-_, _*_, _≤_, _<_};
 ghost use lib.ListN.{length};
-ghost use Rattle.definitions.specs.Reader.{skipSpaces};
-ghost use Rattle.definitions.specs.Search.{Search};
-ghost use Rattle.definitions.specs.Strings.{closing as «closing-of», operator as «operator-of», part as «part-of», conjunction as «conjunction-of», alternatives as «alternatives-of», searchExpression};
+ghost use Rattle.definitions.specs.Strings.{operator as «operator-of», part as «part-of», conjunction as «conjunction-of», alternatives as «alternatives-of», searchExpression};
 ghost use Rattle.lexer.specs.Places.{cursorAt};
-ghost use Rattle.lexer.specs.Answers.{answers};
-ghost use Rattle.searches.specs.Parsing.{rightOf, RightOn, CloseOn, closedOf, noPart, stringPart, SearchRoom, Parsed};
-
-pub enum Parse {
-    // The place after the search, and the next free word.
-    Next(usize, usize),
-    // A refusal: its number and its place.
-    Refused(u32, usize),
-}
+ghost use Rattle.searches.specs.Parsing.{rightOf, RightOn, Closes, stringPart, SearchRoom, Parsed};
 
 // Where the right part of an operator begins.
 pub enum Right {
@@ -48,12 +37,11 @@ fn operator(s: &[u8], at: usize, b: u8) -> Right
 // The closing bracket. 5 at the script's length where nothing is left, else 3 at what stands there.
 fn closing(s: &[u8], at: usize) -> Answer
     requires { ⌜ at ≤ length (now s) ⌝ }
-    ensures { λ r. ⌜ ((se : Search) → «closing-of» se (skipSpaces (cursorAt (now (s .entry)) at)) ≡ answers (λ n. se) (now (s .entry)) r) ⌝ }
-    ensures { λ r. ⌜ CloseOn at (length (now (s .entry))) r ⌝ }
+    ensures { λ r. ⌜ Closes (now (s .entry)) at r ⌝ }
 {
     let i = skip_spaces(s, at);
     if next_byte(s, i) == 41 {
-        return Answer::Is(0, i + 1);
+        return Answer::Past(i + 1);
     }
     let end = skip_blank(s, i);
     if s.len() <= end {
@@ -62,47 +50,22 @@ fn closing(s: &[u8], at: usize) -> Answer
     Answer::Refused(3, i)
 }
 
-// A bracketed part, whose words end at m, with its closing bracket.
-fn closed(close: Answer, m: usize) -> Parse
-    ensures { λ r. ⌜ r ≡ closedOf close m ⌝ }
-{
-    match close {
-        Answer::Is(_, next) => Parse::Next(next, m),
-        Answer::Refused(n, p) => Parse::Refused(n, p),
-    }
-}
-
-// A refusal is passed upward. 0 is no number of a refusal.
-fn no_part(a: OneString) -> Parse
-    ensures { λ r. ⌜ r ≡ noPart a ⌝ }
-{
-    match a {
-        OneString::Next {
-            quals: _,
-            start: _,
-            end: _,
-            next,
-        } => Parse::Refused(0, next),
-        OneString::Refused(n, p) => Parse::Refused(n, p),
-    }
-}
-
 // One qualified string.
-fn string_part(s: &[u8], at: usize, w: &mut [u32], k: usize) -> Parse
+fn string_part(s: &[u8], at: usize, w: &mut [u32], k: usize) -> Answer
     requires { ⌜ SearchRoom (now s) (now w) at k ⌝ }
     ensures { λ r. ⌜ Parsed (now (s .entry)) (now (w .entry)) (now (w .exit)) at k 0 (λ n. stringPart (cursorAt (now (s .entry)) at)) r ⌝ }
 {
     let string = qualified_string(s, at, true);
-    let OneString::Next {
+    let Answer::OneString {
         quals,
         start,
         end,
         next,
     } = string
     else {
-        return no_part(string);
+        return string;
     };
-    Parse::Next(next, put_string(w, k, quals, start, end - start))
+    Answer::Search(next, put_string(w, k, quals, start, end - start))
 }
 
 // The word between two parts: m is where the test goes on if it is settled by the first, kind 1 for & and 2 for |.
@@ -114,7 +77,7 @@ fn joint(m: usize, kind: u32) -> u32
 }
 
 // A bracketed part, `deep` brackets being left, or one qualified string.
-fn part(s: &[u8], at: usize, w: &mut [u32], k: usize, deep: usize) -> Parse
+fn part(s: &[u8], at: usize, w: &mut [u32], k: usize, deep: usize) -> Answer
     requires { ⌜ SearchRoom (now s) (now w) at k ⌝ }
     ensures { λ r. ⌜ Parsed (now (s .entry)) (now (w .entry)) (now (w .exit)) at k (3 * (length (now (s .entry)) - at) + 1) (λ n. «part-of» n deep (cursorAt (now (s .entry)) at)) r ⌝ }
 {
@@ -123,22 +86,26 @@ fn part(s: &[u8], at: usize, w: &mut [u32], k: usize, deep: usize) -> Parse
         return string_part(s, at, w, k);
     }
     if deep == 0 {
-        return Parse::Refused(5, i);
+        return Answer::Refused(5, i);
     }
     let inner = alternatives(s, i + 1, w, k, deep - 1);
-    let Parse::Next(past, m) = inner else {
+    let Answer::Search(past, m) = inner else {
         return inner;
     };
-    closed(closing(s, past), m)
+    let close = closing(s, past);
+    let Answer::Past(next) = close else {
+        return close;
+    };
+    Answer::Search(next, m)
 }
 
 // Parts joined by &.
-fn conjunction(s: &[u8], at: usize, w: &mut [u32], k: usize, deep: usize) -> Parse
+fn conjunction(s: &[u8], at: usize, w: &mut [u32], k: usize, deep: usize) -> Answer
     requires { ⌜ SearchRoom (now s) (now w) at k ⌝ }
     ensures { λ r. ⌜ Parsed (now (s .entry)) (now (w .entry)) (now (w .exit)) at k (3 * (length (now (s .entry)) - at) + 2) (λ n. «conjunction-of» n deep (cursorAt (now (s .entry)) at)) r ⌝ }
 {
     let first = part(s, at, w, k, deep);
-    let Parse::Next(after, free) = first else {
+    let Answer::Search(after, free) = first else {
         return first;
     };
     let mut i = after;
@@ -146,10 +113,10 @@ fn conjunction(s: &[u8], at: usize, w: &mut [u32], k: usize, deep: usize) -> Par
     loop {
         let op = operator(s, i, 38);
         let Right::At(next) = op else {
-            return Parse::Next(i, m);
+            return Answer::Search(i, m);
         };
         let right = part(s, next, w, m + 1, deep);
-        let Parse::Next(past, end) = right else {
+        let Answer::Search(past, end) = right else {
             return right;
         };
         w[m] = joint(end, 1);
@@ -159,12 +126,12 @@ fn conjunction(s: &[u8], at: usize, w: &mut [u32], k: usize, deep: usize) -> Par
 }
 
 // Conjunctions joined by |.
-fn alternatives(s: &[u8], at: usize, w: &mut [u32], k: usize, deep: usize) -> Parse
+fn alternatives(s: &[u8], at: usize, w: &mut [u32], k: usize, deep: usize) -> Answer
     requires { ⌜ SearchRoom (now s) (now w) at k ⌝ }
     ensures { λ r. ⌜ Parsed (now (s .entry)) (now (w .entry)) (now (w .exit)) at k (3 * (length (now (s .entry)) - at) + 3) (λ n. «alternatives-of» n deep (cursorAt (now (s .entry)) at)) r ⌝ }
 {
     let first = conjunction(s, at, w, k, deep);
-    let Parse::Next(after, free) = first else {
+    let Answer::Search(after, free) = first else {
         return first;
     };
     let mut i = after;
@@ -172,10 +139,10 @@ fn alternatives(s: &[u8], at: usize, w: &mut [u32], k: usize, deep: usize) -> Pa
     loop {
         let op = operator(s, i, 124);
         let Right::At(next) = op else {
-            return Parse::Next(i, m);
+            return Answer::Search(i, m);
         };
         let right = conjunction(s, next, w, m + 1, deep);
-        let Parse::Next(past, end) = right else {
+        let Answer::Search(past, end) = right else {
             return right;
         };
         w[m] = joint(end, 2);
@@ -185,7 +152,7 @@ fn alternatives(s: &[u8], at: usize, w: &mut [u32], k: usize, deep: usize) -> Pa
 }
 
 // A search expression at the place: its words from k on.
-pub fn search(s: &[u8], at: usize, w: &mut [u32], k: usize) -> Parse
+pub fn search(s: &[u8], at: usize, w: &mut [u32], k: usize) -> Answer
     requires { ⌜ SearchRoom (now s) (now w) at k ⌝ }
     ensures { λ r. ⌜ Parsed (now (s .entry)) (now (w .entry)) (now (w .exit)) at k 0 (λ n. searchExpression (cursorAt (now (s .entry)) at)) r ⌝ }
 {

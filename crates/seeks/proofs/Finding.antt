@@ -8,59 +8,45 @@ use Rattle.definitions.specs.Bytes.{Line}
 use Rattle.definitions.specs.Journal.{Record}
 use Rattle.definitions.specs.Tape.{Tape}
 use Rattle.definitions.specs.Given.{Given, Carried}
-use Rattle.definitions.specs.Editor.{Ed, ed, n21, stopNumber, Move, struckBack, strikeBack, edit, edits}
-use Rattle.definitions.specs.StepProgram.{Program, gives, _>>=_, _>>_, runs, state, Did, answers, changes, finish, perform}
+use Rattle.definitions.specs.Editor.{Ed, n21, stopNumber, Move, struckBack, strikeBack, edits}
+use Rattle.definitions.specs.StepProgram.{Program, gives, _>>=_, _>>_, runs, state, Did, answers, changes, perform}
 use Rattle.definitions.specs.Search.{Search, holds}
 use Rattle.definitions.specs.Edit.{program, step, either, go, goAhead, goesOn, lineOr, lookOn, lookBack, searchHolds}
 use Rattle.definitions.specs.Control.{Seek, forward, backward, deleting, lookOp}
 use Rattle.editor.specs.Shows.{Holds, Stays, Shows, lent, Came}
-use Rattle.editor.specs.Current.{PointIn}
 use Rattle.editor.specs.declared.State.{State}
 use Rattle.editor.specs.declared.Moved.{Moved}
 use Rattle.editor.specs.declared.Moved.the-variants.{On, Stop as Stopped}
-use Rattle.editor.proofs.Parts.{shown-record, line-on, line-stop, perform-as, perform-changes}
-use Rattle.editor.proofs.Changing.{edited-on, strike-back-shows}
+use Rattle.editor.proofs.Parts.{line-on, line-stop, perform-as}
+use Rattle.editor.proofs.Changing.{changes-on, strike-back-shows}
 use Rattle.seeks.specs.declared.Looked.{Looked}
 use Rattle.seeks.specs.declared.Looked.the-variants.{Yes, No, Stop}
 use Rattle.seeks.specs.declared.Way.{Way}
 use Rattle.seeks.specs.declared.Way.the-variants.{Forward, Backward, Deleting}
 use Rattle.seeks.specs.Looks.{LooksAs, LooksBy, seekOf, eofStop, whereFound, whereNot}
 use Rattle.seeks.proofs.Texts.{line-holds}
-use Rattle.seeks.proofs.Looking.{Pointed, says-yes, says-no, says-stop, then-looks, then-stops, within-yes, back-pointed, ahead-pointed}
+use Rattle.seeks.proofs.Looking.{says-yes, says-no, says-stop, then-looks, then-stops, performed}
 
 -- ---- on to the next live line
 
 module _ (g : Given) (c : Carried) (e : Ed) (t : Tape) (k : List ℕ) (s : State) where
   -- a line is then current
-  on-line : Pointed (runs g c goAhead e t) → s .back < length k → Came k (On s) (runs g c goAhead e t) → LooksAs k (No s) (perform g lookOn (state e c) t)
+  pub look-on-line : (r : Moved) → r ≡ On s → s .back < length k → Came k r (runs g c goAhead e t) → LooksAs k (No s) (perform g lookOn (state e c) t)
   unfolding lookOn _>>_ runs
-  on-line i more w =
-      then-looks g c goAhead (λ a. _>>=_ (lineOr n21) (λ b. gives (answers false))) e t k (No s) w i
-      (λ a x u h y. says-no g c (_>>=_ (lineOr n21) (λ b. gives (answers false))) x u (line-on g c n21 (λ b. gives (answers false)) x u h more) h y)
+  look-on-line r q more w =
+      then-looks g c goAhead (λ a. _>>=_ (lineOr n21) (λ b. gives (answers false))) e t k (No s) (rw q at w)
+      (λ a x u h. says-no g c (_>>=_ (lineOr n21) (λ b. gives (answers false))) x u (line-on g c n21 (λ b. gives (answers false)) x u h more) h)
 
   -- EOF is
-  on-eof : Pointed (runs g c goAhead e t) → length k ≤ s .back → Came k (On s) (runs g c goAhead e t) → LooksAs k (Stop 21 s) (perform g lookOn (state e c) t)
+  pub look-on-eof : (r : Moved) → r ≡ On s → length k ≤ s .back → Came k r (runs g c goAhead e t) → LooksAs k (Stop 21 s) (perform g lookOn (state e c) t)
   unfolding lookOn _>>_ stopNumber
-  on-eof i end w =
-      then-looks g c goAhead (λ a. _>>=_ (lineOr n21) (λ b. gives (answers false))) e t k (Stop 21 s) w i
-      (λ a x u h y. says-stop g c (_>>=_ (lineOr n21) (λ b. gives (answers false))) x u 21 (line-stop g c n21 (λ b. gives (answers false)) x u h end) refl h)
+  look-on-eof r q end w =
+      then-looks g c goAhead (λ a. _>>=_ (lineOr n21) (λ b. gives (answers false))) e t k (Stop 21 s) (rw q at w)
+      (λ a x u h. says-stop g c (_>>=_ (lineOr n21) (λ b. gives (answers false))) x u 21 (line-stop g c n21 (λ b. gives (answers false)) x u h end) refl h)
 
   pub look-on-stop : (r : Moved) (n : ℕ) → r ≡ Stopped n s → Came k r (runs g c goAhead e t) → LooksAs k (Stop n s) (perform g lookOn (state e c) t)
   unfolding lookOn _>>_
   look-on-stop r n q w = then-stops g c goAhead (λ a. _>>=_ (lineOr n21) (λ b. gives (answers false))) e t k n s (rw q at w)
-
-module _ {j : List ℕ} {st : State} (g : Given) (k : List ℕ) (s : State) (r : Moved) (more : st .back < length j) where
-  ahead-in : (e : Ed) (c : Carried) (t : Tape) → Shows j st e t → Pointed (runs g c goAhead e t)
-  ahead-in (ed b [] p) c t h = absurd (shown-record b p t h more)
-  ahead-in (ed b (r′ ∷ a) p) c t h = ahead-pointed g c b r′ a p t
-
-  pub look-on-line : r ≡ On s → s .back < length k → (e : Ed) (c : Carried) (t : Tape) → Shows j st e t → Came k r (runs g c goAhead e t)
-      → LooksAs k (No s) (perform g lookOn (state e c) t)
-  look-on-line q line e c t h w = on-line g c e t k s (ahead-in e c t h) line (rw q at w)
-
-  pub look-on-eof : r ≡ On s → length k ≤ s .back → (e : Ed) (c : Carried) (t : Tape) → Shows j st e t → Came k r (runs g c goAhead e t)
-      → LooksAs k (Stop 21 s) (perform g lookOn (state e c) t)
-  look-on-eof q end e c t h w = on-eof g c e t k s (ahead-in e c t h) end (rw q at w)
 
 -- ---- back to the previous one
 
@@ -68,7 +54,7 @@ module _ (g : Given) (k : List ℕ) (s : State) (r : Moved) (e : Ed) (c : Carrie
   pub look-back-line : r ≡ On s → LooksAs k (No s) (perform g lookBack (state e c) t)
   unfolding lookBack _>>_ runs
   look-back-line q =
-      then-looks g c (go Move.back) (λ a. gives (answers false)) e t k (No s) (rw q at w) (back-pointed g c e t) (λ a x u h y. says-no g c (gives (answers false)) x u refl h y)
+      then-looks g c (go Move.back) (λ a. gives (answers false)) e t k (No s) (rw q at w) (λ a x u h. says-no g c (gives (answers false)) x u refl h)
 
   pub look-back-stop : (n : ℕ) → r ≡ Stopped n s → LooksAs k (Stop n s) (perform g lookBack (state e c) t)
   unfolding lookBack _>>_
@@ -95,22 +81,15 @@ goes-deleting w q = rw q
 
 yes-runs : (j : List ℕ) (st : State) → LooksBy j st goesOn j (Yes st)
 unfolding goesOn runs
-yes-runs j st e c t h i = says-yes (lent j) c goesOn e t refl h i
+yes-runs j st e c t h = says-yes (lent j) c goesOn e t refl h
 
 -- the lines passed are struck
-module _ (n : ℕ) where
-  struck-in : (e : Ed) → PointIn e → PointIn (edits (strikeBack n ∷ []) e)
-  unfolding edits edit
-  struck-in (ed b [] p) i = i
-  struck-in (ed b (r ∷ a) p) i = i
-
-  struck-yes : (j : List ℕ) (st : State) (k : List ℕ) (s : State) → length k ≡ length j
-      → ((b : List Record) (a : List Record) → Holds j st b a → Holds k s (struckBack n b []) a) → Stays st s
-      → LooksBy j st (gives (changes (strikeBack n ∷ []))) k (Yes s)
-  unfolding edits finish
-  struck-yes j st k s q strikes stays e c t h i =
-      rw (perform-changes c (strikeBack n ∷ []) e t (lent j))
-      (within-yes k s (lent j) c e (edits (strikeBack n ∷ []) e) t (struck-in e i) (edited-on c (strikeBack n ∷ []) e t j k s q (strike-back-shows n e t h strikes stays)))
+struck-yes : (n : ℕ) (j : List ℕ) (st : State) (k : List ℕ) (s : State) → length k ≡ length j
+    → ((b : List Record) (a : List Record) → Holds j st b a → Holds k s (struckBack n b []) a) → Stays st s
+    → LooksBy j st (gives (changes (strikeBack n ∷ []))) k (Yes s)
+unfolding edits
+struck-yes n j st k s q strikes stays e c t h =
+    performed k s (On s) (perform (lent j) (gives (changes (strikeBack n ∷ []))) (state e c) t) (changes-on c (strikeBack n ∷ []) e t j k s q (strike-back-shows n e t h strikes stays)) refl
 
 module _ (j : List ℕ) (st : State) (w : Way) (n : ℕ) where
   pub found-forward : w ≡ Forward → LooksBy j st (whereFound (seekOf w) n) j (Yes st)

@@ -5,21 +5,16 @@ use Prim.Native.Nat.{ℕ, zero, suc, _+_, _-_, _≤_}
 use native.Mathlib.Omega.{arith}
 use mathlib.Core.List.{List}
 use Rattle.definitions.specs.Tape.{Tape, bind}
-use Rattle.definitions.specs.Given.{Given, Carried}
-use Rattle.definitions.specs.Editor.{Ed}
-use Rattle.definitions.specs.StepProgram.{RunState, state, textOf, Out, on, edited, halt}
+use Rattle.definitions.specs.Given.{Given}
+use Rattle.definitions.specs.StepProgram.{RunState, textOf, Out, on, edited, halt}
 use Rattle.definitions.specs.Search.{Search}
 use Rattle.definitions.specs.Edit.{Op, step}
-use Rattle.definitions.specs.Control.{Seek, forward, backward, Item, Frame, running, seeking, lookOp, pull}
+use Rattle.definitions.specs.Control.{Seek, forward, backward, deleting, Item, Frame, running, seeking, lookOp, pull}
 use Rattle.definitions.specs.Run.{End, end, choose, endPlace, spent, stepped, stepping, run}
-use Rattle.editor.specs.Shows.{Shows, lent}
-use Rattle.editor.specs.Current.{TableOf, TableOut, Ready}
-use Rattle.editor.specs.declared.State.{State}
+use Rattle.editor.specs.Shows.{lent}
+use Rattle.editor.specs.Current.{TableOf, TableOut}
 use Rattle.editor.proofs.Tables.{keeps-table}
-use Rattle.seeks.specs.declared.Looked.{Looked}
-use Rattle.seeks.specs.declared.Looked.the-variants.{Yes, No, Stop}
-use Rattle.seeks.specs.declared.Sought.{Sought}
-use Rattle.seeks.specs.Looks.{Looks, LooksAs, Steps, further, stepsOf, Seeks}
+use Rattle.seeks.specs.Looks.{Steps, further, stepsOf}
 
 -- ---- how the run goes on after the steps of a search
 
@@ -118,72 +113,20 @@ module _ (g : Given) (op : ℕ → Op) where
   steps-same q i k (suc n) s t =
       rw (q i k) (same-on (stepsOf g op (suc i) n) (stepsOf g op (suc k) n) (steps-same q (suc i) (suc k) n) ((step g (op k) s t) .0) ((step g (op k) s t) .1))
 
--- F and BF do not
-module _ (g : Given) (se : Search) (i k left : ℕ) (s : RunState) (t : Tape) where
-  pub forward-same : stepsOf g (lookOp forward se) i left s t ≡ stepsOf g (lookOp forward se) k left s t
-  forward-same = steps-same g (lookOp forward se) (λ m n. unfold lookOp in refl) i k left s t
-
-  pub backward-same : stepsOf g (lookOp backward se) i left s t ≡ stepsOf g (lookOp backward se) k left s t
-  backward-same = steps-same g (lookOp backward se) (λ m n. unfold lookOp in refl) i k left s t
+-- F and BF do not; and what DF asks says how many it has passed
+pub steps-as : (g : Given) (f : Seek) (se : Search) (i k left : ℕ) (s : RunState) (t : Tape) → lookOp f se i ≡ lookOp f se k
+    → stepsOf g (lookOp f se) i left s t ≡ stepsOf g (lookOp f se) k left s t
+steps-as g forward se i k left s t q = steps-same g (lookOp forward se) (λ m n. unfold lookOp in refl) i k left s t
+steps-as g backward se i k left s t q = steps-same g (lookOp backward se) (λ m n. unfold lookOp in refl) i k left s t
+steps-as g deleting se i k left s t q = rw (same q)
+  where
+    same : lookOp deleting se i ≡ lookOp deleting se k → i ≡ k
+    same q = unfold lookOp in (cc)
 
 -- the old table stays
-steps-table : (i : List ℕ) (op : ℕ → Op) (table : List ℕ) (n left : ℕ) (s : RunState) (t : Tape) → TableOf table (textOf s) t
+pub steps-table : (i : List ℕ) (op : ℕ → Op) (table : List ℕ) (n left : ℕ) (s : RunState) (t : Tape) → TableOf table (textOf s) t
     → TableOut table ((stepsOf (lent i) op n left s t) .0 .0) ((stepsOf (lent i) op n left s t) .0 .1)
 unfolding stepsOf
 steps-table i op table n zero s t h = h
 steps-table i op table n (suc left) s t h =
     table-on table (stepsOf (lent i) op (suc n) left) (steps-table i op table (suc n) left) ((step (lent i) (op n) s t) .0) ((step (lent i) (op n) s t) .1) (keeps-table table i (op n) s t h)
-
--- ---- what a search over lines answers, and where the run stands then
-
--- The line is found: the run goes on after the search, in a state that the buffer shows.
-pub record RunsOn (g : Given) (left steps : ℕ) (items : List Item) (frames : List Frame) (table j : List ℕ) (s : State) (x : End × Tape) : Type 0 where
-  pub now : Ed
-  pub carries : Carried
-  pub unread : Tape
-  pub ready : Ready table j s now unread
-  pub runs : x ≡ run (step g) left steps (running items frames) (state now carries) unread
-
--- The run has ended in the search, with the number n.
-pub record RunEnds (n steps place : ℕ) (j : List ℕ) (s : State) (x : End × Tape) : Type 0 where
-  pub now : Ed
-  pub carries : Carried
-  pub unread : Tape
-  pub shows : Shows j s now unread
-  pub ends : x ≡ (end n steps place (state now carries), unread)
-
-module _ (i : List ℕ) (left steps place : ℕ) (items : List Item) (frames : List Frame) (table j : List ℕ) where
-  -- by the answer and the steps made
-  abbrev pub Ran : Looked → ℕ → End × Tape → Type 0
-  Ran (Yes s) m x = RunsOn (lent i) (left - m) (steps + m) items frames table j s x
-  Ran (No s) m x = RunEnds 29 (steps + m) place j s x
-  Ran (Stop n s) m x = RunEnds n (steps + m) (endPlace n place) j s x
-
-  ran-by : (k : Looked) (m : ℕ) (x : Steps) → LooksAs j k (x .0) → m ≡ x .1 → TableOut table (x .0 .0) (x .0 .1)
-      → (z : End × Tape) → z ≡ afterSteps (lent i) place items frames left steps x → Ran k m z
-  unfolding Looks afterSearch textOf
-  ran-by (Yes s) m ((on true (state e c), t), n) w is o z q = record { now = e; carries = c; unread = t; ready = record { shows = w .0; point = w .1; old = o }; runs = rw is q }
-  ran-by (Yes s) m ((on false (state e c), t), n) w is o z q = absurd w
-  ran-by (Yes s) m ((edited (state e c), t), n) w is o z q = record { now = e; carries = c; unread = t; ready = record { shows = w .0; point = w .1; old = o }; runs = rw is q }
-  ran-by (Yes s) m ((halt h (state e c), t), n) w is o z q = absurd w
-  ran-by (No s) m ((on true (state e c), t), n) w is o z q = absurd w
-  ran-by (No s) m ((on false (state e c), t), n) w is o z q = record { now = e; carries = c; unread = t; shows = w .0; ends = rw is q }
-  ran-by (No s) m ((edited (state e c), t), n) w is o z q = absurd w
-  ran-by (No s) m ((halt h (state e c), t), n) w is o z q = absurd w
-  ran-by (Stop k s) m ((on b (state e c), t), n) w is o z q = absurd w
-  ran-by (Stop k s) m ((edited (state e c), t), n) w is o z q = absurd w
-  ran-by (Stop k s) m ((halt h (state e c), t), n) w is o z q = record { now = e; carries = c; unread = t; shows = w .1; ends = rw (is, w .0) q }
-
-  -- THE LAW of the loop: what it answers, and where the run stands with it
-  pub search-ran : (f : Seek) (se : Search) (n : ℕ) (r : Sought) (s : RunState) (t : Tape) → TableOf table (textOf s) t
-      → Seeks j r (stepsOf (lent i) (lookOp f se) n left s t) → Ran (r .looked) (r .made) (run (step (lent i)) left steps (seeking place f se n items frames) s t)
-  search-ran f se n r s t o w =
-      ran-by (r .looked) (r .made) (stepsOf (lent i) (lookOp f se) n left s t) (w .0) (w .1) (steps-table i (lookOp f se) table n left s t o)
-      _ (run-search (lent i) place items frames f se left steps n s t)
-
-module _ (g : Given) (op : ℕ → Op) (i left : ℕ) (j : List ℕ) (r : Sought) (s : RunState) (t : Tape) (w : Seeks j r (stepsOf g op i left s t)) where
-  pub made-most : r .made ≤ left
-  made-most = omega (arith, w .1, steps-most g op i left s t)
-
-  pub made-one : 1 ≤ left → 1 ≤ r .made
-  made-one some = omega (arith, w .1, steps-one g op i left s t some)

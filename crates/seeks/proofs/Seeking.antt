@@ -11,9 +11,10 @@ use Rattle.definitions.specs.Editor.{Ed}
 use Rattle.definitions.specs.StepProgram.{RunState, state, textOf, Out, on, edited, halt}
 use Rattle.definitions.specs.Edit.{Op, step}
 use Rattle.editor.specs.Shows.{lent}
-use Rattle.editor.specs.Current.{Ready, TableOut}
+use Rattle.editor.specs.Current.{PointOut, Ready, TableOut}
 use Rattle.editor.specs.declared.State.{State}
 use Rattle.editor.proofs.Tables.{keeps-table}
+use Rattle.editor.proofs.Points.{keeps-point}
 use Rattle.seeks.specs.declared.Looked.{Looked}
 use Rattle.seeks.specs.declared.Looked.the-variants.{Yes, No, Stop}
 use Rattle.seeks.specs.Looks.{Looks, LooksAs, Steps, further, stepsOf}
@@ -36,13 +37,13 @@ seeking-start g op i left e c t h =
 
 -- the steps are spent
 pub seeking-spent : {g : Given} {op : ℕ → Op} {i left made : ℕ} {table : List ℕ} {s₀ : RunState} {t₀ : Tape} {j : List ℕ} {s : State} → Seeking g op i left made table s₀ t₀ j s
-    → left ≤ made → made ≤ left → LooksAs j (No s) (stepsOf g op i left s₀ t₀ .0) × (made ≡ stepsOf g op i left s₀ t₀ .1)
-unfolding Looks stepsOf
+    → left ≤ made → made ≤ left → LooksAs j (No s) (stepsOf g op i left s₀ t₀ .0) × PointOut (stepsOf g op i left s₀ t₀ .0 .0) × (made ≡ stepsOf g op i left s₀ t₀ .1)
+unfolding Looks stepsOf textOf
 seeking-spent {g} {op} {i} {left} {made} w all few =
     let z : left - made ≡ 0 = omega arith in
     let now : RunState = state (w .now) (w .carries) in
     let x : (stepsOf g op (i + made) (left - made) now (w .unread)) ≡ ((on false now, w .unread), 0) = rw z in
-    (rw (w .comes, x) (w .ready .shows, w .ready .point), rw (w .count, x) (omega arith))
+    (rw (w .comes, x) (w .ready .shows), rw (w .comes, x) (w .ready .point), rw (w .count, x) (omega arith))
 
 -- what a step's answer says of its outcome
 module _ (k : List ℕ) (f : RunState → Tape → Steps) where
@@ -53,12 +54,12 @@ module _ (k : List ℕ) (f : RunState → Tape → Steps) where
     ready : Ready table k s text t
     is : further f out t ≡ ((f (state text carries) t) .0, suc ((f (state text carries) t) .1))
 
-  went-on : (table : List ℕ) (s : State) (out : Out) (t : Tape) → Looks k (No s) out t → TableOut table out t → WentOn table s out t
+  went-on : (table : List ℕ) (s : State) (out : Out) (t : Tape) → Looks k (No s) out t → PointOut out → TableOut table out t → WentOn table s out t
   unfolding Looks further textOf
-  went-on table s (on true (state e c)) t w o = absurd w
-  went-on table s (on false (state e c)) t w o = record { text = e; carries = c; ready = record { shows = w .0; point = w .1; old = o }; is = refl }
-  went-on table s (edited (state e c)) t w o = absurd w
-  went-on table s (halt n (state e c)) t w o = absurd w
+  went-on table s (on true (state e c)) t w p o = absurd w
+  went-on table s (on false (state e c)) t w p o = record { text = e; carries = c; ready = record { shows = w; point = p; old = o }; is = refl }
+  went-on table s (edited (state e c)) t w p o = absurd w
+  went-on table s (halt n (state e c)) t w p o = absurd w
 
   -- where it ends
   ended-by : (x : Looked) (out : Out) (t : Tape) → ((s : State) → x ≡ No s → ⊥) → Looks k x out t → further f out t ≡ ((out, t), 1)
@@ -93,20 +94,23 @@ module _ (j₀ : List ℕ) {op : ℕ → Op} {i left made : ℕ} {table : List �
   next : stepsOf (lent j₀) op (i + made) (left - made) at-now (w .unread) ≡ further rest (made-by .0) (made-by .1)
   next = steps-more (lent j₀) op (i + made) (i + (made + 1)) (left - made) (left - (made + 1)) at-now (w .unread) (omega arith) (omega arith)
 
+  points : PointOut (made-by .0)
+  points = keeps-point (lent j₀) (op (i + made)) (w .now) (w .carries) (w .unread) (w .ready .shows .grounded) (w .ready .point)
+
   -- the line is found, or the run stops
   pub seeking-ends : (k : List ℕ) (g : Given) → g ≡ lent j₀ → (x : Looked) → ((u : State) → x ≡ No u → ⊥) → LooksAs k x (step g (op (i + made)) at-now (w .unread))
-      → LooksAs k x (stepsOf (lent j₀) op i left s₀ t₀ .0) × (made + 1 ≡ stepsOf (lent j₀) op i left s₀ t₀ .1)
+      → LooksAs k x (stepsOf (lent j₀) op i left s₀ t₀ .0) × PointOut (stepsOf (lent j₀) op i left s₀ t₀ .0 .0) × (made + 1 ≡ stepsOf (lent j₀) op i left s₀ t₀ .1)
   seeking-ends k g same x never z =
       let y : LooksAs k x made-by = rw same at z in
       let q = next ∙ ended-by k rest x (made-by .0) (made-by .1) never y in
-      (rw (w .comes, q) y, rw (w .count, q) refl)
+      (rw (w .comes, q) y, rw (w .comes, q) points, rw (w .count, q) refl)
 
   -- the search goes on
   pub seeking-on : (k : List ℕ) (g : Given) → g ≡ lent j₀ → (u : State) (x : Looked) → x ≡ No u → LooksAs k x (step g (op (i + made)) at-now (w .unread))
       → Seeking (lent j₀) op i left (made + 1) table s₀ t₀ k u
   unfolding textOf
   seeking-on k g same u x is y =
-      on-from (went-on k rest table u (made-by .0) (made-by .1) (rw (same, is) at y) (keeps-table table j₀ (op (i + made)) at-now (w .unread) (w .ready .old)))
+      on-from (went-on k rest table u (made-by .0) (made-by .1) (rw (same, is) at y) points (keeps-table table j₀ (op (i + made)) at-now (w .unread) (w .ready .old)))
     where
       on-from : WentOn k rest table u (made-by .0) (made-by .1) → Seeking (lent j₀) op i left (made + 1) table s₀ t₀ k u
       on-from z = record {

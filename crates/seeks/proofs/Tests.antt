@@ -1,6 +1,6 @@
 -- Tests, and the beginning of a search. Assumes nothing.
 use mathlib.Core.Path.{_≡_, refl, sym, ap, _∙_}
-use mathlib.Core.Bool.{Bool, true, false, not}
+use mathlib.Core.Bool.{Bool, true, false, not, Bool·beq}
 use Prim.Native.Nat.{ℕ, _≤_, _<_}
 use mathlib.Core.List.{List, [], _∷_}
 use lib.ListN.{length}
@@ -13,14 +13,13 @@ use Rattle.definitions.specs.StepProgram.{_>>=_, _>>_, runs, state, answers}
 use Rattle.definitions.specs.Search.{Search}
 use Rattle.definitions.specs.Edit.{Op, Test, program, step, see, either, go, goesOn, passes, isAtEof, searchHolds}
 use Rattle.editor.specs.Shows.{Shows, Came}
-use Rattle.editor.specs.Current.{PointIn}
 use Rattle.editor.specs.declared.State.{State}
 use Rattle.editor.specs.declared.Moved.{Moved}
 use Rattle.editor.specs.declared.Moved.the-variants.{On, Stop as Stopped}
 use Rattle.editor.proofs.Parts.{shown-record, shown-eof, line-on, line-stop, perform-as}
 use Rattle.seeks.specs.declared.Looked.the-variants.{Yes, No, Stop}
-use Rattle.seeks.specs.Looks.{LooksAs}
-use Rattle.seeks.proofs.Looking.{says-yes, says-no, says-stop, then-looks, then-stops, back-pointed}
+use Rattle.seeks.specs.Looks.{LooksAs, testOf}
+use Rattle.seeks.proofs.Looking.{says-yes, says-no, says-stop, then-looks, then-stops}
 
 -- ---- BF begins
 
@@ -40,59 +39,65 @@ test-runs : (g : Given) (c : Carried) (x : Test) (e : Ed) (t : Tape) → runs g 
 unfolding program see _>>=_ runs
 test-runs g c x e t = refl
 
-module _ {j : List ℕ} {st : State} (g : Given) (c : Carried) (x : Test) (e : Ed) (t : Tape) (h : Shows j st e t) (i : PointIn e) where
+module _ {j : List ℕ} {st : State} (g : Given) (c : Carried) (x : Test) (e : Ed) (t : Tape) (h : Shows j st e t) where
   test-yes : passes x e ≡ true → LooksAs j (Yes st) (step g (Op.test x) (state e c) t)
   unfolding step
-  test-yes q = says-yes g c (program (Op.test x)) e t (test-runs g c x e t ∙ rw q) h i
+  test-yes q = says-yes g c (program (Op.test x)) e t (test-runs g c x e t ∙ rw q) h
 
   test-no : passes x e ≡ false → LooksAs j (No st) (step g (Op.test x) (state e c) t)
   unfolding step
-  test-no q = says-no g c (program (Op.test x)) e t (test-runs g c x e t ∙ rw q) h i
+  test-no q = says-no g c (program (Op.test x)) e t (test-runs g c x e t ∙ rw q) h
 
-module _ {j : List ℕ} {st : State} (g : Given) (c : Carried) (v : Bool) (se : Search) (e : Ed) (t : Tape) (h : Shows j st e t) (i : PointIn e) (is : v ≡ searchHolds se e) where
-  pub is-yes : v ≡ true → LooksAs j (Yes st) (step g (Op.test (Test.is se)) (state e c) t)
-  unfolding passes
-  is-yes q = test-yes g c (Test.is se) e t h i (sym is ∙ q)
+as-true : (v : Bool) → v ≡ Bool·beq v true
+as-true true = refl
+as-true false = refl
 
-  pub is-no : v ≡ false → LooksAs j (No st) (step g (Op.test (Test.is se)) (state e c) t)
-  unfolding passes
-  is-no q = test-no g c (Test.is se) e t h i (sym is ∙ q)
+as-false : (v : Bool) → not v ≡ Bool·beq v false
+as-false true = refl
+as-false false = refl
 
-  pub not-no : v ≡ true → LooksAs j (No st) (step g (Op.test (Test.isNot se)) (state e c) t)
-  unfolding passes
-  not-no q = test-no g c (Test.isNot se) e t h i (ap not (sym is ∙ q))
+-- v says whether the search holds, and w whether it is to
+module _ {j : List ℕ} {st : State} (g : Given) (c : Carried) (v w : Bool) (se : Search) (e : Ed) (t : Tape) (h : Shows j st e t) (is : v ≡ searchHolds se e) where
+  passes-as : passes (testOf w se) e ≡ Bool·beq v w
+  passes-as = by w
+    where
+      by : (w : Bool) → passes (testOf w se) e ≡ Bool·beq v w
+      by true = unfold passes testOf in (sym is ∙ as-true v)
+      by false = unfold passes testOf in (ap not (sym is) ∙ as-false v)
 
-  pub not-yes : v ≡ false → LooksAs j (Yes st) (step g (Op.test (Test.isNot se)) (state e c) t)
-  unfolding passes
-  not-yes q = test-yes g c (Test.isNot se) e t h i (ap not (sym is ∙ q))
+  pub holds-yes : Bool·beq v w ≡ true → LooksAs j (Yes st) (step g (Op.test (testOf w se)) (state e c) t)
+  holds-yes q = test-yes g c (testOf w se) e t h (passes-as ∙ q)
+
+  pub holds-no : Bool·beq v w ≡ false → LooksAs j (No st) (step g (Op.test (testOf w se)) (state e c) t)
+  holds-no q = test-no g c (testOf w se) e t h (passes-as ∙ q)
 
 module _ {j : List ℕ} {st : State} (g : Given) where
-  pub eof-yes : length j ≤ st .back → (e : Ed) (c : Carried) (t : Tape) → Shows j st e t → PointIn e → LooksAs j (Yes st) (step g (Op.test Test.isEof) (state e c) t)
+  pub eof-yes : length j ≤ st .back → (e : Ed) (c : Carried) (t : Tape) → Shows j st e t → LooksAs j (Yes st) (step g (Op.test Test.isEof) (state e c) t)
   unfolding passes isAtEof
-  eof-yes end (ed b [] p) c t h i = test-yes g c Test.isEof (ed b [] p) t h i refl
-  eof-yes end (ed b (r ∷ a) p) c t h i = absurd (shown-eof b r a p t h end)
+  eof-yes end (ed b [] p) c t h = test-yes g c Test.isEof (ed b [] p) t h refl
+  eof-yes end (ed b (r ∷ a) p) c t h = absurd (shown-eof b r a p t h end)
 
-  pub eof-no : st .back < length j → (e : Ed) (c : Carried) (t : Tape) → Shows j st e t → PointIn e → LooksAs j (No st) (step g (Op.test Test.isEof) (state e c) t)
+  pub eof-no : st .back < length j → (e : Ed) (c : Carried) (t : Tape) → Shows j st e t → LooksAs j (No st) (step g (Op.test Test.isEof) (state e c) t)
   unfolding passes isAtEof
-  eof-no more (ed b [] p) c t h i = absurd (shown-record b p t h more)
-  eof-no more (ed b (r ∷ a) p) c t h i = test-no g c Test.isEof (ed b (r ∷ a) p) t h i refl
+  eof-no more (ed b [] p) c t h = absurd (shown-record b p t h more)
+  eof-no more (ed b (r ∷ a) p) c t h = test-no g c Test.isEof (ed b (r ∷ a) p) t h refl
 
   -- ---- F and DF begin
 
-  pub begin-stop : length j ≤ st .back → (e : Ed) (c : Carried) (t : Tape) → Shows j st e t → PointIn e → LooksAs j (Stop 21 st) (step g Op.begin (state e c) t)
+  pub begin-stop : length j ≤ st .back → (e : Ed) (c : Carried) (t : Tape) → Shows j st e t → LooksAs j (Stop 21 st) (step g Op.begin (state e c) t)
   unfolding step program _>>_ stopNumber
-  begin-stop end e c t h i = says-stop g c (program Op.begin) e t 21 (line-stop g c n21 (λ x. goesOn) e t h end) refl h
+  begin-stop end e c t h = says-stop g c (program Op.begin) e t 21 (line-stop g c n21 (λ x. goesOn) e t h end) refl h
 
-  pub begin-yes : st .back < length j → (e : Ed) (c : Carried) (t : Tape) → Shows j st e t → PointIn e → LooksAs j (Yes st) (step g Op.begin (state e c) t)
+  pub begin-yes : st .back < length j → (e : Ed) (c : Carried) (t : Tape) → Shows j st e t → LooksAs j (Yes st) (step g Op.begin (state e c) t)
   unfolding step program _>>_ goesOn runs
-  begin-yes more e c t h i = says-yes g c (program Op.begin) e t (line-on g c n21 (λ x. goesOn) e t h more) h i
+  begin-yes more e c t h = says-yes g c (program Op.begin) e t (line-on g c n21 (λ x. goesOn) e t h more) h
 
   -- ---- BF begins
 
-  pub begin-back-line : st .back < length j → (e : Ed) (c : Carried) (t : Tape) → Shows j st e t → PointIn e → LooksAs j (Yes st) (step g Op.beginBack (state e c) t)
+  pub begin-back-line : st .back < length j → (e : Ed) (c : Carried) (t : Tape) → Shows j st e t → LooksAs j (Yes st) (step g Op.beginBack (state e c) t)
   unfolding step
-  begin-back-line more (ed b [] p) c t h i = absurd (shown-record b p t h more)
-  begin-back-line more (ed b (r ∷ a) p) c t h i = says-yes g c (program Op.beginBack) (ed b (r ∷ a) p) t (line-begins g c b r a p t) h i
+  begin-back-line more (ed b [] p) c t h = absurd (shown-record b p t h more)
+  begin-back-line more (ed b (r ∷ a) p) c t h = says-yes g c (program Op.beginBack) (ed b (r ∷ a) p) t (line-begins g c b r a p t) h
 
   module _ (k : List ℕ) (s : State) (end : length j ≤ st .back) (r : Moved) where
     pub begin-back-on : r ≡ On s → (e : Ed) (c : Carried) (t : Tape) → Shows j st e t → Came k r (runs g c (go Move.back) e t)
@@ -100,7 +105,7 @@ module _ {j : List ℕ} {st : State} (g : Given) where
     unfolding step goesOn runs
     begin-back-on q (ed b [] p) c t h w =
         rw (perform-as g c (program Op.beginBack) (_>>=_ (go Move.back) (λ a. goesOn)) (ed b [] p) (ed b [] p) t t (eof-begins g c b p t))
-        (then-looks g c (go Move.back) (λ a. goesOn) (ed b [] p) t k (Yes s) (rw q at w) (back-pointed g c (ed b [] p) t) (λ a x u z y. says-yes g c goesOn x u refl z y))
+        (then-looks g c (go Move.back) (λ a. goesOn) (ed b [] p) t k (Yes s) (rw q at w) (λ a x u z. says-yes g c goesOn x u refl z))
     begin-back-on q (ed b (r′ ∷ a) p) c t h w = absurd (shown-eof b r′ a p t h end)
 
     pub begin-back-stop : (n : ℕ) → r ≡ Stopped n s → (e : Ed) (c : Carried) (t : Tape) → Shows j st e t → Came k r (runs g c (go Move.back) e t)

@@ -8,11 +8,11 @@ use Rattle.definitions.specs.Search.{Search}
 use Rattle.definitions.specs.Given.{Given, Carried}
 use Rattle.definitions.specs.Editor.{Ed, Stop as StopNumber, n21, n22, strikeBack}
 use Rattle.definitions.specs.StepProgram.{Program, gives, RunState, state, Did, changes, Out, on, edited, halt, perform}
-use Rattle.definitions.specs.Edit.{Op, goesOn, lookOn, lookBack, searchHolds, step}
+use Rattle.definitions.specs.Edit.{Op, Test, is, isNot, goesOn, lookOn, lookBack, searchHolds, step}
 use Rattle.definitions.specs.Control.{Seek, forward, backward, deleting, lookOp}
 use Rattle.matching.specs.Words.{Encodes}
 use Rattle.editor.specs.Shows.{Shows, lent}
-use Rattle.editor.specs.Current.{PointIn, Ready}
+use Rattle.editor.specs.Current.{PointOut, Ready}
 use Rattle.editor.specs.declared.State.{State}
 use Rattle.seeks.specs.declared.Way.{Way}
 use Rattle.seeks.specs.declared.Way.the-variants.{Forward, Backward, Deleting}
@@ -24,12 +24,12 @@ use Rattle.seeks.specs.declared.Sought.{Sought}
 
 -- what a function answers, and what the step comes to: the run goes on after `edited` as after `on true`
 unfoldable pub Looks : List ℕ → Looked → Out → Tape → Type 0
-Looks j (Yes s) (on true (state e c)) t = Shows j s e t × PointIn e
+Looks j (Yes s) (on true (state e c)) t = Shows j s e t
 Looks j (Yes s) (on false (state e c)) t = ⊥
-Looks j (Yes s) (edited (state e c)) t = Shows j s e t × PointIn e
+Looks j (Yes s) (edited (state e c)) t = Shows j s e t
 Looks j (Yes s) (halt n (state e c)) t = ⊥
 Looks j (No s) (on true (state e c)) t = ⊥
-Looks j (No s) (on false (state e c)) t = Shows j s e t × PointIn e
+Looks j (No s) (on false (state e c)) t = Shows j s e t
 Looks j (No s) (edited (state e c)) t = ⊥
 Looks j (No s) (halt n (state e c)) t = ⊥
 Looks j (Stop m s) (on b (state e c)) t = ⊥
@@ -41,11 +41,11 @@ LooksAs j r x = Looks j r (x .0) (x .1)
 
 -- with the buffer j and its numbers st before, and the buffer k after, the function that answered r did the end m of a step
 abbrev pub LooksBy : List ℕ → State → Program Did → List ℕ → Looked → Type 0
-LooksBy j st m k r = (e : Ed) (c : Carried) (t : Tape) → Shows j st e t → PointIn e → LooksAs k r (perform (lent j) m (state e c) t)
+LooksBy j st m k r = (e : Ed) (c : Carried) (t : Tape) → Shows j st e t → LooksAs k r (perform (lent j) m (state e c) t)
 
 -- the same of a whole step
 abbrev pub LooksOnce : List ℕ → State → Op → List ℕ → Looked → Type 0
-LooksOnce j st op k r = (e : Ed) (c : Carried) (t : Tape) → Shows j st e t → PointIn e → LooksAs k r (step (lent j) op (state e c) t)
+LooksOnce j st op k r = (e : Ed) (c : Carried) (t : Tape) → Shows j st e t → LooksAs k r (step (lent j) op (state e c) t)
 
 -- ---- a step with a search, which lies in the words from k up to m
 
@@ -61,6 +61,11 @@ module _ (script words : List ℕ) (k m : ℕ) (table j : List ℕ) (st : State)
   -- what a function answers that made the step `op` with it, the buffer being i then
   abbrev pub LooksFor : (Search → Op) → List ℕ → Looked → Type 0
   LooksFor op i r = (se : Search) (e : Ed) (c : Carried) (t : Tape) → Encodes script words k m se → Ready table j st e t → LooksAs i r (step (lent j) (op se) (state e c) t)
+
+-- the test of IF and WH (v is true), or of UL and UT
+unfoldable pub testOf : Bool → Search → Test
+testOf true se = is se
+testOf false se = isNot se
 
 -- ---- F, BF and DF on one line
 
@@ -105,9 +110,9 @@ unfoldable pub stepsOf : Given → (ℕ → Op) → ℕ → ℕ → RunState →
 stepsOf g op i zero s t = ((on false s, t), 0)
 stepsOf g op i (suc n) s t = further (stepsOf g op (suc i) n) ((step g (op i) s t) .0) ((step g (op i) s t) .1)
 
--- what a search over lines answers, and what its steps come to
+-- what a search over lines answers, and what its steps come to: p is within the current line where the run goes on
 abbrev pub Seeks : List ℕ → Sought → Steps → Type 0
-Seeks j r x = LooksAs j (r .looked) (x .0) × (r .made ≡ x .1)
+Seeks j r x = LooksAs j (r .looked) (x .0) × PointOut (x .0 .0) × (r .made ≡ x .1)
 
 -- what a function answers that made the steps of `f` with the search in the words from k up to m
 abbrev pub SeeksFor : List ℕ → List ℕ → ℕ → ℕ → List ℕ → List ℕ → State → Seek → ℕ → ℕ → List ℕ → Sought → Type 0

@@ -6,7 +6,7 @@ ghost use Rattle.definitions.specs.Editor.{stopNumber};
 ghost use Rattle.definitions.specs.Edit.{Op, Test, lookOn, lookBack};
 ghost use Rattle.definitions.specs.Control.{lookOp};
 ghost use Rattle.editor.specs.Shows.{ShowsText};
-ghost use Rattle.seeks.specs.Looks.{LooksBy, LooksOnce, Searchable, Tells, LooksFor, seekOf, eofStop, whereFound, whereNot, SeeksFor};
+ghost use Rattle.seeks.specs.Looks.{LooksBy, LooksOnce, Searchable, Tells, LooksFor, testOf, seekOf, eofStop, whereFound, whereNot, SeeksFor};
 use editor::Moved;
 use editor::State;
 
@@ -51,8 +51,8 @@ pub fn holds_here<'a>(
     matching::search::holds(script, words, k, m, line, st.p)
 }
 
-// IF and WH.
-pub fn test_is<'a>(
+// IF and WH, with `holds` true; UL and UT, with `holds` false.
+pub fn test<'a>(
     script: &[u8],
     words: &[u32],
     k: usize,
@@ -60,37 +60,20 @@ pub fn test_is<'a>(
     table: &'a [u8],
     j: &'a [u8],
     st: State,
+    holds: bool,
 ) -> Looked
     requires { ⌜ Searchable (now script) (now words) k m (now table) (now j) st ⌝ }
-    ensures { λ r. ⌜ LooksFor (now (script .entry)) (now (words .entry)) k m (now (table .entry)) (now (j .entry)) st (λ se. Op.test (Test.is se)) (now (j .entry)) r ⌝ }
+    ensures { λ r. ⌜ LooksFor (now (script .entry)) (now (words .entry)) k m (now (table .entry)) (now (j .entry)) st (λ se. Op.test (testOf holds se)) (now (j .entry)) r ⌝ }
 {
-    if holds_here(script, words, k, m, table, j, st) {
+    if holds_here(script, words, k, m, table, j, st) == holds {
         return Looked::Yes(st);
     }
     Looked::No(st)
 }
 
-// UL and UT.
-pub fn test_is_not<'a>(
-    script: &[u8],
-    words: &[u32],
-    k: usize,
-    m: usize,
-    table: &'a [u8],
-    j: &'a [u8],
-    st: State,
-) -> Looked
-    requires { ⌜ Searchable (now script) (now words) k m (now table) (now j) st ⌝ }
-    ensures { λ r. ⌜ LooksFor (now (script .entry)) (now (words .entry)) k m (now (table .entry)) (now (j .entry)) st (λ se. Op.test (Test.isNot se)) (now (j .entry)) r ⌝ }
-{
-    if holds_here(script, words, k, m, table, j, st) {
-        return Looked::No(st);
-    }
-    Looked::Yes(st)
-}
-
 // IFEOF.
 pub fn test_eof(j: &[u8], st: State) -> Looked
+    requires { ⌜ ShowsText (now j) st ⌝ }
     ensures { λ r. ⌜ LooksOnce (now (j .entry)) st (Op.test Test.isEof) (now (j .entry)) r ⌝ }
 {
     let at = st.back;
@@ -102,6 +85,7 @@ pub fn test_eof(j: &[u8], st: State) -> Looked
 
 // F and DF begin: not at EOF.
 pub fn begin(j: &[u8], st: State) -> Looked
+    requires { ⌜ ShowsText (now j) st ⌝ }
     ensures { λ r. ⌜ LooksOnce (now (j .entry)) st Op.begin (now (j .entry)) r ⌝ }
 {
     let at = st.back;

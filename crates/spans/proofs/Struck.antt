@@ -13,14 +13,14 @@ use Rattle.definitions.specs.StepProgram.{runs}
 use Rattle.definitions.specs.Edit.{readPast}
 use Rattle.theorems.specs.ReadLines.{seenAll, read-past}
 use Rattle.editor.specs.Records.{enc, encAll, mark}
-use Rattle.editor.specs.Shows.{Holds, Shows, Lands, strikeOver, raised, lineAt}
+use Rattle.editor.specs.Shows.{Holds, Stays, Shows, Lands, strikeOver, raised, lineAt}
 use Rattle.editor.specs.declared.State.{State}
 use Rattle.editor.proofs.Records.{some-bytes}
-use Rattle.editor.proofs.Held.{holds-lists, held-length, held-nearest, held-start, held-mark, held-more}
+use Rattle.editor.proofs.Held.{stays-still, stays-on, holds-lists, held-length, held-nearest, held-start, held-mark, held-more}
 use Rattle.editor.proofs.Reading.{reachOf, shown-reach}
 use Rattle.editor.proofs.Reaching.{landRead}
 use Rattle.editor.proofs.Changing.{strike-shows}
-use Rattle.spans.specs.Spans.{EndsAt, Spanned, Until, PassesTo, Withdrawn, StruckBy}
+use Rattle.spans.specs.Spans.{EndsAt, Spanned, Until, PassesTo, backLive, StruckBy}
 
 pub all-append : (a b : List Record) → length (encAll (a ++ b)) ≡ length (encAll a) + length (encAll b)
 unfolding encAll
@@ -45,7 +45,7 @@ pub record Going (over : List Record → List Record → List Record) (j : List 
   pub holds : Holds j s front (left ++ d)
   pub same : over left front ≡ over m c
 
-pub going-start : {over : List Record → List Record → List Record} {j : List ℕ} {s : State} (c m d : List Record) → Holds j s c (m ++ d) → Going over j s c m d
+going-start : {over : List Record → List Record → List Record} {j : List ℕ} {s : State} (c m d : List Record) → Holds j s c (m ++ d) → Going over j s c m d
 going-start c m d h = record { front = c; left = m; holds = h; same = refl }
 
 module _ {over : List Record → List Record → List Record} {j : List ℕ} {s : State} {c m d : List Record} (w : Going over j s c m d) (end : ℕ) (at : end + length (encAll d) ≡ length j) where
@@ -57,12 +57,12 @@ module _ {over : List Record → List Record → List Record} {j : List ℕ} {s 
       go [] q = absurd (omega (arith, held-length (w .holds), all-append (w .left) d, ap (λ (z : List Record). length (encAll z)) q))
       go (r ∷ rs) q = (r, rs, q)
 
-  pub going-first : s .back < end → (b : List Record) × (r : Record) × (a : List Record) × Holds j s b (r ∷ a)
+  going-first : s .back < end → (b : List Record) × (r : Record) × (a : List Record) × Holds j s b (r ∷ a)
   going-first less =
       let f : (r : Record) × (rs : List Record) × (w .left ≡ r ∷ rs) = going-left less in
       (w .front, f .0, f .1 ++ d, holds-lists refl (ap (λ (z : List Record). z ++ d) (f .2)) (w .holds))
 
-  pub going-done : ((x : List Record) → over [] x ≡ x) → (s .back < end → ⊥) → Holds j s (over m c) d
+  going-done : ((x : List Record) → over [] x ≡ x) → (s .back < end → ⊥) → Holds j s (over m c) d
   unfolding encAll
   going-done none stop = go (w .left) refl
     where
@@ -71,7 +71,7 @@ module _ {over : List Record → List Record → List Record} {j : List ℕ} {s 
       go (r ∷ rs) q = absurd (stop (omega (arith, held-length (w .holds), all-append (w .left) d, ap (λ (z : List Record). length (encAll z)) q, length-append (enc r) (encAll rs), some-bytes r)))
 
   -- one record is passed: it becomes `one` of it
-  pub going-on : (one : Record → List Record → List Record) → ((r : Record) (rs x : List Record) → over rs (one r x) ≡ over (r ∷ rs) x) → s .back < end → {g : List ℕ} {v : State}
+  going-on : (one : Record → List Record → List Record) → ((r : Record) (rs x : List Record) → over rs (one r x) ≡ over (r ∷ rs) x) → s .back < end → {g : List ℕ} {v : State}
       → ((b : List Record) (r : Record) (a : List Record) → Holds j s b (r ∷ a) → Holds g v (one r b) a) → Going over g v c m d
   going-on one law less moves =
       let f : (r : Record) × (rs : List Record) × (w .left ≡ r ∷ rs) = going-left less in
@@ -81,6 +81,36 @@ module _ {over : List Record → List Record → List Record} {j : List ℕ} {s 
         holds = moves (w .front) (f .0) (f .1 ++ d) (holds-lists refl (ap (λ (z : List Record). z ++ d) (f .2)) (w .holds));
         same = law (f .0) (f .1) (w .front) ∙ ap (λ (z : List Record). over z (w .front)) (sym (f .2)) ∙ w .same;
       }
+
+-- ---- the loops that pass the records up to the place `end`
+
+-- between the buffer j₀ with the numbers s₀, where one began, and where it stands
+pub record Passing (over : List Record → List Record → List Record) (end : ℕ) (j₀ : List ℕ) (s₀ : State) (j : List ℕ) (s : State) : Type 0 where
+  pub goes : (c m d : List Record) → Holds j₀ s₀ c (m ++ d) → end + length (encAll d) ≡ length j₀ → Going over j s c m d
+  pub stays : Stays s₀ s
+  pub long : length j ≡ length j₀
+
+pub passing-start : {over : List Record → List Record → List Record} {end : ℕ} {j : List ℕ} {s : State} → Passing over end j s j s
+passing-start = record { goes = λ c m d h q. going-start c m d h; stays = stays-still; long = refl }
+
+module _ {over : List Record → List Record → List Record} {end : ℕ} {j₀ : List ℕ} {s₀ : State} {j : List ℕ} {s : State} (w : Passing over end j₀ s₀ j s) where
+  -- the record that is current
+  pub passing-first : Until j₀ s₀ end → s .back < end → (b : List Record) × (r : Record) × (a : List Record) × Holds j s b (r ∷ a)
+  passing-first (c, m, d, h, q) less = going-first (w .goes c m d h q) end (q ∙ sym (w .long)) less
+
+  -- it is passed, and becomes `one` of it
+  pub passing-on : (one : Record → List Record → List Record) → ((r : Record) (rs x : List Record) → over rs (one r x) ≡ over (r ∷ rs) x) → s .back < end → {k : List ℕ} {u : State}
+      → ((b : List Record) (r : Record) (a : List Record) → Holds j s b (r ∷ a) → Holds k u (one r b) a) → Stays s u → length k ≡ length j → Passing over end j₀ s₀ k u
+  passing-on one law less moves still same =
+      record {
+        goes = λ c m d h q. going-on (w .goes c m d h q) end (q ∙ sym (w .long)) one law less moves;
+        stays = stays-on (w .stays) still;
+        long = same ∙ w .long;
+      }
+
+  -- all are passed
+  pub passing-done : ((x : List Record) → over [] x ≡ x) → (s .back < end → ⊥) → PassesTo over end j₀ s₀ j s
+  passing-done none stop = ((λ c m d h q. going-done (w .goes c m d h q) end (q ∙ sym (w .long)) none stop), w .stays)
 
 -- the gap's end stays where the line before it is deleted
 pub strike-still : {k g : List ℕ} {u v : State} {r : Record} {b a : List Record} → Holds k u (r ∷ b) a → Holds g v (erase r ++ b) a → length g ≡ length k → v .back ≡ u .back
@@ -101,58 +131,65 @@ erased-over (changed o n ∷ m) c = erased-over m (deleted o ∷ c)
 erased-over (deleted l ∷ m) c = erased-over m (deleted l ∷ c)
 erased-over (inserted l ∷ m) c = erased-over m c
 
-erase-live : (k : ℕ) (r : Record) (c p : List Record) → (mark r ≡ 45 → ⊥) → struckBack (suc k) (r ∷ c) p ≡ struckBack k c (erase r ++ p)
-unfolding struckBack erase
-erase-live k (kept l) c p m = refl
-erase-live k (changed o n) c p m = refl
-erase-live k (deleted l) c p m = absurd (m refl)
-erase-live k (inserted l) c p m = refl
+-- where those are gone back over that are struck
+struck-live : (k : ℕ) (b p : List Record) → struckBack k b (erased p) ≡ strikeOver ((backLive k b p) .1) ((backLive k b p) .0)
+unfolding struckBack backLive erased erase
+struck-live zero b p = erased-over p b
+struck-live (suc k) [] p = erased-over p []
+struck-live (suc k) (kept l ∷ b) p = struck-live k b (kept l ∷ p)
+struck-live (suc k) (changed o n ∷ b) p = struck-live k b (changed o n ∷ p)
+struck-live (suc k) (deleted l ∷ b) p = struck-live (suc k) b (deleted l ∷ p)
+struck-live (suc k) (inserted l ∷ b) p = struck-live k b (inserted l ∷ p)
 
-erase-dead : (k : ℕ) (r : Record) (c p : List Record) → mark r ≡ 45 → struckBack (suc k) (r ∷ c) p ≡ struckBack (suc k) c (erase r ++ p)
-unfolding struckBack erase
-erase-dead k (kept l) c p m = absurd (omega arith)
-erase-dead k (changed o n) c p m = absurd (omega arith)
-erase-dead k (deleted l) c p m = refl
-erase-dead k (inserted l) c p m = absurd (omega arith)
+pub struck-back : (k : ℕ) (b : List Record) → struckBack k b [] ≡ strikeOver ((backLive k b []) .1) ((backLive k b []) .0)
+unfolding erased
+struck-back k b = struck-live k b []
 
-erase-start : (k : ℕ) (p : List Record) → struckBack k [] p ≡ reverseAux p []
-unfolding struckBack
-erase-start zero p = refl
-erase-start (suc k) p = refl
+back-live : (k : ℕ) (r : Record) (c p : List Record) → (mark r ≡ 45 → ⊥) → backLive (suc k) (r ∷ c) p ≡ backLive k c (r ∷ p)
+unfolding backLive
+back-live k (kept l) c p m = refl
+back-live k (changed o n) c p m = refl
+back-live k (deleted l) c p m = absurd (m refl)
+back-live k (inserted l) c p m = refl
 
-erase-zero : (c p : List Record) → struckBack 0 c p ≡ reverseAux p c
-unfolding struckBack
-erase-zero c p = refl
+back-dead : (k : ℕ) (r : Record) (c p : List Record) → mark r ≡ 45 → backLive (suc k) (r ∷ c) p ≡ backLive (suc k) c (r ∷ p)
+unfolding backLive
+back-dead k (kept l) c p m = absurd (omega arith)
+back-dead k (changed o n) c p m = absurd (omega arith)
+back-dead k (deleted l) c p m = refl
+back-dead k (inserted l) c p m = absurd (omega arith)
+
+back-start : (k : ℕ) (p : List Record) → backLive k [] p ≡ ([], p)
+unfolding backLive
+back-start zero p = refl
+back-start (suc k) p = refl
+
+back-none : (c p : List Record) → backLive 0 c p ≡ (c, p)
+unfolding backLive
+back-none c p = refl
 
 -- where the walk back has come to, `left` live records being left of k
 pub record Withdrawing (j : List ℕ) (s : State) (left k : ℕ) (b a : List Record) : Type 0 where
   pub front : List Record
   pub passed : List Record
   pub holds : Holds j s front (passed ++ a)
-  pub same : struckBack k b [] ≡ struckBack left front (erased passed)
+  pub way : backLive left front passed ≡ backLive k b []
 
 pub withdrawing-start : {j : List ℕ} {s : State} (k : ℕ) (b a : List Record) → Holds j s b a → Withdrawing j s k k b a
-unfolding erased
-withdrawing-start k b a h = record { front = b; passed = []; holds = h; same = refl }
+withdrawing-start k b a h = record { front = b; passed = []; holds = h; way = refl }
 
 module _ {j : List ℕ} {s : State} {left k : ℕ} {b a : List Record} (w : Withdrawing j s left k b a) where
-  pub withdrawn-start : s .front ≡ 0 → Withdrawn j s k b a
+  -- the walk ends where it has come to
+  withdrawn : backLive left (w .front) (w .passed) ≡ (w .front, w .passed) → Holds j s ((backLive k b []) .0) ((backLive k b []) .1 ++ a)
+  withdrawn here = rw (sym (w .way) ∙ here) (w .holds)
+
+  pub withdrawn-start : s .front ≡ 0 → Holds j s ((backLive k b []) .0) ((backLive k b []) .1 ++ a)
   withdrawn-start z =
       let first : w .front ≡ [] = held-start (w .holds) z in
-      record {
-        front = w .front;
-        passed = w .passed;
-        holds = w .holds;
-        same = w .same ∙ ap (λ (c : List Record). struckBack left c (erased (w .passed))) first ∙ erase-start left (erased (w .passed)) ∙ ap (reverseAux (erased (w .passed))) (sym first) ∙ erased-over (w .passed) (w .front);
-      }
+      withdrawn (rw first (back-start left (w .passed)))
 
-  pub withdrawn-all : left ≡ 0 → Withdrawn j s k b a
-  withdrawn-all z = record {
-    front = w .front;
-    passed = w .passed;
-    holds = w .holds;
-    same = w .same ∙ ap (λ (n : ℕ). struckBack n (w .front) (erased (w .passed))) z ∙ erase-zero (w .front) (erased (w .passed)) ∙ erased-over (w .passed) (w .front);
-  }
+  pub withdrawn-all : left ≡ 0 → Holds j s ((backLive k b []) .0) ((backLive k b []) .1 ++ a)
+  withdrawn-all z = withdrawn (rw z (back-none (w .front) (w .passed)))
 
   module _ (some : 0 < left) (more : 0 < s .front) {i : List ℕ} {u : State}
       (moves : (r : Record) (c : List Record) (d : List Record) → Holds j s (r ∷ c) d → Holds i u c (r ∷ d)) where
@@ -162,32 +199,30 @@ module _ {j : List ℕ} {s : State} {left k : ℕ} {b a : List Record} (w : With
     gone-back : Holds i u (nearest .1) (nearest .0 ∷ (w .passed ++ a))
     gone-back = moves (nearest .0) (nearest .1) (w .passed ++ a) (holds-lists (nearest .2) refl (w .holds))
 
-    was : struckBack k b [] ≡ struckBack (suc (left - 1)) (nearest .0 ∷ nearest .1) (erased (w .passed))
+    was : backLive (suc (left - 1)) (nearest .0 ∷ nearest .1) (w .passed) ≡ backLive k b []
     was =
-        let n : left ≡ suc (left - 1) = omega arith in
-        w .same ∙ ap (λ (c : List Record). struckBack left c (erased (w .passed))) (nearest .2) ∙ ap (λ (m : ℕ). struckBack m (nearest .0 ∷ nearest .1) (erased (w .passed))) n
+        let n : suc (left - 1) ≡ left = omega arith in
+        ap (λ (m : ℕ). backLive m (nearest .0 ∷ nearest .1) (w .passed)) n ∙ ap (λ (c : List Record). backLive left c (w .passed)) (sym (nearest .2)) ∙ w .way
 
     pub withdrawing-in : u .back < length i
     withdrawing-in = omega (arith, held-more gone-back, some-bytes (nearest .0))
 
     pub withdrawing-live : (getD i (u .back) 0 ≡ 45 → ⊥) → Withdrawing i u (left - 1) k b a
-    unfolding erased
     withdrawing-live m = record {
       front = nearest .1;
       passed = nearest .0 ∷ w .passed;
       holds = gone-back;
-      same = was ∙ erase-live (left - 1) (nearest .0) (nearest .1) (erased (w .passed)) (λ q. m (held-mark gone-back ∙ q));
+      way = sym (back-live (left - 1) (nearest .0) (nearest .1) (w .passed) (λ q. m (held-mark gone-back ∙ q))) ∙ was;
     }
 
     pub withdrawing-dead : getD i (u .back) 0 ≡ 45 → Withdrawing i u left k b a
-    unfolding erased
     withdrawing-dead m =
-        let n : suc (left - 1) ≡ left = omega arith in
+        let n : left ≡ suc (left - 1) = omega arith in
         record {
           front = nearest .1;
           passed = nearest .0 ∷ w .passed;
           holds = gone-back;
-          same = was ∙ erase-dead (left - 1) (nearest .0) (nearest .1) (erased (w .passed)) (sym (held-mark gone-back) ∙ m) ∙ ap (λ (i : ℕ). struckBack i (nearest .1) (erased (nearest .0 ∷ w .passed))) n;
+          way = ap (λ (i : ℕ). backLive i (nearest .1) (nearest .0 ∷ w .passed)) n ∙ sym (back-dead (left - 1) (nearest .0) (nearest .1) (w .passed) (sym (held-mark gone-back) ∙ m)) ∙ was;
         }
 
 -- ---- the records up to a place, and the line that is current then

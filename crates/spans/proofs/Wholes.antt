@@ -1,42 +1,26 @@
 -- D and R put together from their parts: the move, how far they go, and the changes. Assumes nothing.
-use mathlib.Core.Path.{_≡_, refl, sym, ap, _∙_}
+use mathlib.Core.Path.{_≡_, refl, sym, _∙_}
 use Prim.Native.Nat.{ℕ}
 use mathlib.Core.List.{List, [], _∷_}
 use lib.ListN.{length}
-use Rattle.definitions.specs.Tape.{Tape, bind}
+use Rattle.definitions.specs.Tape.{Tape}
 use Rattle.definitions.specs.Given.{Given, Carried}
 use Rattle.definitions.specs.Editor.{Ed, n20, Target, Through, strike, edit, edits}
 use Rattle.definitions.specs.Editor.{Stop as StopNumber, Edit as Editing}
 use Rattle.definitions.specs.Reading.{Ran, gave, stopped}
-use Rattle.definitions.specs.StepProgram.{Program, gives, _>>=_, _>>_, runs, state, changes, perform}
+use Rattle.definitions.specs.StepProgram.{gives, _>>=_, _>>_, runs, state, changes, perform}
 use Rattle.definitions.specs.Edit.{readPast, goTo, lineOr, reach, span, Op, program, step}
-use Rattle.theorems.specs.Programs.{thenRuns, runs-then, runs-on, runs-stop}
-use Rattle.editor.specs.Shows.{Shows, ShowsText, lent, Came, Answered}
+use Rattle.theorems.specs.Programs.{runs-assoc, runs-on, runs-stop}
+use Rattle.editor.specs.Shows.{Shows, lent, Came, Answered}
 use Rattle.editor.specs.declared.State.{State}
 use Rattle.editor.specs.declared.Moved.{Moved}
 use Rattle.editor.specs.declared.Moved.the-variants.{On, Stop}
-use Rattle.editor.proofs.Parts.{lent-same, Went, Halted, went, came-stop, perform-as, perform-then, perform-halt}
+use Rattle.editor.proofs.Parts.{lent-same, Halted, came-stop, perform-as, perform-then, perform-halt}
 use Rattle.editor.proofs.Changing.{changes-on}
 use Rattle.spans.specs.Spans.{reachHere, spanHere, changeHere, Finishes, EndsAt, Spanned, FoundBy, StruckBy}
 use Rattle.spans.specs.declared.Found.{Found}
 use Rattle.spans.specs.declared.Found.the-variants.{To}
 use Rattle.spans.specs.declared.Found.the-variants.{Stop as FoundStop}
-
--- ---- three programs, one after another
-
-module _ {A B C : Type 0} (g : Given) (c : Carried) (f : A → Program B) (h : B → Program C) where
-  then-then : (y : Ran A × Tape) → let x = thenRuns g c f (y .0) (y .1) in
-      thenRuns g c h (x .0) (x .1) ≡ thenRuns g c (λ a. _>>=_ (f a) h) (y .0) (y .1)
-  unfolding thenRuns bind
-  then-then (gave a e, t) = sym (runs-then g c h (f a) e t)
-  then-then (stopped n e, t) = refl
-
-  -- it does not matter which two are put together first
-  pub runs-assoc : (m : Program A) (e : Ed) (t : Tape) → runs g c (_>>=_ (_>>=_ m f) h) e t ≡ runs g c (_>>=_ m (λ a. _>>=_ (f a) h)) e t
-  unfolding bind
-  runs-assoc m e t =
-      runs-then g c h (_>>=_ m f) e t ∙ ap (λ (x : Ran B × Tape). thenRuns g c h (x .0) (x .1)) (runs-then g c f m e t)
-      ∙ then-then (runs g c m e t) ∙ sym (runs-then g c (λ a. _>>=_ (f a) h) m e t)
 
 -- ---- what `span_end` found
 

@@ -2,10 +2,10 @@
 use mathlib.Core.Path.{_≡_}
 use mathlib.Core.Bool.{cond}
 use mathlib.Core.List.{List, [], _∷_, _++_, reverseAux}
-use Prim.Native.Nat.{ℕ, _+_, _≤_}
+use Prim.Native.Nat.{ℕ, zero, suc, _+_, _≤_}
 use lib.ListN.{length, drop}
 use lib.Dec.{eqb}
-use Rattle.definitions.specs.Journal.{Record}
+use Rattle.definitions.specs.Journal.{Record, kept, changed, deleted, inserted}
 use Rattle.definitions.specs.Tape.{Tape}
 use Rattle.definitions.specs.Given.{Carried}
 use Rattle.definitions.specs.Editor.{Ed, afterOf, sources, n20, stopNumber, Through, alone, upTo, toEof, struckBack, strike, edit}
@@ -14,7 +14,7 @@ use Rattle.definitions.specs.Reading.{Ran, gave, stopped}
 use Rattle.definitions.specs.StepProgram.{Program, gives, _>>=_, _>>_, runs, state, Did, changes, perform}
 use Rattle.definitions.specs.Edit.{readPast, lineOr, reach}
 use Rattle.editor.specs.Records.{encAll, Goods, mark}
-use Rattle.editor.specs.Shows.{Holds, Stays, Shows, restOf, lent, Answered, strikeOver}
+use Rattle.editor.specs.Shows.{Holds, Stays, Shows, restOf, lent, Answered}
 use Rattle.editor.specs.declared.State.{State}
 use Rattle.editor.specs.declared.Moved.{Moved}
 use Rattle.spans.specs.declared.Found.{Found}
@@ -102,15 +102,19 @@ abbrev pub PassesTo : (List Record → List Record → List Record) → ℕ → 
 PassesTo over end j st k r =
     ((c : List Record) (m : List Record) (d : List Record) → Holds j st c (m ++ d) → end + length (encAll d) ≡ length j → Holds k r (over m c) d) × Stays st r
 
--- The gap stands before the nearest n live records of `before`: `passed` are the records that it has gone back over.
-pub record Withdrawn (j : List ℕ) (s : State) (n : ℕ) (before rest : List Record) : Type 0 where
-  pub front : List Record
-  pub passed : List Record
-  pub holds : Holds j s front (passed ++ rest)
-  pub same : struckBack n before [] ≡ strikeOver passed front
+-- the nearest n live records of `before`, and the deleted ones among them, are gone back over, or all of `before`: what is left of it, and what `passed` becomes
+unfoldable pub backLive : ℕ → List Record → List Record → List Record × List Record
+backLive zero before passed = (before, passed)
+backLive (suc n) [] passed = ([], passed)
+backLive (suc n) (kept l ∷ before) passed = backLive n before (kept l ∷ passed)
+backLive (suc n) (changed o l ∷ before) passed = backLive n before (changed o l ∷ passed)
+backLive (suc n) (deleted l ∷ before) passed = backLive (suc n) before (deleted l ∷ passed)
+backLive (suc n) (inserted l ∷ before) passed = backLive n before (inserted l ∷ passed)
 
+-- the gap goes back over them
 abbrev pub Withdraws : ℕ → List ℕ → State → List ℕ → State → Type 0
-Withdraws n j st k r = ((b : List Record) (a : List Record) → Holds j st b a → Withdrawn k r n b a) × Stays st r
+Withdraws n j st k r =
+    ((b : List Record) (a : List Record) → Holds j st b a → let w = backLive n b [] in Holds k r (w .0) (w .1 ++ a)) × Stays st r
 
 -- the nearest n live lines before the current one are deleted
 abbrev pub StrikesBack : ℕ → List ℕ → State → List ℕ → State → Type 0

@@ -4,22 +4,14 @@ ghost use Prim.Native.Nat.{_+_, _≤_, _<_};
 ghost use lib.ListN.{length, getD};
 ghost use Rattle.control.specs.Shown.{Asks};
 ghost use Rattle.items.specs.Simple.{CommandAt};
-ghost use Rattle.steps.specs.Steps.{Asking, LooksAsked, SeeksAsked, Wanting, AnswersStep};
-use control::AT_EOF;
-use control::BEGIN;
-use control::BEGIN_BACK;
-use control::COMMAND;
-use control::FIND;
-use control::FIND_BACK;
-use control::HOLDS;
-use control::ROUND;
+ghost use Rattle.steps.specs.Steps.{askTest, askLook, Asking, LooksAsked, Wanting, AnswersStep};
+use control::Ask;
 use control::Wanted;
 use editor::Moved;
 use editor::State;
 use seeks::Looked;
 use seeks::Sought;
 use seeks::Way;
-use seeks::seek;
 
 // One step was made.
 fn once(looked: Looked) -> Sought
@@ -36,48 +28,23 @@ fn search_end(w: &[u32], item: usize) -> usize
     w[item + 1] as usize
 }
 
-// The test of IF, UL, IFEOF, WH or UT.
-fn test<'a>(script: &[u8], table: &'a [u8], w: &[u32], x: Wanted, j: &'a [u8], st: State) -> Looked
-    requires { ⌜ Asking (Asks (now script) (now w) x) (now table) (now j) st × (1 ≤ x .what) × (x .what ≤ 3) ⌝ }
-    ensures { λ r. ⌜ LooksAsked (Asks (now (script .entry)) (now (w .entry)) x) (now (table .entry)) (now (j .entry)) st (now (j .entry)) r ⌝ }
-{
-    let what = x.what;
-    if what == AT_EOF {
-        return seeks::test_eof(j, st);
-    }
-    let item = x.item;
-    let k = item + 2;
-    let m = search_end(w, item);
-    if what == HOLDS {
-        return seeks::test_is(script, w, k, m, table, j, st);
-    }
-    seeks::test_is_not(script, w, k, m, table, j, st)
-}
-
-// The lines of F, BF or DF, at most `left` of them.
-fn lines(
+// The test of IF or WH, with `holds` true; of UL or UT, with `holds` false.
+fn test<'a>(
     script: &[u8],
-    table: &[u8],
+    table: &'a [u8],
     w: &[u32],
     x: Wanted,
-    j: &mut [u8],
+    j: &'a [u8],
     st: State,
-    left: usize,
-) -> Sought
-    requires { ⌜ Asking (Asks (now script) (now w) x) (now table) (now j) st × (6 ≤ x .what) × (x .what ≤ 8) × (x .what ≡ 8 → x .lines + left ≤ 18446744073709551615) ⌝ }
-    ensures { λ r. ⌜ SeeksAsked (Asks (now (script .entry)) (now (w .entry)) x) (now (table .entry)) (now (j .entry)) st left (now (j .exit)) r ⌝ }
+    holds: bool,
+) -> Looked
+    requires { ⌜ Asking (Asks (now script) (now w) x) (now table) (now j) st × (x .what ≡ askTest holds) ⌝ }
+    ensures { λ r. ⌜ LooksAsked (Asks (now (script .entry)) (now (w .entry)) x) (now (table .entry)) (now (j .entry)) st (now (j .entry)) r ⌝ }
 {
-    let what = x.what;
     let item = x.item;
     let k = item + 2;
     let m = search_end(w, item);
-    if what == FIND {
-        return seek(script, w, k, m, table, j, st, Way::Forward, 0, left);
-    }
-    if what == FIND_BACK {
-        return seek(script, w, k, m, table, j, st, Way::Backward, 0, left);
-    }
-    seek(script, w, k, m, table, j, st, Way::Deleting, x.lines, left)
+    seeks::test(script, w, k, m, table, j, st, holds)
 }
 
 // F, BF or DF from the current line on. Where none of `left` lines matches, the budget is spent.
@@ -88,12 +55,16 @@ fn search(
     x: Wanted,
     j: &mut [u8],
     st: State,
+    way: Way,
     left: usize,
 ) -> Sought
-    requires { ⌜ Wanting (now script) (now w) x (now table) (now j) st × (1 ≤ left) × (6 ≤ x .what) × (x .what ≤ 8) × (x .what ≡ 8 → x .lines + left ≤ 18446744073709551615) ⌝ }
+    requires { ⌜ Wanting (now script) (now w) x (now table) (now j) st × (x .what ≡ askLook way) × (1 ≤ left) × (x .lines + left ≤ 18446744073709551615) ⌝ }
     ensures { λ r. ⌜ AnswersStep (now (script .entry)) (now (w .entry)) x (now (table .entry)) (now (j .entry)) st left (now (j .exit)) r ⌝ }
 {
-    let r = lines(script, table, w, x, j, st, left);
+    let item = x.item;
+    let k = item + 2;
+    let m = search_end(w, item);
+    let r = seeks::seek(script, w, k, m, table, j, st, way, x.lines, left);
     let looked = r.looked;
     let Looked::No(s) = looked else {
         return r;
@@ -126,24 +97,20 @@ pub fn answer_step(
     st: State,
     left: usize,
 ) -> Sought
-    requires { ⌜ Wanting (now script) (now w) x (now table) (now j) st × (1 ≤ left) × (x .what ≡ 8 → x .lines + left ≤ 18446744073709551615) ⌝ }
+    requires { ⌜ Wanting (now script) (now w) x (now table) (now j) st × (1 ≤ left) × (x .lines + left ≤ 18446744073709551615) ⌝ }
     ensures { λ r. ⌜ AnswersStep (now (script .entry)) (now (w .entry)) x (now (table .entry)) (now (j .entry)) st left (now (j .exit)) r ⌝ }
 {
     let what = x.what;
-    if what == ROUND {
-        return once(Looked::Yes(st));
+    match what {
+        Ask::Round => once(Looked::Yes(st)),
+        Ask::Holds => once(test(script, table, w, x, j, st, true)),
+        Ask::HoldsNot => once(test(script, table, w, x, j, st, false)),
+        Ask::AtEof => once(seeks::test_eof(j, st)),
+        Ask::Begin => once(seeks::begin(j, st)),
+        Ask::BeginBack => once(seeks::begin_back(j, st)),
+        Ask::Find => search(script, table, w, x, j, st, Way::Forward, left),
+        Ask::FindBack => search(script, table, w, x, j, st, Way::Backward, left),
+        Ask::FindDelete => search(script, table, w, x, j, st, Way::Deleting, left),
+        Ask::Command => once(command(script, table, w, x, j, st)),
     }
-    if what <= AT_EOF {
-        return once(test(script, table, w, x, j, st));
-    }
-    if what == BEGIN {
-        return once(seeks::begin(j, st));
-    }
-    if what == BEGIN_BACK {
-        return once(seeks::begin_back(j, st));
-    }
-    if what == COMMAND {
-        return once(command(script, table, w, x, j, st));
-    }
-    search(script, table, w, x, j, st, left)
 }

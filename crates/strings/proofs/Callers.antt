@@ -1,56 +1,16 @@
--- What a caller has of strings that were read: what the definition says of them, where they lie, and room for their words. Assumes nothing.
-use mathlib.Core.Path.{_≡_, sym, _∙_}
+-- What a caller has of a string that was read: room for its words. Assumes nothing.
+use mathlib.Core.Path.{_≡_}
 use mathlib.Core.Bool.{true}
 use mathlib.Core.List.{List}
 use Prim.Native.Nat.{ℕ, zero, suc, _+_, _-_, _*_, _≤_, _<_}
 use native.Mathlib.Omega.{arith}
-use lib.ListN.{length, take, drop}
+use lib.ListN.{length}
 use Rattle.definitions.specs.Table.{isScript}
-use Rattle.definitions.specs.Matching.{Qualified, qualified}
-use Rattle.definitions.specs.Reader.{Got, got, refused}
-use Rattle.definitions.specs.Strings.{Pair, pair}
 use Rattle.matching.specs.declared.Quals.{Quals}
 use Rattle.matching.specs.Quals.{columnsOf, qualifiersOf}
 use Rattle.matching.specs.Words.{columnsIn, columnWords, stringWords, Writable}
-use Rattle.lexer.specs.Places.{cursorAt}
-use Rattle.strings.specs.declared.OneString.{OneString}
-use Rattle.strings.specs.declared.TwoStrings.{TwoStrings}
-use Rattle.strings.specs.Answers.{StringAt, StringOn, stringOf, Quoted, PairAt, PairOn, pairOf, Paired}
+use Rattle.strings.specs.Answers.{StringAt}
 use Rattle.strings.proofs.Lines.{strings-short, script-short}
-
--- ---- one string
-
-module _ (s : List ℕ) (at : ℕ) (x : Got Qualified) (a : OneString) (read : Quoted s at x a) where
-  pub string-not : (k p : ℕ) → a ≡ OneString.Refused k p → x ≡ refused k p
-  unfolding stringOf
-  string-not k p e = sym (read .is) ∙ rw e
-
-  module _ (q : Quals) (start end next : ℕ) (is : a ≡ OneString.Next q start end next) where
-    pub string-at : StringAt s at q start end next
-    unfolding StringOn
-    string-at = rw is at (read .on)
-
-    pub string-is : x ≡ got (qualified (qualifiersOf q) (take (end - start) (drop start s))) (cursorAt s next)
-    unfolding stringOf
-    string-is = sym (read .is) ∙ rw is
-
--- ---- two strings
-
-module _ (s : List ℕ) (at : ℕ) (x : Got Pair) (a : TwoStrings) (read : Paired s at x a) where
-  pub pair-not : (k p : ℕ) → a ≡ TwoStrings.Refused k p → x ≡ refused k p
-  unfolding pairOf
-  pair-not k p e = sym (read .is) ∙ rw e
-
-  module _ (q : Quals) (start end second second-end next : ℕ) (is : a ≡ TwoStrings.Next q start end second second-end next) where
-    pub pair-at : PairAt s at q start end second second-end next
-    unfolding PairOn
-    pair-at = rw is at (read .on)
-
-    pub pair-is : x ≡ got (pair (qualified (qualifiersOf q) (take (end - start) (drop start s))) (take (second-end - second) (drop second s))) (cursorAt s next)
-    unfolding pairOf
-    pair-is = sym (read .is) ∙ rw is
-
--- ---- the words of a string
 
 column-words : (from to : ℕ) → (length (columnWords (columnsOf from to)) ≤ 1) × (length (columnWords (columnsOf from to)) ≤ from)
 unfolding columnWords columnsOf

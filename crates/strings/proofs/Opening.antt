@@ -1,5 +1,5 @@
 -- Laws of reading all qualifiers of a string: the loop up to the opening delimiter. Assumes nothing.
-use mathlib.Core.Path.{_≡_, refl, sym, _∙_}
+use mathlib.Core.Path.{_≡_, refl, _∙_}
 use mathlib.Core.Bool.{Bool, true, false}
 use mathlib.Core.List.{List}
 use Prim.Native.Nat.{ℕ, zero, suc, _-_, _≤_, _<_}
@@ -12,10 +12,11 @@ use Rattle.definitions.specs.Reader.{Cursor, got, refused, bytesLeft, nextByte,
 use Rattle.definitions.specs.Strings.{noQualifiers, qualifierByte, readQualifier, readQualifiers, startQualifiers}
 use Rattle.matching.specs.declared.Quals.{Quals}
 use Rattle.matching.specs.Quals.{anchorOf, columnsOf, qualifiersOf}
+use Rattle.answers.specs.declared.Answer.{Answer}
+use Rattle.answers.specs.Answers.{QualifiersOr}
 use Rattle.lexer.specs.Places.{cursorAt}
 use Rattle.lexer.proofs.AtPlace.{next-inside}
-use Rattle.strings.specs.declared.Read.{Read}
-use Rattle.strings.specs.Answers.{Small, readOf, ReadOn, QualifierRead, OpenAt, QualifiersRead}
+use Rattle.strings.specs.Answers.{Small, qualifierHere, QualifierAt, QualifiersRead}
 
 -- no qualifiers, as the code writes them
 abbrev pub none-yet : Quals
@@ -78,41 +79,26 @@ module _ (inSearch : Bool) (q : Qualifiers) (c : Cursor) where
     round-refused (suc n) h k p e = rw (more, e, readQualifiers)
 
 module _ (s : List ℕ) (at : ℕ) (inSearch : Bool) (q : Quals) (i : ℕ) (begun : Begun s at inSearch q i) where
-  pub opened : isDelimiter (nextByte (cursorAt s i)) ≡ true → QualifiersRead s at (startQualifiers inSearch (cursorAt s at)) (Read.Next q i)
-  unfolding readOf OpenAt
-  opened e = record {
-    is = sym (begun .same ∙ round-open inSearch (qualifiersOf q) (cursorAt s i) (begun .rounds) (omega (arith, begun .enough)) e);
-    on = record { from = begun .from; inside = opens-inside s i e; small = begun .small; columned = begun .columned };
-  }
+  pub opened : isDelimiter (nextByte (cursorAt s i)) ≡ true → QualifiersRead s at (startQualifiers inSearch (cursorAt s at)) (Answer.Qualifiers q i)
+  opened e = QualifiersOr.read q i (
+    begun .same ∙ round-open inSearch (qualifiersOf q) (cursorAt s i) (begun .rounds) (omega (arith, begun .enough)) e,
+    record { from = begun .from; inside = opens-inside s i e; small = begun .small; columned = begun .columned },
+  )
 
-  module _ (more : isDelimiter (nextByte (cursorAt s i)) ≡ false) (r : Read)
-      (step : QualifierRead s i (readQualifier inSearch (qualifiersOf q) (cursorAt s i) (qualifierByte (nextByte (cursorAt s i)))) r) where
-    pub refused-up : (k p : ℕ) → r ≡ Read.Refused k p → QualifiersRead s at (startQualifiers inSearch (cursorAt s at)) r
-    unfolding readOf OpenAt
-    refused-up k p e = rw e (record {
-      is = sym (begun .same ∙ round-refused inSearch (qualifiersOf q) (cursorAt s i) more (begun .rounds) (omega (arith, begun .enough)) k p
-          (sym (step .is) ∙ rw e));
-      on = tt;
-    })
+  module _ (more : isDelimiter (nextByte (cursorAt s i)) ≡ false) where
+    pub refused-up : (k p : ℕ) → qualifierHere inSearch q (cursorAt s i) ≡ refused k p → startQualifiers inSearch (cursorAt s at) ≡ refused k p
+    refused-up k p e = begun .same ∙ round-refused inSearch (qualifiersOf q) (cursorAt s i) more (begun .rounds) (omega (arith, begun .enough)) k p e
 
-    -- the place after the qualifier
-    pub further : (q′ : Quals) (next : ℕ) → r ≡ Read.Next q′ next → (suc i ≤ next) × (next ≤ length s) × Small q′
-    unfolding ReadOn
-    further q′ next e = rw e at (step .on)
-
-    pub goes-round : (q′ : Quals) (next j : ℕ) → r ≡ Read.Next q′ next → skipSpaces (cursorAt s next) ≡ cursorAt s j → next ≤ j → j ≤ length s
-        → Begun s at inSearch q′ j
-    unfolding readOf
-    goes-round q′ next j e spaces from to =
-        let on = further q′ next e in
-        record {
-          from = omega (arith, on .0, begun .from);
-          to = to;
-          small = on .2;
-          columned = λ h. omega (arith, on .0, begun .from);
-          rounds = begun .rounds - 1;
-          enough = omega (arith, on .0, on .1, begun .enough);
-          same = begun .same ∙ round-on inSearch (qualifiersOf q) (cursorAt s i) more (begun .rounds) (omega (arith, begun .enough)) (qualifiersOf q′) (cursorAt s next)
-              (sym (step .is) ∙ rw e)
-              ∙ rw spaces;
-        }
+    pub goes-round : (q′ : Quals) (next j : ℕ) → QualifierAt s i (qualifierHere inSearch q (cursorAt s i)) q′ next
+        → skipSpaces (cursorAt s next) ≡ cursorAt s j → next ≤ j → j ≤ length s → Begun s at inSearch q′ j
+    goes-round q′ next j on spaces from to = record {
+      from = omega (arith, on .1, begun .from);
+      to = to;
+      small = on .3;
+      columned = λ h. omega (arith, on .1, begun .from);
+      rounds = begun .rounds - 1;
+      enough = omega (arith, on .1, on .2, begun .enough);
+      same = begun .same
+          ∙ round-on inSearch (qualifiersOf q) (cursorAt s i) more (begun .rounds) (omega (arith, begun .enough)) (qualifiersOf q′) (cursorAt s next) (on .0)
+          ∙ rw spaces;
+    }

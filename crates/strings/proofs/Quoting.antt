@@ -12,16 +12,16 @@ use Rattle.text.specs.Lines.{part}
 use Rattle.text.proofs.Parts.{part-length, part-none, part-cons}
 use borrow.Author.Tests.{eq-eqb, ne-eqb, eqb-true}
 use Rattle.definitions.specs.Bytes.{isDigit}
-use Rattle.definitions.specs.Reader.{Cursor, cursor, andThen, placeAt, nextByte, stringUpTo, stringNext, advance, pastDelimiter, afterString}
+use Rattle.definitions.specs.Matching.{Qualified}
+use Rattle.definitions.specs.Reader.{Cursor, cursor, Got, refused, andThen, placeAt, nextByte, stringUpTo, stringNext, advance, pastDelimiter, afterString}
 use Rattle.definitions.specs.Strings.{wantsBytes, isEmpty, readString, startQualifiers, qualifiedString, secondString, twoStrings}
 use Rattle.matching.specs.declared.Quals.{Quals}
 use Rattle.matching.specs.Quals.{qualifiersOf}
+use Rattle.answers.specs.declared.Answer.{Answer}
+use Rattle.answers.specs.Answers.{StringOr, StringsOr}
 use Rattle.lexer.specs.Places.{cursorAt}
 use Rattle.lexer.proofs.AtPlace.{is-next, next-in, next-at, after-in, after-next}
-use Rattle.strings.specs.declared.Read.{Read}
-use Rattle.strings.specs.declared.OneString.{OneString}
-use Rattle.strings.specs.declared.TwoStrings.{TwoStrings}
-use Rattle.strings.specs.Answers.{noString, noPair, readOf, Open, OpenAt, QualifiersRead, Short, StringAt, stringOf, StringOn, Quoted, pairOf, PairOn, Paired}
+use Rattle.strings.specs.Answers.{Open, OpenAt, Short, QuotedAt, Quoted, Paired}
 
 -- ---- which qualifiers want bytes
 
@@ -95,19 +95,19 @@ short s start end d e h lines = omega (arith, lines d start, ap length e ∙ par
 -- `from` is where the qualifiers begin, `at` where the opening delimiter stands
 module _ (s : List ℕ) (from at : ℕ) (q : Quals) (opened : Open s from q at) where
   module _ (end : ℕ) (string : stringNext (getD s at 0) (cursorAt s (at + 1)) ≡ part (at + 1) end s) where
-    pub wants-more : end ≡ at + 1 → wantsBytes (qualifiersOf q) ≡ true → Quoted s from (readString (qualifiersOf q) (cursorAt s at)) (OneString.Refused 4 at)
-    unfolding readString stringOf StringOn placeAt isEmpty
-    wants-more e w = record { is = rw (next-in s at (opened .inside), after-in s at (opened .inside), string, e, part-none s (at + 1), w); on = tt }
+    pub wants-more : end ≡ at + 1 → wantsBytes (qualifiersOf q) ≡ true → Quoted s from (readString (qualifiersOf q) (cursorAt s at)) (Answer.Refused 4 at)
+    unfolding readString placeAt isEmpty
+    wants-more e w = StringOr.refused 4 at (rw (next-in s at (opened .inside), after-in s at (opened .inside), string, e, part-none s (at + 1), w))
 
     module _ (next : ℕ) (passed : advance (length (stringNext (getD s at 0) (cursorAt s (at + 1)))) (cursorAt s (at + 1)) ≡ cursorAt s end)
         (closed : pastDelimiter (getD s at 0) (cursorAt s end) ≡ cursorAt s next)
         (ordered : at + 1 ≤ end) (ends : end ≤ next) (within : next ≤ length s) where
       quoted-is : (isEmpty (part (at + 1) end s) && wantsBytes (qualifiersOf q)) ≡ false
-          → Quoted s from (readString (qualifiersOf q) (cursorAt s at)) (OneString.Next q (at + 1) end next)
-      unfolding readString stringOf StringOn
-      quoted-is e = record {
-        is = rw (next-in s at (opened .inside), after-in s at (opened .inside), after-is s (at + 1) end (getD s at 0) next string passed closed, string, e);
-        on = record {
+          → Quoted s from (readString (qualifiersOf q) (cursorAt s at)) (Answer.OneString q (at + 1) end next)
+      unfolding readString
+      quoted-is e = StringOr.read q (at + 1) end next (
+        rw (next-in s at (opened .inside), after-in s at (opened .inside), after-is s (at + 1) end (getD s at 0) next string passed closed, string, e),
+        record {
           after = omega (arith, opened .from);
           ordered = ordered;
           ends = ends;
@@ -116,86 +116,55 @@ module _ (s : List ℕ) (from at : ℕ) (q : Quals) (opened : Open s from q at) 
           small = opened .small;
           columned = λ h. omega (arith, opened .columned h);
           short = short s (at + 1) end (getD s at 0) string (omega arith);
-        };
-      }
+        },
+      )
 
-      pub quoted-empty : wantsBytes (qualifiersOf q) ≡ false → Quoted s from (readString (qualifiersOf q) (cursorAt s at)) (OneString.Next q (at + 1) end next)
+      pub quoted-empty : wantsBytes (qualifiersOf q) ≡ false → Quoted s from (readString (qualifiersOf q) (cursorAt s at)) (Answer.OneString q (at + 1) end next)
       quoted-empty w = quoted-is (rw w (and-false (isEmpty (part (at + 1) end s))))
 
-      pub quoted-bytes : (end ≡ at + 1 → ⊥) → Quoted s from (readString (qualifiersOf q) (cursorAt s at)) (OneString.Next q (at + 1) end next)
+      pub quoted-bytes : (end ≡ at + 1 → ⊥) → Quoted s from (readString (qualifiersOf q) (cursorAt s at)) (Answer.OneString q (at + 1) end next)
       quoted-bytes e = quoted-is (rw (not-empty s (at + 1) end (omega arith) (omega arith)))
 
 -- ---- a qualified string
 
-module _ (s : List ℕ) (at : ℕ) (i : Bool) (a : Read) (opened : QualifiersRead s at (startQualifiers i (cursorAt s at)) a) where
-  -- where the opening delimiter stands
-  pub open-at : (q : Quals) (o : ℕ) → a ≡ Read.Next q o → Open s at q o
-  unfolding OpenAt
-  open-at q o e = rw e at (opened .on)
+module _ (s : List ℕ) (at : ℕ) (i : Bool) where
+  pub string-refused : (k p : ℕ) → startQualifiers i (cursorAt s at) ≡ refused k p → qualifiedString i (cursorAt s at) ≡ refused k p
+  unfolding qualifiedString andThen
+  string-refused k p e = rw e
 
-  pub string-read : (q : Quals) (o : ℕ) (r : OneString) → a ≡ Read.Next q o
-      → ((from : ℕ) → Open s from q o → Quoted s from (readString (qualifiersOf q) (cursorAt s o)) r)
-      → Quoted s at (qualifiedString i (cursorAt s at)) r
-  unfolding qualifiedString readOf andThen
-  string-read q o r e string =
-      let read = string at (open-at q o e) in
-      record { is = read .is ∙ rw (← opened .is, e); on = read .on }
+  module _ (q : Quals) (o : ℕ) (opened : OpenAt s at (startQualifiers i (cursorAt s at)) q o) where
+    string-is : qualifiedString i (cursorAt s at) ≡ readString (qualifiersOf q) (cursorAt s o)
+    unfolding qualifiedString andThen
+    string-is = rw (opened .0)
 
-  pub string-refused : (k p : ℕ) (r : OneString) → a ≡ Read.Refused k p → r ≡ noString a → Quoted s at (qualifiedString i (cursorAt s at)) r
-  unfolding qualifiedString readOf andThen noString stringOf StringOn
-  string-refused k p r e r-is = rw (r-is, e) (record { is = rw (← opened .is, e); on = tt })
+    pub string-read : {r : Answer} → ((from : ℕ) → Open s from q o → Quoted s from (readString (qualifiersOf q) (cursorAt s o)) r)
+        → Quoted s at (qualifiedString i (cursorAt s at)) r
+    string-read string = rw string-is (string at (opened .1))
 
 -- ---- a second string
 
-module _ (s : List ℕ) (d : ℕ) (a : OneString) where
-  pub pair-refused : (k p : ℕ) (r : TwoStrings) → a ≡ OneString.Refused k p → r ≡ noPair a
-      → (pairOf s r ≡ andThen (stringOf s a) (λ q c. secondString d q c)) × ((at : ℕ) → StringOn s at a → PairOn s at r)
-  unfolding pairOf andThen stringOf noPair PairOn
-  pair-refused k p r e r-is = rw (r-is, e) (refl, λ at on. tt)
+module _ (s : List ℕ) (d at : ℕ) (x : Got Qualified) where
+  pub pair-read : (q : Quals) (start end next second-end past : ℕ) → QuotedAt s at x q start end next → stringNext d (cursorAt s next) ≡ part next second-end s
+      → advance (length (stringNext d (cursorAt s next))) (cursorAt s next) ≡ cursorAt s second-end → pastDelimiter d (cursorAt s second-end) ≡ cursorAt s past
+      → next ≤ second-end → second-end ≤ past → past ≤ length s
+      → Paired s at (andThen x (λ q c. secondString d q c)) (Answer.TwoStrings q start end next second-end past)
+  unfolding andThen secondString
+  pair-read q start end next second-end past first string passed closed ordered ends within = StringsOr.read q start end next second-end past (
+    rw (first .0, after-is s next second-end d past string passed closed, string),
+    record { first = first .1; ordered = ordered; ends = ends; within = within; short = short s next second-end d string (omega arith) },
+  )
 
-  module _ (q : Quals) (start end next second-end past : ℕ) (is : a ≡ OneString.Next q start end next)
-      (string : stringNext d (cursorAt s next) ≡ part next second-end s)
-      (passed : advance (length (stringNext d (cursorAt s next))) (cursorAt s next) ≡ cursorAt s second-end)
-      (closed : pastDelimiter d (cursorAt s second-end) ≡ cursorAt s past) where
-    pub pair-read : pairOf s (TwoStrings.Next q start end next second-end past) ≡ andThen (stringOf s a) (λ q c. secondString d q c)
-    unfolding pairOf andThen stringOf secondString
-    pair-read = rw (is, after-is s next second-end d past string passed closed, string)
+module _ (s : List ℕ) (at : ℕ) where
+  pub both-refused : (k p : ℕ) → startQualifiers false (cursorAt s at) ≡ refused k p → twoStrings (cursorAt s at) ≡ refused k p
+  unfolding twoStrings andThen
+  both-refused k p e = rw e
 
-    -- the places of the two strings
-    pub pair-on : (at : ℕ) → next ≤ second-end → second-end ≤ past → past ≤ length s → StringOn s at a
-        → PairOn s at (TwoStrings.Next q start end next second-end past)
-    unfolding StringOn PairOn
-    pair-on at ordered ends within on = record {
-      first = rw is at on;
-      ordered = ordered;
-      ends = ends;
-      within = within;
-      short = short s next second-end d string (omega arith);
-    }
+  module _ (q : Quals) (o : ℕ) (opened : OpenAt s at (startQualifiers false (cursorAt s at)) q o) where
+    both-are : twoStrings (cursorAt s at) ≡ andThen (readString (qualifiersOf q) (cursorAt s o)) (λ q c. secondString (getD s o 0) q c)
+    unfolding twoStrings andThen
+    both-are = rw (opened .0, next-in s o (opened .1 .inside))
 
--- the first string ends within the script
-pub ends-within : (s : List ℕ) (a : OneString) (q : Quals) (start end next : ℕ) → a ≡ OneString.Next q start end next → ((at : ℕ) × StringOn s at a) → next ≤ length s
-unfolding StringOn
-ends-within s a q start end next e on =
-    let first : StringAt s (on .0) q start end next = rw e at (on .1) in
-    first .within
-
-module _ (s : List ℕ) (at : ℕ) (a : Read) (opened : QualifiersRead s at (startQualifiers false (cursorAt s at)) a) where
-  pub both-refused : (k p : ℕ) (first : OneString) (r : TwoStrings) → a ≡ Read.Refused k p → first ≡ noString a → r ≡ noPair first
-      → Paired s at (twoStrings (cursorAt s at)) r
-  unfolding twoStrings readOf andThen noString noPair pairOf PairOn
-  both-refused k p first r e first-is r-is = rw (r-is, first-is, e) (record { is = rw (← opened .is, e); on = tt })
-
-  pub both-read : (q : Quals) (o : ℕ) (first : OneString) (r : TwoStrings) → a ≡ Read.Next q o
-      → ((from : ℕ) → Open s from q o → Quoted s from (readString (qualifiersOf q) (cursorAt s o)) first)
-      → pairOf s r ≡ andThen (stringOf s first) (λ q c. secondString (getD s o 0) q c)
-      → ((from : ℕ) → StringOn s from first → PairOn s from r)
-      → Paired s at (twoStrings (cursorAt s at)) r
-  unfolding twoStrings readOf andThen
-  both-read q o first r e string is on =
-      let stands = open-at s at false a opened q o e in
-      let read = string at stands in
-      record {
-        is = is ∙ rw (← opened .is, e, next-in s o (stands .inside), ← read .is);
-        on = on at (read .on);
-      }
+    pub both-read : {first r : Answer} → ((from : ℕ) → Open s from q o → Quoted s from (readString (qualifiersOf q) (cursorAt s o)) first)
+        → ((from : ℕ) (x : Got Qualified) → Quoted s from x first → Paired s from (andThen x (λ q c. secondString (getD s o 0) q c)) r)
+        → Paired s at (twoStrings (cursorAt s at)) r
+    both-read string pairs = rw both-are (pairs at _ (string at (opened .1)))

@@ -1,6 +1,6 @@
 -- What the answers of the code stand for, in the terms of the definitions. Assumes nothing.
 use mathlib.Core.Path.{_≡_}
-use mathlib.Core.Bool.{true, cond}
+use mathlib.Core.Bool.{Bool, true, cond}
 use mathlib.Core.List.{List}
 use mathlib.Core.Option.{Option}
 use Prim.Native.Nat.{ℕ, suc, _+_, _≤_, _<_}
@@ -8,18 +8,17 @@ use lib.Dec.{leb}
 use lib.ListN.{length, getD}
 use Rattle.definitions.specs.Bytes.{isDigit}
 use Rattle.definitions.specs.Matching.{Qualifiers, Qualified, qualified}
-use Rattle.definitions.specs.Reader.{Cursor, Got, got, refused, andThen, placeAt, afterByte, expect, skipSpaces, number, stringNext}
-use Rattle.definitions.specs.Strings.{added, setColumns, Pair, pair}
+use Rattle.definitions.specs.Reader.{Cursor, Got, got, refused, andThen, placeAt, nextByte, afterByte, expect, skipSpaces, number, stringNext}
+use Rattle.definitions.specs.Strings.{added, setColumns, qualifierByte, readQualifier, Pair, pair}
 use Rattle.text.specs.Lines.{part}
 use Rattle.matching.specs.declared.Quals.{Quals}
 use Rattle.matching.specs.Quals.{qualifiersOf}
+use Rattle.answers.specs.declared.Answer.{Answer}
+use Rattle.answers.specs.Answers.{QualifiersOr, StringOr, StringsOr}
 use Rattle.lexer.specs.Places.{cursorAt}
-use Rattle.lexer.specs.declared.Answer.{Answer}
+use Rattle.lexer.specs.Answers.{Refuses}
 use Rattle.strings.specs.declared.Added.{Added}
 use Rattle.strings.specs.declared.Added.the-variants.{Now, Clash, Unknown}
-use Rattle.strings.specs.declared.Read.{Read}
-use Rattle.strings.specs.declared.OneString.{OneString}
-use Rattle.strings.specs.declared.TwoStrings.{TwoStrings}
 
 -- the numbers of qualifiers that a script can give
 pub record Small (q : Quals) : Type 0 where
@@ -51,30 +50,22 @@ pub record AddsAt (x : Cursor → Got Qualifiers) (q : Quals) (r : Added) : Type
 
 -- ---- one qualifier, and all of a string
 
-unfoldable pub readOf : List ℕ → Read → Got Qualifiers
-readOf s (Read.Next q next) = got (qualifiersOf q) (cursorAt s next)
-readOf s (Read.Refused k p) = refused k p
-
 -- a qualifier that stands at `at` was added or not; `next` is the place after it
-unfoldable pub readAdded : Added → ℕ → ℕ → Read
-readAdded (Now q) at next = Read.Next q next
-readAdded Clash at next = Read.Refused 4 at
-readAdded Unknown at next = Read.Refused 3 at
+unfoldable pub readAdded : Added → ℕ → ℕ → Answer
+readAdded (Now q) at next = Answer.Qualifiers q next
+readAdded Clash at next = Answer.Refused 4 at
+readAdded Unknown at next = Answer.Refused 3 at
 
--- a refusal is passed upward: 0, which is no number of a refusal, for an answer that is none
-unfoldable pub noQualifier : Answer → Read
-noQualifier (Answer.Is k p) = Read.Refused 0 p
-noQualifier (Answer.Refused k p) = Read.Refused k p
+-- one qualifier was read at `at`
+abbrev pub QualifierAt : List ℕ → ℕ → Got Qualifiers → Quals → ℕ → Type 0
+QualifierAt s at x q next = (x ≡ got (qualifiersOf q) (cursorAt s next)) × (suc at ≤ next) × (next ≤ length s) × Small q
 
--- bytes were read from `at` on, of n bytes
-unfoldable pub ReadOn : ℕ → ℕ → Read → Type 0
-ReadOn at n (Read.Next q next) = (suc at ≤ next) × (next ≤ n) × Small q
-ReadOn at n (Read.Refused k p) = Unit {0}
+abbrev pub QualifierRead : List ℕ → ℕ → Got Qualifiers → Answer → Type 0
+QualifierRead s at x = QualifiersOr (QualifierAt s at x) (Refuses x)
 
--- the answer r of a reader of one qualifier at `at`
-pub record QualifierRead (s : List ℕ) (at : ℕ) (x : Got Qualifiers) (r : Read) : Type 0 where
-  pub is : readOf s r ≡ x
-  pub on : ReadOn at (length s) r
+-- the qualifier at the cursor, which is no delimiter
+abbrev pub qualifierHere : Bool → Quals → Cursor → Got Qualifiers
+qualifierHere inSearch q c = readQualifier inSearch (qualifiersOf q) c (qualifierByte (nextByte c))
 
 -- the parts of `_n,m_` from the comma on, n being read
 unfoldable pub secondColumn : ℕ → Cursor → Got ℕ
@@ -93,24 +84,14 @@ pub record Open (s : List ℕ) (at : ℕ) (q : Quals) (next : ℕ) : Type 0 wher
   pub small : Small q
   pub columned : 0 < q .from → suc at ≤ next
 
-unfoldable pub OpenAt : List ℕ → ℕ → Read → Type 0
-OpenAt s at (Read.Next q next) = Open s at q next
-OpenAt s at (Read.Refused k p) = Unit {0}
+abbrev pub OpenAt : List ℕ → ℕ → Got Qualifiers → Quals → ℕ → Type 0
+OpenAt s at x q next = (x ≡ got (qualifiersOf q) (cursorAt s next)) × Open s at q next
 
--- the answer r of the reader of a string's qualifiers
-pub record QualifiersRead (s : List ℕ) (at : ℕ) (x : Got Qualifiers) (r : Read) : Type 0 where
-  pub is : readOf s r ≡ x
-  pub on : OpenAt s at r
+-- all qualifiers of a string were read
+abbrev pub QualifiersRead : List ℕ → ℕ → Got Qualifiers → Answer → Type 0
+QualifiersRead s at x = QualifiersOr (OpenAt s at x) (Refuses x)
 
 -- ---- strings
-
-unfoldable pub stringOf : List ℕ → OneString → Got Qualified
-stringOf s (OneString.Next q start end next) = got (qualified (qualifiersOf q) (part start end s)) (cursorAt s next)
-stringOf s (OneString.Refused k p) = refused k p
-
-unfoldable pub noString : Read → OneString
-noString (Read.Next q p) = OneString.Refused 0 p
-noString (Read.Refused k p) = OneString.Refused k p
 
 -- no string that can be read is longer than a line
 abbrev pub Short : List ℕ → Type 0
@@ -127,22 +108,11 @@ pub record StringAt (s : List ℕ) (at : ℕ) (q : Quals) (start end next : ℕ)
   pub columned : 0 < q .from → suc (suc at) ≤ start
   pub short : Short s → end ≤ start + 255
 
-unfoldable pub StringOn : List ℕ → ℕ → OneString → Type 0
-StringOn s at (OneString.Next q start end next) = StringAt s at q start end next
-StringOn s at (OneString.Refused k p) = Unit {0}
+abbrev pub QuotedAt : List ℕ → ℕ → Got Qualified → Quals → ℕ → ℕ → ℕ → Type 0
+QuotedAt s at x q start end next = (x ≡ got (qualified (qualifiersOf q) (part start end s)) (cursorAt s next)) × StringAt s at q start end next
 
-pub record Quoted (s : List ℕ) (at : ℕ) (x : Got Qualified) (r : OneString) : Type 0 where
-  pub is : stringOf s r ≡ x
-  pub on : StringOn s at r
-
-unfoldable pub pairOf : List ℕ → TwoStrings → Got Pair
-pairOf s (TwoStrings.Next q start end second secondEnd next) =
-    got (pair (qualified (qualifiersOf q) (part start end s)) (part second secondEnd s)) (cursorAt s next)
-pairOf s (TwoStrings.Refused k p) = refused k p
-
-unfoldable pub noPair : OneString → TwoStrings
-noPair (OneString.Next q start end p) = TwoStrings.Refused 0 p
-noPair (OneString.Refused k p) = TwoStrings.Refused k p
+abbrev pub Quoted : List ℕ → ℕ → Got Qualified → Answer → Type 0
+Quoted s at x = StringOr (QuotedAt s at x) (Refuses x)
 
 -- where the two strings lie
 pub record PairAt (s : List ℕ) (at : ℕ) (q : Quals) (start end second secondEnd next : ℕ) : Type 0 where
@@ -152,10 +122,10 @@ pub record PairAt (s : List ℕ) (at : ℕ) (q : Quals) (start end second second
   pub within : next ≤ length s
   pub short : Short s → secondEnd ≤ second + 255
 
-unfoldable pub PairOn : List ℕ → ℕ → TwoStrings → Type 0
-PairOn s at (TwoStrings.Next q start end second secondEnd next) = PairAt s at q start end second secondEnd next
-PairOn s at (TwoStrings.Refused k p) = Unit {0}
+abbrev pub PairedAt : List ℕ → ℕ → Got Pair → Quals → ℕ → ℕ → ℕ → ℕ → ℕ → Type 0
+PairedAt s at x q start end second secondEnd next =
+    (x ≡ got (pair (qualified (qualifiersOf q) (part start end s)) (part second secondEnd s)) (cursorAt s next))
+    × PairAt s at q start end second secondEnd next
 
-pub record Paired (s : List ℕ) (at : ℕ) (x : Got Pair) (r : TwoStrings) : Type 0 where
-  pub is : pairOf s r ≡ x
-  pub on : PairOn s at r
+abbrev pub Paired : List ℕ → ℕ → Got Pair → Answer → Type 0
+Paired s at x = StringsOr (PairedAt s at x) (Refuses x)

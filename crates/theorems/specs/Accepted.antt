@@ -4,15 +4,16 @@ use mathlib.Core.Bool.{Bool, true, false, cond}
 use mathlib.Core.List.{List}
 use Prim.Native.Nat.{ℕ, _≤_}
 use lib.Dec.{leb}
-use borrow.Author.Tests.{leb-true}
+use borrow.Author.Tests.{leb-true, le-leb}
 use Rattle.definitions.specs.Bytes.{linesOf}
 use Rattle.definitions.specs.Table.{isTable, isScript}
+use Rattle.definitions.specs.Tape.{Tape}
 use Rattle.definitions.specs.Given.{given, bytes}
 use Rattle.definitions.specs.Edit.{step}
 use Rattle.definitions.specs.Control.{Item}
-use Rattle.definitions.specs.Script.{items, refusedAt, readScript}
-use Rattle.definitions.specs.Run.{Answer, refusal, ranItems, openingLength, workLength, ranTable, ranScript, runAnswer}
-use Rattle.theorems.specs.Demand3.{IsAccepted}
+use Rattle.definitions.specs.Script.{Script, items, refusedAt, readScript}
+use Rattle.definitions.specs.Run.{End, end, Answer, refusal, answerOf, ranItems, openingLength, workLength, ranTable, ranScript, runAnswer}
+use Rattle.theorems.specs.Demand3.{IsTableAccepted, IsAccepted}
 
 -- what is not refused is no refusal
 cond-accepted : (t : Bool) (a : Answer) (n at : ℕ) → IsAccepted (cond t a (refusal n at)) → cond t a (refusal n at) ≡ a
@@ -76,3 +77,51 @@ has-room table script budget work size is e h =
     let h₁ : IsAccepted (cond (isTable table) (ranTable table budget size is) (refusal 7 0)) = of-script table script budget work size is e h in
     let h₂ : IsAccepted (ranTable table budget size is) = rw (cond-accepted (isTable table) (ranTable table budget size is) 7 0 h₁) at h₁ in
     leb-true (openingLength (linesOf table)) size (cond-passed (leb (openingLength (linesOf table)) size) (ranItems (step (given (bytes size))) budget is (linesOf table)) 9 0 h₂)
+
+-- the work area is long enough
+has-work : (table script : List ℕ) (budget work size : ℕ) → IsAccepted (runAnswer table script budget work size) → (isScript script ≡ true) × (workLength script ≤ work)
+unfolding runAnswer
+has-work table script budget work size h =
+    let a : Answer = ranScript table budget size (readScript script) in
+    let b : Answer = cond (leb (workLength script) work) a (refusal 8 0) in
+    let e : cond (isScript script) b (refusal 1 0) ≡ b = cond-accepted (isScript script) b 1 0 h in
+    (cond-passed (isScript script) b 1 0 h, leb-true (workLength script) work (cond-passed (leb (workLength script) work) a 8 0 (rw e at h)))
+
+-- ---- what is asked of a run beside its script
+
+-- an accepted table, a work area (8) and a journal buffer (9) that are long enough
+pub record Asked (table script : List ℕ) (work size : ℕ) : Type 0 where
+  pub accepted : IsTableAccepted table
+  pub area : workLength script ≤ work
+  pub room : openingLength (linesOf table) ≤ size
+
+-- an accepted run's table is accepted, and it has room enough
+pub accepted-asks : (table script : List ℕ) (budget work size : ℕ) → IsAccepted (runAnswer table script budget work size) → Asked table script work size
+accepted-asks table script budget work size h = by (readScript script) refl
+  where
+    by : (r : Script) → readScript script ≡ r → Asked table script work size
+    by (refusedAt n at) e = absurd (no-refusal table script budget work size n at e h)
+    by (items is) e = record {
+      accepted = is-table table script budget work size is e h;
+      area = has-work table script budget work size h .1;
+      room = has-room table script budget work size is e h;
+    }
+
+answer-accepted : (x : End) (t : Tape) → IsAccepted (answerOf x t)
+unfolding IsAccepted answerOf
+answer-accepted (end n steps at s) t = tt
+
+asked-script : (table script : List ℕ) (budget work size : ℕ) (is : List Item) → isScript script ≡ true → readScript script ≡ items is → Asked table script work size
+    → IsAccepted (runAnswer table script budget work size)
+unfolding runAnswer ranScript ranTable ranItems
+asked-script table script budget work size is form e a =
+    rw (form, le-leb (workLength script) work (a .area), e, a .accepted, le-leb (openingLength (linesOf table)) size (a .room)) (answer-accepted _ _)
+
+-- nothing more is asked: a script that one run takes is taken with every accepted table
+pub asked-accepted : (table script : List ℕ) (budget work size : ℕ) → IsAccepted (runAnswer table script budget work size)
+    → (table₂ : List ℕ) (budget₂ work₂ size₂ : ℕ) → Asked table₂ script work₂ size₂ → IsAccepted (runAnswer table₂ script budget₂ work₂ size₂)
+asked-accepted table script budget work size h table₂ budget₂ work₂ size₂ a = by (readScript script) refl
+  where
+    by : (r : Script) → readScript script ≡ r → IsAccepted (runAnswer table₂ script budget₂ work₂ size₂)
+    by (refusedAt n at) e = absurd (no-refusal table script budget work size n at e h)
+    by (items is) e = asked-script table₂ script budget₂ work₂ size₂ is (has-work table script budget work size h .0) e a

@@ -1,24 +1,25 @@
 -- Steps and budgets (document 01: "The run stops when its next step would exceed the budget").
 use mathlib.Core.Path.{_≡_, refl, sym, ap, _∙_}
-use mathlib.Core.Bool.{Bool, true, false, cond, not}
+use mathlib.Core.Bool.{Bool, true, false, cond}
+use mathlib.Core.Logic.{inl, inr}
 use mathlib.Core.List.{List, []}
 use Prim.Native.Nat.{ℕ, zero, suc, _+_, _≤_}
 use native.Mathlib.Omega.{arith}
 use native.Mathlib.Nat.{add-zero, add-suc}
-use lib.Dec.{T, eqb, leb}
+use lib.Dec.{leb}
 use Rattle.definitions.specs.Bytes.{Line, linesOf}
 use Rattle.definitions.specs.Table.{isTable, isScript}
 use Rattle.definitions.specs.Tape.{Tape, unread, Reads, bind}
-use Rattle.definitions.specs.Given.{Given, given, bytes, Carried, carried}
-use Rattle.definitions.specs.Editor.{Ed, Stop, n20, n21, n22, n23, n24, n25, n26, n27, n28, stopNumber, edits}
-use Rattle.definitions.specs.Reading.{Ran, gave, stopped, opening}
-use Rattle.definitions.specs.StepProgram.{runs, RunState, state, Did, answers, changes, quits, Out, on, edited, halt, finish, perform}
-use Rattle.definitions.specs.Edit.{Op, program, step}
+use Rattle.definitions.specs.Given.{given, bytes, carried}
+use Rattle.definitions.specs.Editor.{Ed}
+use Rattle.definitions.specs.Reading.{opening}
+use Rattle.definitions.specs.StepProgram.{RunState, state, Out, on, edited, halt}
+use Rattle.definitions.specs.Edit.{Op, step}
 use Rattle.definitions.specs.Control.{Item, Ctl, running, Pull, finished, want, pull}
 use Rattle.definitions.specs.Script.{Script, items, refusedAt, readScript}
 use Rattle.definitions.specs.Run.{End, end, choose, spent, stepped, stepping, run, runItems, Answer, refusal, answerOf, ranItems, openingLength, workLength}
 use Rattle.definitions.specs.Run.{ranTable, ranScript, runAnswer, answerNumber, answerSteps}
-use Rattle.theorems.specs.ComesTo.{within-comes}
+use Rattle.theorems.specs.Numbers.{StepNumber, StepNumbered, step-number}
 use Rattle.theorems.specs.Demand3.{IsAccepted}
 use Rattle.theorems.specs.Accepted.{ran-accepted, no-refusal}
 
@@ -104,47 +105,18 @@ larger-budget table script budget work size (suc k) h =
 
 -- ---- a spent budget
 
--- a step that stops with a number of its own, not with 29
-unfoldable pub NotSpent : Out → Type 0
-NotSpent (on b s) = Unit {0}
-NotSpent (edited s) = Unit {0}
-NotSpent (halt n s) = T (not (eqb n 29))
-
--- no stop of a command is 29
-stop-not-spent : (n : Stop) (s : RunState) → NotSpent (halt (stopNumber n) s)
-unfolding NotSpent stopNumber
-stop-not-spent n20 s = tt
-stop-not-spent n21 s = tt
-stop-not-spent n22 s = tt
-stop-not-spent n23 s = tt
-stop-not-spent n24 s = tt
-stop-not-spent n25 s = tt
-stop-not-spent n26 s = tt
-stop-not-spent n27 s = tt
-stop-not-spent n28 s = tt
-
-finish-not-spent : (g : Given) (c : Carried) (r : Ran Did) (t : Tape) → NotSpent ((finish g c r t) .0)
-unfolding finish
-finish-not-spent g c (gave (answers b) e) t = unfold NotSpent in tt
-finish-not-spent g c (gave (changes xs) e) t =
-    within-comes (λ o t′. NotSpent o) g c e (edits xs e) t (λ x. unfold NotSpent in tt) (stop-not-spent n26 (state e c))
-finish-not-spent g c (gave quits e) t = unfold NotSpent in tt
-finish-not-spent g c (stopped n e) t = stop-not-spent n (state e c)
-
-pub step-not-spent : (g : Given) (op : Op) (s : RunState) (t : Tape) → NotSpent ((step g op s t) .0)
-unfolding step perform bind
-step-not-spent g op (state e c) t = finish-not-spent g c ((runs g c (program op) e t) .0) ((runs g c (program op) e t) .1)
-
 -- at most `total` steps are made, and just as many where the run ends with 29
 abbrev InBudget : ℕ → End → Type 0
 InBudget total x = (endSteps x ≤ total) × (endNumber x ≡ 29 → endSteps x ≡ total)
 
-not-29 : (n : ℕ) → T (not (eqb n 29)) → n ≡ 29 → ⊥
-not-29 n h e = rw e at h
+-- a step's number is not 29
+not-29 : (n : ℕ) → StepNumber n → n ≡ 29 → ⊥
+not-29 n (inl q) e = omega (arith, q, e)
+not-29 n (inr (a, b)) e = omega (arith, b, e)
 
 module _ (size total : ℕ) (go : Ctl → RunState → Reads End) (h : (c : Ctl) (s : RunState) (t : Tape) → InBudget total ((go c s t) .0)) where
-  stepped-in-budget : (steps at : ℕ) (c₁ c₀ : Ctl) (o : Out) (t : Tape) → steps ≤ total → NotSpent o → InBudget total ((stepped go steps at c₁ c₀ o t) .0)
-  unfolding stepped NotSpent endNumber endSteps
+  stepped-in-budget : (steps at : ℕ) (c₁ c₀ : Ctl) (o : Out) (t : Tape) → steps ≤ total → StepNumbered o t → InBudget total ((stepped go steps at c₁ c₀ o t) .0)
+  unfolding stepped endNumber endSteps
   stepped-in-budget steps at c₁ c₀ (on b s) t le x = h (choose b c₁ c₀) s t
   stepped-in-budget steps at c₁ c₀ (edited s) t le x = h c₁ s t
   stepped-in-budget steps at c₁ c₀ (halt n s) t le x = (le, λ q. absurd (not-29 n x q))
@@ -153,7 +125,7 @@ module _ (size total : ℕ) (go : Ctl → RunState → Reads End) (h : (c : Ctl)
   unfolding stepping bind endNumber endSteps
   stepping-in-budget steps s finished t le = (omega (arith, le), λ q. absurd (omega (arith, q)))
   stepping-in-budget steps s (want at op c₁ c₀) t le =
-      stepped-in-budget (suc steps) at c₁ c₀ ((step (given (bytes size)) op s t) .0) ((step (given (bytes size)) op s t) .1) le (step-not-spent (given (bytes size)) op s t)
+      stepped-in-budget (suc steps) at c₁ c₀ ((step (given (bytes size)) op s t) .0) ((step (given (bytes size)) op s t) .1) le (step-number (given (bytes size)) op s t)
 
 spent-in-budget : (total steps : ℕ) → steps ≡ total → (s : RunState) (x : Pull) → InBudget total (spent steps s x)
 unfolding spent endNumber endSteps

@@ -20,7 +20,7 @@ use Rattle.theorems.specs.Lines.{and-both, and-left, and-right, TakenFro
 use Rattle.theorems.specs.GoodItems.{goodTest, goodTarget, goodThrough, goodOption, goodOp, goodOpener, goodItem, placedIn}
 use Rattle.theorems.specs.Nesting.{isBranch, isBare}
 use Rattle.theorems.specs.NestingSteps.{isCommand}
-use Rattle.theorems.specs.ReaderSteps.{Sound, Reached, Reads, gets, refuses, refuses-at, anything, as-far, then, decides, after-byte, past-spaces, past-comment, past-name, number-reads, IsNumber, advanced, quoted-reads}
+use Rattle.theorems.specs.ReaderSteps.{Sound, Reached, ReadsWell, gets, refuses, refuses-at, anything, as-far, then, decides, after-byte, past-spaces, past-comment, past-name, number-reads, IsNumber, advanced, quoted-reads}
 use Rattle.theorems.specs.StringsSteps.{goodPair, two-reads, qualified-reads}
 use Rattle.theorems.specs.SearchSteps.{GoodSearch, search-reads}
 
@@ -29,30 +29,30 @@ use Rattle.theorems.specs.SearchSteps.{GoodSearch, search-reads}
 abbrev GoodTarget : Target → Type 0
 GoodTarget a = goodTarget a ≡ true
 
-number-along : {s : List ℕ} {left : ℕ} (c : Cursor) → Reached s left c → Reads IsNumber s left (number c)
+number-along : {s : List ℕ} {left : ℕ} (c : Cursor) → Reached s left c → ReadsWell IsNumber s left (number c)
 number-along c h = number-reads c (as-far h)
 
-target-reads : {s : List ℕ} {left : ℕ} (c : Cursor) → Reached s left c → Reads GoodTarget s left (target c)
+target-reads : {s : List ℕ} {left : ℕ} (c : Cursor) → Reached s left c → ReadsWell GoodTarget s left (target c)
 unfolding target goodTarget
-target-reads {s} {left} c h = decides (Reads GoodTarget s left) (isNext 46 c) _ _ (λ t. gets (after-byte c h) refl)
-    (λ t. decides (Reads GoodTarget s left) (isNext 42 c) _ _ (λ u. gets (after-byte c h) refl)
+target-reads {s} {left} c h = decides (ReadsWell GoodTarget s left) (isNext 46 c) _ _ (λ t. gets (after-byte c h) refl)
+    (λ t. decides (ReadsWell GoodTarget s left) (isNext 42 c) _ _ (λ u. gets (after-byte c h) refl)
     (λ u. then (number-along c h) (λ a c₁ h₁ e. gets h₁ e)))
 
 abbrev GoodThrough : Through → Type 0
 GoodThrough b = goodThrough b ≡ true
 
-through-reads : {s : List ℕ} {left : ℕ} (c : Cursor) → Reached s left c → Reads GoodThrough s left (through c)
+through-reads : {s : List ℕ} {left : ℕ} (c : Cursor) → Reached s left c → ReadsWell GoodThrough s left (through c)
 unfolding through goodThrough
-through-reads {s} {left} c h = decides (Reads GoodThrough s left) (isNext 42 (skipSpaces c)) _ _ (λ t. gets (after-byte (skipSpaces c) (past-spaces c h)) refl)
-    (λ t. decides (Reads GoodThrough s left) (isDigitNext (skipSpaces c)) _ _
+through-reads {s} {left} c h = decides (ReadsWell GoodThrough s left) (isNext 42 (skipSpaces c)) _ _ (λ t. gets (after-byte (skipSpaces c) (past-spaces c h)) refl)
+    (λ t. decides (ReadsWell GoodThrough s left) (isDigitNext (skipSpaces c)) _ _
     (λ u. then (number-along (skipSpaces c) (past-spaces c h)) (λ b c₁ h₁ e. gets h₁ e)) (λ u. gets h refl))
 
 abbrev GoodSpan : Span → Type 0
 GoodSpan (span a b) = (goodTarget a && goodThrough b) ≡ true
 
-span-reads : {s : List ℕ} {left : ℕ} (c : Cursor) → Reached s left c → Reads GoodSpan s left (lineSpan c)
+span-reads : {s : List ℕ} {left : ℕ} (c : Cursor) → Reached s left c → ReadsWell GoodSpan s left (lineSpan c)
 unfolding lineSpan goodTarget goodThrough
-span-reads {s} {left} c h = decides (Reads GoodSpan s left) (startsTarget false (skipSpaces c)) _ _
+span-reads {s} {left} c h = decides (ReadsWell GoodSpan s left) (startsTarget false (skipSpaces c)) _ _
     (λ t. then (target-reads (skipSpaces c) (past-spaces c h)) (λ a c₁ h₁ e. then (through-reads c₁ h₁) (λ b c₂ h₂ f.
     gets h₂ (and-both (goodTarget a) (goodThrough b) e f))))
     (λ t. gets h refl)
@@ -60,17 +60,17 @@ span-reads {s} {left} c h = decides (Reads GoodSpan s left) (startsTarget false 
 abbrev GoodOption : Option Target → Type 0
 GoodOption a = goodOption a ≡ true
 
-optional-reads : {s : List ℕ} {left : ℕ} (c : Cursor) → Reached s left c → Reads GoodOption s left (optionalTarget c)
+optional-reads : {s : List ℕ} {left : ℕ} (c : Cursor) → Reached s left c → ReadsWell GoodOption s left (optionalTarget c)
 unfolding optionalTarget goodOption
-optional-reads {s} {left} c h = decides (Reads GoodOption s left) (startsTarget true (skipSpaces c)) _ _
+optional-reads {s} {left} c h = decides (ReadsWell GoodOption s left) (startsTarget true (skipSpaces c)) _ _
     (λ t. then (target-reads (skipSpaces c) (past-spaces c h)) (λ a c₁ h₁ e. gets h₁ e)) (λ t. gets h refl)
 
 -- ---- the lines of I and R
 
-end-of-line-reads : {s : List ℕ} {left : ℕ} (c : Cursor) → Reached s left c → Reads anything s left (endOfLine c)
+end-of-line-reads : {s : List ℕ} {left : ℕ} (c : Cursor) → Reached s left c → ReadsWell anything s left (endOfLine c)
 unfolding endOfLine
-end-of-line-reads {s} {left} c h = decides (Reads anything s left) (isNext 10 (skipSpaces c)) _ _ (λ t. gets (after-byte (skipSpaces c) (past-spaces c h)) tt)
-    (λ t. decides (Reads anything s left) (isNext 92 (skipSpaces c)) _ _
+end-of-line-reads {s} {left} c h = decides (ReadsWell anything s left) (isNext 10 (skipSpaces c)) _ _ (λ t. gets (after-byte (skipSpaces c) (past-spaces c h)) tt)
+    (λ t. decides (ReadsWell anything s left) (isNext 92 (skipSpaces c)) _ _
     (λ u. gets (after-byte (skipComment (skipSpaces c)) (past-comment (skipSpaces c) (past-spaces c h))) tt)
     (λ u. refuses-at refl (past-spaces c h)))
 
@@ -78,13 +78,13 @@ abbrev GoodLines : List ℕ → List Line → Type 0
 GoodLines s ls = Sound s (allLines ls)
 
 lines-after-reads : {s : List ℕ} {left : ℕ} (inGroup : Bool) (c : Cursor) (u : UpToZ) → Reached s left c → TakenFrom (bytesFrom c) u
-    → Reads (GoodLines s) s left (linesAfter inGroup c u)
+    → ReadsWell (GoodLines s) s left (linesAfter inGroup c u)
 unfolding linesAfter placeAt bytesLeft bytesFrom
 lines-after-reads inGroup (cursor at bs) (upToZ ls n) h k = gets (advanced n (k .0) h) (λ e. k .1 (h .lines e))
 lines-after-reads true (cursor at bs) noZ h k = refuses {at = at + length bs} refl (omega (arith, h .within))
 lines-after-reads false (cursor at bs) noZ h k = refuses {at = at + length bs} refl (omega (arith, h .within))
 
-script-lines-reads : {s : List ℕ} {left : ℕ} (inGroup : Bool) (c : Cursor) → Reached s left c → Reads (GoodLines s) s left (scriptLines inGroup c)
+script-lines-reads : {s : List ℕ} {left : ℕ} (inGroup : Bool) (c : Cursor) → Reached s left c → ReadsWell (GoodLines s) s left (scriptLines inGroup c)
 unfolding scriptLines
 script-lines-reads inGroup c h = then (end-of-line-reads c h) (λ end c₁ h₁ x.
     lines-after-reads inGroup c₁ (linesUpToZ (linesOf (bytesFrom c₁))) h₁ (taken-from (bytesFrom c₁)))
@@ -191,7 +191,7 @@ unfolding alterOp goodOp goodPair
 alter-good s c pointing (pair q new) g = g
 
 decode-reads : {s : List ℕ} {left : ℕ} (inGroup : Bool) (at : ℕ) (shape : Shape) (c : Cursor) → at < length s → goodShape shape ≡ true → Reached s left c
-    → Reads (DecodedWell s) s left (decode inGroup at shape c)
+    → ReadsWell (DecodedWell s) s left (decode inGroup at shape c)
 unfolding decode goodShape goodOp
 decode-reads i at (plain op) c le g h = gets h (simple-well at op le (λ e. g))
 decode-reads i at leaves c le g h = gets h (leave-well at le)
@@ -213,5 +213,5 @@ decode-reads i at unknown c le g h = refuses {at = at} refl (omega arith)
 
 -- the command with the name packed in `w`
 pub command-reads : {s : List ℕ} {left : ℕ} (inGroup : Bool) (at w : ℕ) (c : Cursor) → at < length s → Reached s left c
-    → Reads (DecodedWell s) s left (decode inGroup at (shapeOf w) c)
+    → ReadsWell (DecodedWell s) s left (decode inGroup at (shapeOf w) c)
 command-reads i at w c le h = decode-reads i at (shapeOf w) c le (shape-good w) h

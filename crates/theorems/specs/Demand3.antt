@@ -1,16 +1,23 @@
 -- Demand 3, as one statement over the whole run. The terms are document 01's: "Tables and the journal", from "In demand 3".
 use mathlib.Core.Path.{_≡_}
+use mathlib.Core.Bool.{true}
 use mathlib.Core.Option.{some}
 use mathlib.Core.List.{List, _++_, map}
 use Prim.Native.Nat.{ℕ, _-_, _≤_}
 use lib.ListN.{length, take, drop, replicate}
 use Rattle.definitions.specs.Bytes.{Line, linesOf, linesBytes}
+use Rattle.definitions.specs.Table.{isTable}
 use Rattle.definitions.specs.Journal.{kept, oldSide, upToLine, afterLine, journalBytes, recordsOf}
 use Rattle.definitions.specs.Run.{Answer, answer, refusal, runAnswer, answerNumber, answerSteps, answerFurthest, answerPlace, answerRecords, bufferAfter}
 
 -- ---- the terms
 
--- "a table, script, budget, work area and journal buffer together" are accepted "if their run is not refused"
+-- "a table is accepted if it is not malformed (7)"
+abbrev pub IsTableAccepted : List ℕ → Type 0
+IsTableAccepted table = isTable table ≡ true
+
+-- "and a table, script, budget, work area and journal buffer together if their run is not refused". The table of an accepted run is accepted; with a script
+-- that one run takes, an accepted table and room enough (8 and 9) are all that is asked (Accepted: `accepted-asks`, `asked-accepted`).
 unfoldable pub IsAccepted : Answer → Type 0
 IsAccepted (answer number steps furthest place records) = Unit {0}
 IsAccepted (refusal number place) = ⊥

@@ -267,17 +267,17 @@ agrees lost (seeking at s se k rest frames) h = record { same = refl; fits = (h,
 -- ---- runs
 
 -- where a run of items can come to, whatever each step answers
-pub data Comes (all : List Item) : Ctl → Type 0 where
-  begins : Comes all (running all [])
-  on-true : {c c₁ c₀ : Ctl} {at : ℕ} {op : Op} → Comes all c → pull c ≡ want at op c₁ c₀ → Comes all c₁
-  on-false : {c c₁ c₀ : Ctl} {at : ℕ} {op : Op} → Comes all c → pull c ≡ want at op c₁ c₀ → Comes all c₀
+pub data RunsTo (all : List Item) : Ctl → Type 0 where
+  begins : RunsTo all (running all [])
+  on-true : {c c₁ c₀ : Ctl} {at : ℕ} {op : Op} → RunsTo all c → pull c ≡ want at op c₁ c₀ → RunsTo all c₁
+  on-false : {c c₁ c₀ : Ctl} {at : ℕ} {op : Op} → RunsTo all c → pull c ≡ want at op c₁ c₀ → RunsTo all c₀
 
-pub runs-fit : (all : List Item) (c : Ctl) → nested all ≡ true → Comes all c → Fits c
+pub runs-fit : (all : List Item) (c : Ctl) → nested all ≡ true → RunsTo all c → Fits c
 unfolding Fits FramesFit PullFits nested
 runs-fit all c h begins = (record { bodies = []; goes-on = h; count = refl }, tt)
 runs-fit all c h (on-true {c = b} w e) = subst PullFits e (agrees finished b (runs-fit all b h w) .fits) .0
 runs-fit all c h (on-false {c = b} w e) = subst PullFits e (agrees finished b (runs-fit all b h w) .fits) .1
 
 -- in no run of an accepted script is a frame or a close missing
-pub frames-suffice : (s : List ℕ) (all : List Item) (c : Ctl) → readScript s ≡ items all → Comes all c → (lost : Pull) → pullOr lost c ≡ pull c
+pub frames-suffice : (s : List ℕ) (all : List Item) (c : Ctl) → readScript s ≡ items all → RunsTo all c → (lost : Pull) → pullOr lost c ≡ pull c
 frames-suffice s all c e w lost = agrees lost c (runs-fit all c (well-nested s all e) w) .same

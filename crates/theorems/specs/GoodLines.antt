@@ -1,10 +1,11 @@
--- Changes of a line keep it text, and changes of a record keep it good.
+-- Changes of a line keep it text, changes of a record keep it good; a spliced line's length.
 use mathlib.Core.Path.{_≡_, refl}
 use mathlib.Core.Bool.{Bool, true, false, cond, and-eq-true-iff}
 use mathlib.Core.List.{[], _∷_, _++_}
 use Prim.Native.Nat.{ℕ, _+_, _-_, _≤_, _<_}
 use native.Mathlib.Omega.{arith}
-use lib.ListN.{length, getD, take, drop}
+use lib.ListN.{length, getD, take, drop, length-append, length-drop}
+use lib.Seq.{length-take-le}
 use lib.Dec.{leb}
 use borrow.Author.Tests.{leb-true}
 use Rattle.definitions.specs.Bytes.{Line, isText, isCapital, isSmall, upper, lower, eqLine, allText}
@@ -68,16 +69,23 @@ splice-text l i n new h k =
     (each-append IsText (take i l) (new ++ drop (i + n) l) (each-take IsText i l (text-each l h))
     (each-append IsText new (drop (i + n) l) (text-each new k) (each-drop IsText (i + n) l (text-each l h))))
 
+pub splice-length : (l : Line) (i n : ℕ) (new : Line) → i + n ≤ length l → length (splice l i n new) ≡ (length l - n) + length new
+unfolding splice
+splice-length l i n new h = simp (length-append, length-drop) (omega (arith, length-take-le i l (omega arith)))
+
 pub altered-text : (c : Change) (l : Line) (i n : ℕ) (new : Line) → allText l ≡ true → allText new ≡ true → allText (altered c l i n new) ≡ true
 unfolding altered
 altered-text afterIt l i n new h k = splice-text l (i + n) 0 new h k
 altered-text beforeIt l i n new h k = splice-text l i 0 new h k
 altered-text exchange l i n new h k = splice-text l i n new h k
 
+-- a byte of a line in the other case, as a text of its own
+pub cased-byte : (up : Bool) (l : Line) (p : ℕ) → p < length l → allText l ≡ true → allText (cased up (getD l p 0) ∷ []) ≡ true
+cased-byte up l p m h = each-text (cased up (getD l p 0) ∷ []) (cased-text up (getD l p 0) (each-getD IsText l p 0 m (text-each l h)), tt)
+
 pub recased-text : (up : Bool) (l : Line) (p : ℕ) → p < length l → allText l ≡ true → allText (recased up l p) ≡ true
 unfolding recased
-recased-text up l p m h =
-    splice-text l p 1 (cased up (getD l p 0) ∷ []) h (each-text (cased up (getD l p 0) ∷ []) (cased-text up (getD l p 0) (each-getD IsText l p 0 m (text-each l h)), tt))
+recased-text up l p m h = splice-text l p 1 (cased up (getD l p 0) ∷ []) h (cased-byte up l p m h)
 
 -- ---- records
 

@@ -1,6 +1,7 @@
 pub mod Each
 pub mod RecordLaws
 pub mod Lines
+pub mod Places
 pub mod JournalBytes
 pub mod Programs
 pub mod ReadLines
@@ -15,7 +16,6 @@ pub mod Accepted
 pub mod Answers
 pub mod Fits
 pub mod Demand3Items
-pub mod Budget
 pub mod Changes
 pub mod GoodItems
 pub mod GoodLines
@@ -31,11 +31,14 @@ pub mod CommandSteps
 pub mod ItemLaws
 pub mod ScriptSteps
 pub mod ReadScript
+pub mod Numbers
+pub mod Budget
 pub mod Frames
 pub mod NestingExamples
 pub mod GoodScripts
 pub mod RunReadsBack
 pub mod Demand3Proof
+pub mod Demand3Values
 pub mod Beyond
 pub mod Demand3Limits
 pub mod Demand3Example

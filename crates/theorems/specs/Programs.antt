@@ -1,6 +1,6 @@
 -- One program after another: what the whole comes to is what the parts come to. So a function of the code that does a part of a step can promise that
 -- part, and a step is put together from such promises.
-use mathlib.Core.Path.{_≡_, refl, ap, _∙_}
+use mathlib.Core.Path.{_≡_, refl, sym, ap, _∙_}
 use mathlib.Core.Bool.{Bool, true, false, true≢false}
 use mathlib.Core.Option.{Option, none, some}
 use mathlib.Core.List.{List, [], _∷_}
@@ -50,6 +50,22 @@ module _ {A B : Type 0} (g : Given) (c : Carried) (k : A → Program B) where
   pub runs-stop : (m : Program A) (e : Ed) (t : Tape) {n : Stop} {e′ : Ed} {t′ : Tape} → runs g c m e t ≡ (stopped n e′, t′) → runs g c (_>>=_ m k) e t ≡ (stopped n e′, t′)
   unfolding bind thenRuns
   runs-stop m e t q = runs-then m e t ∙ ap (λ (x : Ran A × Tape). thenRuns (x .0) (x .1)) q
+
+-- ---- three programs, one after another
+
+module _ {A B C : Type 0} (g : Given) (c : Carried) (f : A → Program B) (h : B → Program C) where
+  then-then : (y : Ran A × Tape) → let x = thenRuns g c f (y .0) (y .1) in
+      thenRuns g c h (x .0) (x .1) ≡ thenRuns g c (λ a. _>>=_ (f a) h) (y .0) (y .1)
+  unfolding thenRuns bind
+  then-then (gave a e, t) = sym (runs-then g c h (f a) e t)
+  then-then (stopped n e, t) = refl
+
+  -- it does not matter which two are put together first
+  pub runs-assoc : (m : Program A) (e : Ed) (t : Tape) → runs g c (_>>=_ (_>>=_ m f) h) e t ≡ runs g c (_>>=_ m (λ a. _>>=_ (f a) h)) e t
+  unfolding bind
+  runs-assoc m e t =
+      runs-then g c h (_>>=_ m f) e t ∙ ap (λ (x : Ran B × Tape). thenRuns g c h (x .0) (x .1)) (runs-then g c f m e t)
+      ∙ then-then (runs g c m e t) ∙ sym (runs-then g c (λ a. _>>=_ (f a) h) m e t)
 
 -- ---- one law for each test
 

@@ -32,9 +32,9 @@ abbrev pub isRefusal : ℕ → Bool
 isRefusal n = leb 2 n && leb n 6
 
 -- what comes of reading a thing: the thing, of which P holds, and a cursor with fewer than `left` bytes left; or a refusal, at a place of the script
-pub data Reads {A : Type 0} (P : A → Type 0) (s : List ℕ) (left : ℕ) : Got A → Type 0 where
-  gets : {a : A} {c : Cursor} → Reached s left c → P a → Reads P s left (got a c)
-  refuses : {n at : ℕ} → isRefusal n ≡ true → at ≤ length s → Reads P s left (refused n at)
+pub data ReadsWell {A : Type 0} (P : A → Type 0) (s : List ℕ) (left : ℕ) : Got A → Type 0 where
+  gets : {a : A} {c : Cursor} → Reached s left c → P a → ReadsWell P s left (got a c)
+  refuses : {n at : ℕ} → isRefusal n ≡ true → at ≤ length s → ReadsWell P s left (refused n at)
 
 abbrev pub anything : {A : Type 0} → A → Type 0
 anything a = Unit {0}
@@ -46,7 +46,7 @@ place-short h = omega (arith, h .within)
 
 -- a refusal at the cursor
 pub refuses-at : {A : Type 0} {P : A → Type 0} {s : List ℕ} {left l : ℕ} {c : Cursor} {n : ℕ} → isRefusal n ≡ true → Reached s l c
-    → Reads P s left (refused n (placeAt c))
+    → ReadsWell P s left (refused n (placeAt c))
 refuses-at e h = refuses e (place-short h)
 
 pub weaken : {s : List ℕ} {left left′ : ℕ} {c : Cursor} → left ≤ left′ → Reached s left c → Reached s left′ c
@@ -57,18 +57,18 @@ pub as-far : {s : List ℕ} {left : ℕ} {c : Cursor} → Reached s left c → R
 as-far h = weaken (omega arith) h
 
 -- an answer goes on, a refusal is passed upward
-pub continues : {A B : Type 0} {P : A → Type 0} {Q : B → Type 0} {s : List ℕ} {l left : ℕ} {r : Got A} (f : A → Cursor → Got B) → Reads P s l r
-    → ((a : A) (c : Cursor) → Reached s l c → P a → Reads Q s left (f a c)) → Reads Q s left (elim r [ got a c ↦ f a c | refused n at ↦ refused n at ])
+pub continues : {A B : Type 0} {P : A → Type 0} {Q : B → Type 0} {s : List ℕ} {l left : ℕ} {r : Got A} (f : A → Cursor → Got B) → ReadsWell P s l r
+    → ((a : A) (c : Cursor) → Reached s l c → P a → ReadsWell Q s left (f a c)) → ReadsWell Q s left (elim r [ got a c ↦ f a c | refused n at ↦ refused n at ])
 continues f (gets {a = a} {c = c} h p) on = on a c h p
 continues f (refuses e le) on = refuses e le
 
-pub then : {A B : Type 0} {P : A → Type 0} {Q : B → Type 0} {s : List ℕ} {l left : ℕ} {r : Got A} {f : A → Cursor → Got B} → Reads P s l r
-    → ((a : A) (c : Cursor) → Reached s l c → P a → Reads Q s left (f a c)) → Reads Q s left (andThen r f)
+pub then : {A B : Type 0} {P : A → Type 0} {Q : B → Type 0} {s : List ℕ} {l left : ℕ} {r : Got A} {f : A → Cursor → Got B} → ReadsWell P s l r
+    → ((a : A) (c : Cursor) → Reached s l c → P a → ReadsWell Q s left (f a c)) → ReadsWell Q s left (andThen r f)
 unfolding andThen
 then (gets {a = a} {c = c} h p) on = on a c h p
 then (refuses e le) on = refuses e le
 
-pub widen : {A : Type 0} {P : A → Type 0} {s : List ℕ} {left left′ : ℕ} {r : Got A} → left ≤ left′ → Reads P s left r → Reads P s left′ r
+pub widen : {A : Type 0} {P : A → Type 0} {s : List ℕ} {left left′ : ℕ} {r : Got A} → left ≤ left′ → ReadsWell P s left r → ReadsWell P s left′ r
 widen le (gets h p) = gets (weaken le h) p
 widen le (refuses e at) = refuses e at
 
@@ -98,9 +98,9 @@ unfolding afterByte
 after-byte (cursor at []) h = h
 after-byte (cursor at (b ∷ bs)) h = along-at h
 
-pub expect-reads : {s : List ℕ} {left : ℕ} (b : ℕ) (c : Cursor) → eqb b 0 ≡ false → Reached s (suc left) c → Reads anything s left (expect b c)
+pub expect-reads : {s : List ℕ} {left : ℕ} (b : ℕ) (c : Cursor) → eqb b 0 ≡ false → Reached s (suc left) c → ReadsWell anything s left (expect b c)
 unfolding expect isNext
-expect-reads b c e h = decides (Reads anything _ _) (eqb b (nextByte c)) _ _ (λ t. gets (past-byte (eqb b) c e t h) tt) (λ t. refuses-at refl h)
+expect-reads b c e h = decides (ReadsWell anything _ _) (eqb b (nextByte c)) _ _ (λ t. gets (past-byte (eqb b) c e t h) tt) (λ t. refuses-at refl h)
 
 -- ---- spaces and comments
 
@@ -187,13 +187,13 @@ digits-read {s} {left} (cursor at (b ∷ bs)) e h = go (isDigit b) e
 abbrev pub IsNumber : ℕ → Type 0
 IsNumber n = isNumber n ≡ true
 
-range-reads : {s : List ℕ} {left at : ℕ} (w : Token) → at ≤ length s → Reached s left (afterToken w) → Reads IsNumber s left (inRange at w)
+range-reads : {s : List ℕ} {left at : ℕ} (w : Token) → at ≤ length s → Reached s left (afterToken w) → ReadsWell IsNumber s left (inRange at w)
 unfolding inRange afterToken
-range-reads (token n c) le h = decides (Reads IsNumber _ _) (leb 1 n && leb n 65535) _ _ (λ t. gets h t) (λ t. refuses refl le)
+range-reads (token n c) le h = decides (ReadsWell IsNumber _ _) (leb 1 n && leb n 65535) _ _ (λ t. gets h t) (λ t. refuses refl le)
 
-pub number-reads : {s : List ℕ} {left : ℕ} (c : Cursor) → Reached s (suc left) c → Reads IsNumber s left (number c)
+pub number-reads : {s : List ℕ} {left : ℕ} (c : Cursor) → Reached s (suc left) c → ReadsWell IsNumber s left (number c)
 unfolding number isDigitNext
-number-reads c h = decides (Reads IsNumber _ _) (isDigit (nextByte c)) _ _
+number-reads c h = decides (ReadsWell IsNumber _ _) (isDigit (nextByte c)) _ _
     (λ t. range-reads (digits c) (place-short h) (digits-read c t h)) (λ t. refuses-at refl h)
 
 letters-at : {s : List ℕ} {left : ℕ} (k n at : ℕ) (bs : List ℕ) → Reached s left (cursor at bs) → Reached s left (afterToken (lettersAt k n at bs))
@@ -246,8 +246,8 @@ pub string-sound : {s : List ℕ} {left : ℕ} (d : ℕ) (c : Cursor) → Reache
 unfolding stringNext bytesFrom
 string-sound d (cursor at bs) h e = string-line d bs (h .lines e)
 
-pub quoted-reads : {s : List ℕ} {left : ℕ} (c : Cursor) → Reached s left c → Reads (λ l. Sound s (isLine l)) s left (quoted c)
+pub quoted-reads : {s : List ℕ} {left : ℕ} (c : Cursor) → Reached s left c → ReadsWell (λ l. Sound s (isLine l)) s left (quoted c)
 unfolding quoted
-quoted-reads {s} {left} c h = decides (Reads (λ l. Sound s (isLine l)) s left) (isDelimiter (nextByte c)) _ _
+quoted-reads {s} {left} c h = decides (ReadsWell (λ l. Sound s (isLine l)) s left) (isDelimiter (nextByte c)) _ _
     (λ t. gets (past-string (nextByte c) (afterByte c) (after-byte c h)) (string-sound (nextByte c) (afterByte c) (after-byte c h)))
     (λ t. refuses-at refl h)

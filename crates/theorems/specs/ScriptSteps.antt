@@ -18,7 +18,7 @@ use Rattle.theorems.specs.Lines.{script-lines}
 use Rattle.theorems.specs.GoodItems.{goodOpener, goodItem, placedIn, allItems}
 use Rattle.theorems.specs.ItemLaws.{good-marks, placed-marks, bare-good, cons-all, reverse-all, closes-all, group-all, else-all, line-all, closes-length}
 use Rattle.theorems.specs.Nesting.{isBranch, isBare, nested}
-use Rattle.theorems.specs.ReaderSteps.{Sound, Reached, Reads, gets, refuses, isRefusal, place-short, decides, next-at, after-byte, past-spaces, comment-read, digits-read, past-name, name-read}
+use Rattle.theorems.specs.ReaderSteps.{Sound, Reached, ReadsWell, gets, refuses, isRefusal, place-short, decides, next-at, after-byte, past-spaces, comment-read, digits-read, past-name, name-read}
 use Rattle.theorems.specs.NestingSteps.{Nests, start-nests, end-nests, command-nests, opener-nests, group-nests, else-nests, close-nests, line-nests}
 use Rattle.theorems.specs.CommandSteps.{DecodedWell, a-command, an-opener, command-reads}
 
@@ -63,7 +63,7 @@ ends-at e h = ends (rejected e (place-short h))
 
 -- ---- commands and prefixes
 
-decoded-goes : {s : List ℕ} {left : ℕ} {d : Due} {groups : List Group} {acc : List Item} {r : Got Decoded} → Reads (DecodedWell s) s left r
+decoded-goes : {s : List ℕ} {left : ℕ} {d : Due} {groups : List Group} {acc : List Item} {r : Got Decoded} → ReadsWell (DecodedWell s) s left r
     → Well s (suc left) d groups acc → Goes s left (decoded d groups acc r)
 unfolding decoded bodies
 decoded-goes {s} {d = d} {acc = acc} (gets h (a-command {i = i} k p g)) w = goes-on h (record {
@@ -95,7 +95,7 @@ count-goes : {s : List ℕ} {left : ℕ} {d : Due} {groups : List Group} {acc : 
     → Well s (suc left) d groups acc → Goes s left (countRead d groups acc at w)
 unfolding countRead afterToken
 count-goes {s} {left} at (token n c) lt h w = decoded-goes
-    (decides (Reads (DecodedWell s) s left) (leb n 65535) _ _ (λ t. gets h (times-well s at n lt t)) (λ t. refuses {at = at} refl (omega arith))) w
+    (decides (ReadsWell (DecodedWell s) s left) (leb n 65535) _ _ (λ t. gets h (times-well s at n lt t)) (λ t. refuses {at = at} refl (omega arith))) w
 
 -- ---- brackets
 

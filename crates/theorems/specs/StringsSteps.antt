@@ -13,7 +13,7 @@ use Rattle.definitions.specs.Reader.{Cursor, got, refused, bytesLeft, nextByte,
 use Rattle.definitions.specs.Strings.{noQualifiers, isAnchored, clashesWithL, unless, addAnchor, addCount, addL, addN, addW, addU, addS, setColumns, hasColumns, wantsBytes, QualifierByte, byteB, byteE, byteP, byteL, byteN, byteW, byteU, byteS, byteDigit, byteColumns, byteOther, letterOf, qualifierByte, added, readCount, readColumns, readQualifier, readQualifiers, isEmpty, readString, startQualifiers, qualifiedString, Pair, pair, secondString, twoStrings}
 use Rattle.theorems.specs.Lines.{and-left, and-right, and-both}
 use Rattle.theorems.specs.GoodItems.{isNumber, goodColumns, goodQualifiers, goodQualified}
-use Rattle.theorems.specs.ReaderSteps.{Sound, Reached, Reads, gets, refuses, refuses-at, place-short, as-far, continues, then, widen, decides, past-byte, after-byte, past-spaces, expect-reads, number-reads, IsNumber, past-string, string-sound}
+use Rattle.theorems.specs.ReaderSteps.{Sound, Reached, ReadsWell, gets, refuses, refuses-at, place-short, as-far, continues, then, widen, decides, past-byte, after-byte, past-spaces, expect-reads, number-reads, IsNumber, past-string, string-sound}
 
 -- ---- one qualifier
 
@@ -21,39 +21,39 @@ abbrev pub GoodQualifiers : Qualifiers → Type 0
 GoodQualifiers q = goodQualifiers q ≡ true
 
 added-reads : {s : List ℕ} {left at : ℕ} {c : Cursor} (t : Bool) (q : Qualifiers) → at ≤ length s → Reached s left c → GoodQualifiers q
-    → Reads GoodQualifiers s left (added at (unless t q) c)
+    → ReadsWell GoodQualifiers s left (added at (unless t q) c)
 unfolding added unless
 added-reads true q le h g = refuses refl le
 added-reads false q le h g = gets h g
 
 -- each of these has q's count and columns
 anchor-reads : {s : List ℕ} {left at : ℕ} {c : Cursor} (a : Anchor) (q : Qualifiers) → at ≤ length s → Reached s left c → GoodQualifiers q
-    → Reads GoodQualifiers s left (added at (addAnchor a q) c)
+    → ReadsWell GoodQualifiers s left (added at (addAnchor a q) c)
 unfolding addAnchor goodQualifiers
 anchor-reads a (qualifiers b k l n w u v c) le h g = added-reads (isAnchored b || not (eqb k 0) || (l && clashesWithL a)) _ le h g
 
 module _ {s : List ℕ} {left at : ℕ} {c : Cursor} (le : at ≤ length s) (h : Reached s left c) where
-  l-reads : (q : Qualifiers) → GoodQualifiers q → Reads GoodQualifiers s left (added at (addL q) c)
+  l-reads : (q : Qualifiers) → GoodQualifiers q → ReadsWell GoodQualifiers s left (added at (addL q) c)
   unfolding addL goodQualifiers
   l-reads (qualifiers a k l n w u v d) g = added-reads (l || clashesWithL a) _ le h g
 
-  n-reads : (inSearch : Bool) (q : Qualifiers) → GoodQualifiers q → Reads GoodQualifiers s left (added at (addN inSearch q) c)
+  n-reads : (inSearch : Bool) (q : Qualifiers) → GoodQualifiers q → ReadsWell GoodQualifiers s left (added at (addN inSearch q) c)
   unfolding addN goodQualifiers
   n-reads inSearch (qualifiers a k l n w u v d) g = added-reads (n || not inSearch) _ le h g
 
-  w-reads : (q : Qualifiers) → GoodQualifiers q → Reads GoodQualifiers s left (added at (addW q) c)
+  w-reads : (q : Qualifiers) → GoodQualifiers q → ReadsWell GoodQualifiers s left (added at (addW q) c)
   unfolding addW goodQualifiers
   w-reads (qualifiers a k l n w u v d) g = added-reads w _ le h g
 
-  u-reads : (q : Qualifiers) → GoodQualifiers q → Reads GoodQualifiers s left (added at (addU q) c)
+  u-reads : (q : Qualifiers) → GoodQualifiers q → ReadsWell GoodQualifiers s left (added at (addU q) c)
   unfolding addU goodQualifiers
   u-reads (qualifiers a k l n w u v d) g = added-reads u _ le h g
 
-  s-reads : (q : Qualifiers) → GoodQualifiers q → Reads GoodQualifiers s left (added at (addS q) c)
+  s-reads : (q : Qualifiers) → GoodQualifiers q → ReadsWell GoodQualifiers s left (added at (addS q) c)
   unfolding addS goodQualifiers
   s-reads (qualifiers a k l n w u v d) g = added-reads v _ le h g
 
-  counted-reads : (i : ℕ) (q : Qualifiers) → IsNumber i → GoodQualifiers q → Reads GoodQualifiers s left (added at (addCount i q) c)
+  counted-reads : (i : ℕ) (q : Qualifiers) → IsNumber i → GoodQualifiers q → ReadsWell GoodQualifiers s left (added at (addCount i q) c)
   unfolding addCount goodQualifiers
   counted-reads i (qualifiers a k l n w u v d) e g = added-reads (isAnchored a || not (eqb k 0)) _ le h
       (and-both (leb i 65535) (goodColumns d) (and-right (leb 1 i) (leb i 65535) e) (and-right (leb k 65535) (goodColumns d) g))
@@ -63,17 +63,17 @@ unfolding setColumns goodQualifiers goodColumns
 columns-good i j (qualifiers a k l n w u v d) e f t g = and-both (leb k 65535) (isNumber i && isNumber j && leb i j)
     (and-left (leb k 65535) (goodColumns d) g) (and-both (isNumber i && isNumber j) (leb i j) (and-both (isNumber i) (isNumber j) e f) t)
 
-count-reads : {s : List ℕ} {left : ℕ} (q : Qualifiers) (c : Cursor) → GoodQualifiers q → Reached s (suc left) c → Reads GoodQualifiers s left (readCount q c)
+count-reads : {s : List ℕ} {left : ℕ} (q : Qualifiers) (c : Cursor) → GoodQualifiers q → Reached s (suc left) c → ReadsWell GoodQualifiers s left (readCount q c)
 unfolding readCount
 count-reads q c g h = then (number-reads c h) (λ k c₁ h₁ e. counted-reads (place-short h) h₁ k q e g)
 
-columns-reads : {s : List ℕ} {left : ℕ} (q : Qualifiers) (c : Cursor) → GoodQualifiers q → Reached s left c → Reads GoodQualifiers s left (readColumns q c)
+columns-reads : {s : List ℕ} {left : ℕ} (q : Qualifiers) (c : Cursor) → GoodQualifiers q → Reached s left c → ReadsWell GoodQualifiers s left (readColumns q c)
 unfolding readColumns
 columns-reads {s} {left} q c g h =
     then (number-reads (skipSpaces c) (as-far (past-spaces c h))) (λ n c₁ h₁ e.
     then (expect-reads 44 (skipSpaces c₁) refl (as-far (past-spaces c₁ h₁))) (λ comma c₂ h₂ x.
     then (number-reads (skipSpaces c₂) (as-far (past-spaces c₂ h₂))) (λ m c₃ h₃ f.
-    decides (Reads GoodQualifiers s left) (leb n m) _ _
+    decides (ReadsWell GoodQualifiers s left) (leb n m) _ _
     (λ t. then (expect-reads 95 (skipSpaces c₃) refl (as-far (past-spaces c₃ h₃))) (λ end c₄ h₄ y. gets h₄ (columns-good n m q e f t g)))
     (λ t. refuses-at refl (past-spaces c₂ h₂)))))
 
@@ -97,7 +97,7 @@ unfolding qualifierByte letterOf isDigit upper isSmall
 past-qualifier c k e t h = past-byte (λ b. begins (qualifierByte b)) c refl (ap begins e ∙ t) h
 
 qualifier-reads : {s : List ℕ} {left : ℕ} (inSearch : Bool) (q : Qualifiers) (c : Cursor) (k : QualifierByte) → qualifierByte (nextByte c) ≡ k
-    → GoodQualifiers q → Reached s (suc left) c → Reads GoodQualifiers s left (readQualifier inSearch q c k)
+    → GoodQualifiers q → Reached s (suc left) c → ReadsWell GoodQualifiers s left (readQualifier inSearch q c k)
 unfolding readQualifier
 qualifier-reads i q c byteB e g h = anchor-reads atStart q (place-short h) (past-qualifier c byteB e refl h) g
 qualifier-reads i q c byteE e g h = anchor-reads atEnd q (place-short h) (past-qualifier c byteE e refl h) g
@@ -108,21 +108,21 @@ qualifier-reads i q c byteW e g h = w-reads (place-short h) (past-qualifier c by
 qualifier-reads i q c byteU e g h = u-reads (place-short h) (past-qualifier c byteU e refl h) q g
 qualifier-reads i q c byteS e g h = s-reads (place-short h) (past-qualifier c byteS e refl h) q g
 qualifier-reads i q c byteDigit e g h = count-reads q c g h
-qualifier-reads {s} {left} i q c byteColumns e g h = decides (Reads GoodQualifiers s left) (hasColumns q) _ _
+qualifier-reads {s} {left} i q c byteColumns e g h = decides (ReadsWell GoodQualifiers s left) (hasColumns q) _ _
     (λ t. refuses-at refl h) (λ t. columns-reads q (afterByte c) g (past-qualifier c byteColumns e refl h))
 qualifier-reads i q c byteOther e g h = refuses-at refl h
 
 -- ---- qualifiers: more rounds than bytes are left
 
 qualifiers-reads : {s : List ℕ} (rounds : ℕ) (inSearch : Bool) (q : Qualifiers) (c : Cursor) → GoodQualifiers q → Reached s rounds c
-    → Reads GoodQualifiers s rounds (readQualifiers rounds inSearch q c)
+    → ReadsWell GoodQualifiers s rounds (readQualifiers rounds inSearch q c)
 unfolding readQualifiers
 qualifiers-reads zero i q c g h = absurd (not-suc-le-zero (h .fewer))
 qualifiers-reads {s} (suc rounds) i q c g h = go (isDelimiter (nextByte c)) (λ q′ c′ h′ g′. qualifiers-reads rounds i q′ (skipSpaces c′) g′ (past-spaces c′ h′))
   where
     go : (t : Bool) → ((q′ : Qualifiers) (c′ : Cursor) → Reached s rounds c′ → GoodQualifiers q′
-        → Reads GoodQualifiers s rounds (readQualifiers rounds i q′ (skipSpaces c′)))
-        → Reads GoodQualifiers s (suc rounds) (elim t [
+        → ReadsWell GoodQualifiers s rounds (readQualifiers rounds i q′ (skipSpaces c′)))
+        → ReadsWell GoodQualifiers s (suc rounds) (elim t [
           | true ↦ got q c
           | false ↦ elim (readQualifier i q c (qualifierByte (nextByte c))) [
             | got q′ c′ ↦ readQualifiers rounds i q′ (skipSpaces c′)
@@ -137,7 +137,7 @@ none-good : GoodQualifiers noQualifiers
 unfolding noQualifiers goodQualifiers goodColumns
 none-good = refl
 
-pub start-reads : {s : List ℕ} {left : ℕ} (inSearch : Bool) (c : Cursor) → Reached s left c → Reads GoodQualifiers s left (startQualifiers inSearch c)
+pub start-reads : {s : List ℕ} {left : ℕ} (inSearch : Bool) (c : Cursor) → Reached s left c → ReadsWell GoodQualifiers s left (startQualifiers inSearch c)
 unfolding startQualifiers
 start-reads i c h = widen (h .fewer) (qualifiers-reads (suc (bytesLeft c)) i noQualifiers (skipSpaces c) none-good
     (past-spaces c (record { within = h .within; fewer = omega arith; lines = h .lines })))
@@ -145,23 +145,23 @@ start-reads i c h = widen (h .fewer) (qualifiers-reads (suc (bytesLeft c)) i noQ
 -- ---- qualified strings
 
 pub string-reads : {s : List ℕ} {left : ℕ} (q : Qualifiers) (c : Cursor) → GoodQualifiers q → Reached s left c
-    → Reads (λ x. Sound s (goodQualified x)) s left (readString q c)
+    → ReadsWell (λ x. Sound s (goodQualified x)) s left (readString q c)
 unfolding readString goodQualified
 string-reads {s} {left} q c g h =
-    decides (Reads (λ x. Sound s (goodQualified x)) s left) (isEmpty (stringNext (nextByte c) (afterByte c)) && wantsBytes q) _ _
+    decides (ReadsWell (λ x. Sound s (goodQualified x)) s left) (isEmpty (stringNext (nextByte c) (afterByte c)) && wantsBytes q) _ _
     (λ t. refuses-at refl h)
     (λ t. gets (past-string (nextByte c) (afterByte c) (after-byte c h))
     (λ e. and-both (goodQualifiers q) (isLine (stringNext (nextByte c) (afterByte c))) g (string-sound (nextByte c) (afterByte c) (after-byte c h) e)))
 
 pub qualified-reads : {s : List ℕ} {left : ℕ} (inSearch : Bool) (c : Cursor) → Reached s left c
-    → Reads (λ x. Sound s (goodQualified x)) s left (qualifiedString inSearch c)
+    → ReadsWell (λ x. Sound s (goodQualified x)) s left (qualifiedString inSearch c)
 unfolding qualifiedString
 qualified-reads i c h = then (start-reads i c h) (λ q c₁ h₁ g. string-reads q c₁ g h₁)
 
 unfoldable pub goodPair : Pair → Bool
 goodPair (pair q l) = goodQualified q && isLine l
 
-pub two-reads : {s : List ℕ} {left : ℕ} (c : Cursor) → Reached s left c → Reads (λ x. Sound s (goodPair x)) s left (twoStrings c)
+pub two-reads : {s : List ℕ} {left : ℕ} (c : Cursor) → Reached s left c → ReadsWell (λ x. Sound s (goodPair x)) s left (twoStrings c)
 unfolding twoStrings secondString goodPair
 two-reads c h = then (start-reads false c h) (λ q c₁ h₁ g. then (string-reads q c₁ g h₁) (λ x c₂ h₂ k.
     gets (past-string (nextByte c₁) c₂ h₂) (λ e. and-both (goodQualified x) (isLine (stringNext (nextByte c₁) c₂)) (k e) (string-sound (nextByte c₁) c₂ h₂ e))))

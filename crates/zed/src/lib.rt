@@ -21,11 +21,12 @@ pub extern "C" fn zed_run(
     ensures journal { λ _. ⌜ now (journal .exit) ≡ bufferAfter (now (journal .entry)) (runOf (now (table .entry)) (now (script .entry)) budget (now (work .entry)) (now (journal .entry))) ⌝ }
 {
     let a = run::run(table, script, budget, work, journal);
-    let number = run::values::number(a) as u64;
-    let steps = run::values::steps(a) as u64;
-    let furthest = run::values::furthest(a) as u64;
-    let length = run::values::length(a) as u64;
-    let place = run::values::place(a) as u64;
+    let v = run::values::of(a);
+    let number = v.number as u64;
+    let steps = v.steps as u64;
+    let furthest = v.furthest as u64;
+    let length = v.length as u64;
+    let place = v.place as u64;
     *answer = [number, steps, furthest, length, place];
     number
 }

@@ -2,8 +2,11 @@
 // budget and a journal buffer of 65,536 bytes, and prints the listing, then the end line.
 use libc::STDERR_FILENO;
 use libc::STDOUT_FILENO;
+ghost use mathlib.Core.Path.{_≡_};
+ghost use mathlib.Core.Bool.{_&&_};
 ghost use Prim.Native.Nat.{_≤_};
 ghost use lib.ListN.{length};
+ghost use lib.Dec.{ltb};
 
 // A byte more than the longest table and the longest script: a file that fills it is too long.
 const TABLE_READ: usize = 16385;
@@ -68,7 +71,10 @@ fn run(table: &[u8], script: &[u8]) {
     print_end(answer[0], answer[1], answer[2], answer[4]);
 }
 
-fn refused(number: u64) -> bool {
+// 1 to 9: no journal was written.
+fn refused(number: u64) -> bool
+    ensures { λ r. ⌜ r ≡ (ltb 0 number && ltb number 10) ⌝ }
+{
     if number == 0 {
         return false;
     }

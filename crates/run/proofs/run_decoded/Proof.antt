@@ -35,7 +35,7 @@ run-table-requires : tie.Need-run-table-requires
 run-table-requires c κs =
     let p = c .before .before .before .before .before .before .before .before .before .before .before .before .pre in
     let f = formed (c .before .before .before .before) in
-    (f .0, has-room (c .before .before .before .before .before .before .before .before .before .before .before .before .args .journal .now) _ (f .0) _ (f .1) _ (c .before .before .before .opening-fits .ensures) (c .before .before .if1 .taken), p .0, p .1)
+    ((f .0, has-room (c .before .before .before .before .before .before .before .before .before .before .before .before .args .journal .now) _ (f .0) _ (f .1) _ (c .before .before .before .opening-fits .ensures) (c .before .before .if1 .taken)), p)
 
 same-length : tie.Need-same-length
 same-length c = search needs

@@ -18,7 +18,7 @@ separator-requires : tie.Need-separator-requires
 separator-requires c κs = search needs
 
 returns : tie.Need-returns
-returns c = λ acc h. rw (at-semicolon _ _ acc _ _ (c .before .before .before .before .before .pre .1) (c .before .if1 .taken)) (separator-gives _ _ _ acc h _ _ (c .separator .ensures) (omega arith) (omega (arith, c .before .before .before .before .before .pre .1)))
+returns c = λ acc h. rw (at-semicolon _ _ acc _ _ (c .before .before .before .before .before .pre .1) (c .before .if1 .taken)) (separator-gives _ _ _ _ acc h _ _ (c .separator .ensures) (omega arith) (omega (arith, c .before .before .before .before .before .pre .1)))
 
 line-end-requires : tie.Need-line-end-requires
 line-end-requires c κs = (_, c .before .before .before .before .before .before .pre .0 .0, c .before .before .before .before .before .before .pre .0 .1, (c .before .before .before .before .before .before .pre .1))
@@ -67,7 +67,7 @@ name-requires c κs = search needs
 
 named-requires : tie.Need-named-requires
 named-requires c κs =
-    let byte = c .before .before .before .before .before .before .before .before .before .before .shared-slice-known2 .given (c .before .before .before .before .before .before .before .before .before .before .before .before .before .args .st .at) in
+    let byte = c .before .before .before .before .before .before .before .before .before .before .shared-slice-known2 .given (c .before .before .before .before .before .before .before .before .before .before .before .before .before .args .at) in
     let letter = sym (c .before .before .before .is-letter .ensures) ∙ c .before .before .if6 .taken in
     (c .before .before .before .before .before .before .before .before .before .before .before .before .before .pre .0, name-far _ _ _ _ (c .before .before .before .before .before .before .before .before .before .before .before .before .before .pre .1) letter (c .before .name .ensures .0), c .before .name .ensures .1 .1, λ large. name-longer _ _ _ _ (c .before .before .before .before .before .before .before .before .before .before .before .before .before .pre .1) (omega (arith, byte)) letter (c .before .name .ensures .0) large)
 
@@ -87,17 +87,17 @@ separator-requires-2 : tie.Need-separator-requires-2
 separator-requires-2 c κs = search needs
 
 returns-7 : tie.Need-returns-7
-returns-7 c = λ acc h. rw (at-comment _ _ acc _ _ (c .before .before .before .before .before .before .before .before .before .before .before .before .before .before .pre .1) (c .before .before .before .before .before .before .before .before .before .before .if1 .left) (c .before .before .before .before .before .before .before .before .before .if2 .left) (c .before .before .before .before .before .before .before .before .if3 .left) (c .before .before .before .before .before .before .before .if4 .left) (sym (c .before .before .before .before .before .before .is-digit .ensures) ∙ c .before .before .before .before .before .if5 .left) (sym (c .before .before .before .before .is-letter .ensures) ∙ c .before .before .before .if6 .left) _ (c .before .before .if7 .taken) (c .before .skip-comment .ensures .0)) (separator-gives _ _ _ acc h _ _ (c .separator2 .ensures) (omega (arith, c .before .skip-comment .ensures .1 .0)) (c .before .skip-comment .ensures .1 .1))
+returns-7 c = λ acc h. rw (at-comment _ _ acc _ _ (c .before .before .before .before .before .before .before .before .before .before .before .before .before .before .pre .1) (c .before .before .before .before .before .before .before .before .before .before .if1 .left) (c .before .before .before .before .before .before .before .before .before .if2 .left) (c .before .before .before .before .before .before .before .before .if3 .left) (c .before .before .before .before .before .before .before .if4 .left) (sym (c .before .before .before .before .before .before .is-digit .ensures) ∙ c .before .before .before .before .before .if5 .left) (sym (c .before .before .before .before .is-letter .ensures) ∙ c .before .before .before .if6 .left) _ (c .before .before .if7 .taken) (c .before .skip-comment .ensures .0)) (separator-gives _ _ _ _ acc h _ _ (c .separator2 .ensures) (omega (arith, c .before .skip-comment .ensures .1 .0)) (c .before .skip-comment .ensures .1 .1))
 
 cast-named : tie.Need-cast-named
-cast-named c = omega (arith, c .before .before .before .before .before .before .before .before .before .before .shared-slice-known2 .given (c .before .before .before .before .before .before .before .before .before .before .before .before .before .args .st .at))
+cast-named c = omega (arith, c .before .before .before .before .before .before .before .before .before .before .shared-slice-known2 .given (c .before .before .before .before .before .before .before .before .before .before .before .before .before .args .at))
 
 add-named : tie.Need-add-named
 add-named c = search needs
 
 named-requires-2 : tie.Need-named-requires-2
 named-requires-2 c κs =
-    let byte = c .before .before .before .before .before .before .before .before .before .before .shared-slice-known2 .given (c .before .before .before .before .before .before .before .before .before .before .before .before .before .args .st .at) in
+    let byte = c .before .before .before .before .before .before .before .before .before .before .shared-slice-known2 .given (c .before .before .before .before .before .before .before .before .before .before .before .before .before .args .at) in
     (c .before .before .before .before .before .before .before .before .before .before .before .before .before .pre .0, omega arith, omega (arith, (c .before .before .before .before .before .before .before .before .before .before .before .before .before .pre .1)), λ large. omega (arith, byte, large))
 
 same-length-6 : tie.Need-same-length-6

@@ -22,7 +22,7 @@ returns-2 : tie.Need-returns-2
 returns-2 c =
     λ se e x t w h.
     look-found _ _ se _ e x t (h .shows) (c .before .before .before .before .before .before .before .if1 .left) _ (c .before .before .before .before .before .holds-here .ensures se e t w h) (c .before .before .before .before .if2 .taken) _ _
-    (c .before .before .found .ensures e x t (h .shows) (h .point))
+    (c .before .before .found .ensures e x t (h .shows))
 
 look-further-requires : tie.Need-look-further-requires
 look-further-requires c κs = let p = c .before .before .before .before .before .before .before .before .before .pre .1 in ((p .0, p .1, p .2 .shows), c .before .before .before .before .if1 .left)
@@ -34,7 +34,7 @@ returns-3 : tie.Need-returns-3
 returns-3 c =
     λ se e x t w h.
     look-not _ _ se _ e x t (h .shows) (c .before .before .before .before .before .before .before .if1 .left) _ (c .before .before .before .before .before .holds-here .ensures se e t w h) (c .before .before .before .before .if2 .left) _ _
-    (c .before .before .look-further .ensures e x t (h .shows) (h .point))
+    (c .before .before .look-further .ensures e x t (h .shows))
 
 pub look-spec : {M : Type 1} → statement M
 look-spec =

@@ -14,7 +14,7 @@ same-length c = search needs
 
 returns : tie.Need-returns
 returns c =
-    λ e x t h i. look-on-eof _ _ _ _ (c .before .before .before .before .before .before .before .before .before .pre .1) (c .before .before .r .given .1) (c .if1 .taken) e x t h (c .before .before .before .before .before .before .go-ahead .ensures e x t h)
+    λ e x t h. look-on-eof _ x e t _ _ _ (c .before .before .r .given .1) (c .if1 .taken) (c .before .before .before .before .before .before .go-ahead .ensures e x t h)
 
 enum-known-r-2 : tie.Need-enum-known-r-2
 enum-known-r-2 c = search needs
@@ -24,13 +24,13 @@ same-length-2 c = search needs
 
 returns-2 : tie.Need-returns-2
 returns-2 c =
-    λ e x t h i. look-on-line _ _ _ _ (c .before .before .before .before .before .before .before .before .before .pre .1) (c .before .before .r .given .1) (c .if1 .left) e x t h (c .before .before .before .before .before .before .go-ahead .ensures e x t h)
+    λ e x t h. look-on-line _ x e t _ _ _ (c .before .before .r .given .1) (c .if1 .left) (c .before .before .before .before .before .before .go-ahead .ensures e x t h)
 
 same-length-3 : tie.Need-same-length-3
 same-length-3 c = search needs
 
 returns-3 : tie.Need-returns-3
-returns-3 c = λ e x t h i. look-on-stop _ x e t _ _ _ _ (c .before .r2 .given .1) (c .before .before .before .before .before .go-ahead .ensures e x t h)
+returns-3 c = λ e x t h. look-on-stop _ x e t _ _ _ _ (c .before .r2 .given .1) (c .before .before .before .before .before .go-ahead .ensures e x t h)
 
 pub look-on-spec : {M : Type 1} → statement M
 look-on-spec =

@@ -1,104 +1,200 @@
 -- `steps::answer_step` meets its contract. Assumes nothing.
-use native.Mathlib.Omega.{arith}
+use mathlib.Core.Bool.{true, false}
+use Rattle.steps.specs.Steps.{askTest, askLook}
+use Rattle.steps.proofs.Answering.{command-at, after-test, after-command, after-eof, after-begin, after-begin-back, after-round}
 use borrow.Author.Needs.{needs}
-use Rattle.steps.proofs.Views.{asks-most}
-use Rattle.steps.proofs.Answering.{command-at, after-step, after-begin, after-begin-back, after-round}
 use Rattle.steps.proofs.answer_step.Statement.{statement}
 use Rattle.steps.proofs.answer_step.Tie as tie
+
+enum-told : tie.Need-enum-told
+enum-told c = search needs
 
 once-requires : tie.Need-once-requires
 once-requires c κs = search needs
 
-returns : tie.Need-returns
-returns c = after-round _ _ _ _ _ _ _ _ (c .once .ensures) (omega arith) (c .before .if1 .taken)
+enum-told-2 : tie.Need-enum-told-2
+enum-told-2 c = search needs
 
 test-requires : tie.Need-test-requires
+unfolding askTest
 test-requires c κs = search needs
 
 once-requires-2 : tie.Need-once-requires-2
 once-requires-2 c κs = search needs
 
-same-length : tie.Need-same-length
-same-length c = search needs
+enum-told-3 : tie.Need-enum-told-3
+enum-told-3 c = search needs
 
-returns-2 : tie.Need-returns-2
-returns-2 c = after-step _ _ _ _ _ _ _ _ _ _ (c .once2 .ensures) (omega arith) (λ from op c₁ c₀ e x t h ready. c .before .test .ensures op e x t (h .asks) ready)
+test-requires-2 : tie.Need-test-requires-2
+unfolding askTest
+test-requires-2 c κs = search needs
+
+once-requires-3 : tie.Need-once-requires-3
+once-requires-3 c κs = search needs
+
+enum-told-4 : tie.Need-enum-told-4
+enum-told-4 c = search needs
+
+test-eof-requires : tie.Need-test-eof-requires
+test-eof-requires c κs = search needs
+
+once-requires-4 : tie.Need-once-requires-4
+once-requires-4 c κs = search needs
+
+enum-told-5 : tie.Need-enum-told-5
+enum-told-5 c = search needs
 
 begin-requires : tie.Need-begin-requires
 begin-requires c κs = search needs
 
-once-requires-3 : tie.Need-once-requires-3
-once-requires-3 c κs = search needs
+once-requires-5 : tie.Need-once-requires-5
+once-requires-5 c κs = search needs
+
+enum-told-6 : tie.Need-enum-told-6
+enum-told-6 c = search needs
+
+begin-back-requires : tie.Need-begin-back-requires
+begin-back-requires c κs = search needs
+
+once-requires-6 : tie.Need-once-requires-6
+once-requires-6 c κs = search needs
+
+enum-told-7 : tie.Need-enum-told-7
+enum-told-7 c = search needs
+
+search-requires : tie.Need-search-requires
+unfolding askLook
+search-requires c κs = search needs
+
+enum-told-8 : tie.Need-enum-told-8
+enum-told-8 c = search needs
+
+search-requires-2 : tie.Need-search-requires-2
+unfolding askLook
+search-requires-2 c κs = search needs
+
+enum-told-9 : tie.Need-enum-told-9
+enum-told-9 c = search needs
+
+search-requires-3 : tie.Need-search-requires-3
+unfolding askLook
+search-requires-3 c κs = search needs
+
+enum-told-10 : tie.Need-enum-told-10
+enum-told-10 c = search needs
+
+command-requires : tie.Need-command-requires
+command-requires c κs = let p = c .before .before .before .before .before .before .before .pre .0 in
+    ((p .0 .1, command-at _ _ _ (p .0 .0) (p .0 .1) (p .0 .2) (p .0 .3) (c .before .enum-told10 .given .1) (p .0 .4)), p .1)
+
+once-requires-7 : tie.Need-once-requires-7
+once-requires-7 c κs = search needs
+
+returns : tie.Need-returns
+returns c = after-round _ _ _ _ _ _ _ _ (c .once .ensures) (c .before .enum-told .given .1)
+
+same-length : tie.Need-same-length
+same-length c = search needs
+
+returns-2 : tie.Need-returns-2
+unfolding askTest
+returns-2 c = after-test _ _ _ _ _ _ _ _ _ _ (c .once2 .ensures) true (c .before .before .before .enum-told2 .given .1) (c .before .test .ensures)
 
 same-length-2 : tie.Need-same-length-2
 same-length-2 c = search needs
 
 returns-3 : tie.Need-returns-3
-returns-3 c = after-begin _ _ _ _ _ _ _ _ _ _ (c .once3 .ensures) (omega arith) (c .before .before .before .if3 .taken) (c .before .begin .ensures)
-
-begin-back-requires : tie.Need-begin-back-requires
-begin-back-requires c κs = let p = c .before .before .before .before .before .before .before .before .before .pre .0 .1 in (p .0, p .1, p .2 .shows)
-
-once-requires-4 : tie.Need-once-requires-4
-once-requires-4 c κs = search needs
+unfolding askTest
+returns-3 c = after-test _ _ _ _ _ _ _ _ _ _ (c .once3 .ensures) false (c .before .before .before .enum-told3 .given .1) (c .before .test2 .ensures)
 
 same-length-3 : tie.Need-same-length-3
 same-length-3 c = search needs
 
 returns-4 : tie.Need-returns-4
-returns-4 c =
-    after-begin-back _ _ _ _ _ _ _ _ _ _ (c .once4 .ensures) (omega arith) (c .before .before .before .before .before .if4 .taken) (c .before .before .before .begin-back .ensures)
-
-command-requires : tie.Need-command-requires
-command-requires c κs =
-    let p = c .before .before .before .before .before .before .before .before .before .before .pre .0 in
-    ((p .0 .1, command-at _ _ _ (p .0 .0) (p .0 .1) (p .0 .2) (p .0 .3) (c .before .if5 .taken) (p .0 .4)), p .1)
-
-once-requires-5 : tie.Need-once-requires-5
-once-requires-5 c κs = search needs
+returns-4 c = after-eof _ _ _ _ _ _ _ _ _ _ (c .once4 .ensures) (c .before .before .before .enum-told4 .given .1) (c .before .test-eof .ensures)
 
 same-length-4 : tie.Need-same-length-4
 same-length-4 c = search needs
 
 returns-5 : tie.Need-returns-5
-returns-5 c =
-    after-step _ _ _ _ _ _ _ _ _ _ (c .once5 .ensures) (omega arith)
-    (λ from op c₁ c₀ e x t h ready. c .before .before .before .command .ensures op e x t (command-at _ _ _ from op c₁ c₀ (c .before .before .before .before .before .if5 .taken) h) ready)
-
-search-requires : tie.Need-search-requires
-search-requires c κs =
-    let p = c .before .before .before .before .before .before .before .before .before .before .pre in
-    let most = asks-most _ _ _ (p .0 .0 .1) (p .0 .0 .4 .asks) in
-    (p .0, p .1, omega arith, omega (arith, most), p .2)
+returns-5 c = after-begin _ _ _ _ _ _ _ _ _ _ (c .once5 .ensures) (c .before .before .before .enum-told5 .given .1) (c .before .begin .ensures)
 
 same-length-5 : tie.Need-same-length-5
 same-length-5 c = search needs
 
 returns-6 : tie.Need-returns-6
-returns-6 c = search needs
+returns-6 c = after-begin-back _ _ _ _ _ _ _ _ _ _ (c .once6 .ensures) (c .before .before .before .before .before .enum-told6 .given .1) (c .before .before .before .begin-back .ensures)
+
+same-length-6 : tie.Need-same-length-6
+same-length-6 c = search needs
+
+returns-7 : tie.Need-returns-7
+returns-7 c = search needs
+
+same-length-7 : tie.Need-same-length-7
+same-length-7 c = search needs
+
+returns-8 : tie.Need-returns-8
+returns-8 c = search needs
+
+same-length-8 : tie.Need-same-length-8
+same-length-8 c = search needs
+
+returns-9 : tie.Need-returns-9
+returns-9 c = search needs
+
+same-length-9 : tie.Need-same-length-9
+same-length-9 c = search needs
+
+returns-10 : tie.Need-returns-10
+returns-10 c = after-command _ _ _ _ _ _ _ _ _ _ (c .once7 .ensures) (c .before .before .before .before .before .enum-told10 .given .1) (c .before .before .before .command .ensures)
 
 pub answer-step-spec : {M : Type 1} → statement M
 answer-step-spec =
     tie.close
     (tie.spec
+    enum-told
     once-requires
-    returns
+    enum-told-2
     test-requires
     once-requires-2
+    enum-told-3
+    test-requires-2
+    once-requires-3
+    enum-told-4
+    test-eof-requires
+    once-requires-4
+    enum-told-5
+    begin-requires
+    once-requires-5
+    enum-told-6
+    begin-back-requires
+    once-requires-6
+    enum-told-7
+    search-requires
+    enum-told-8
+    search-requires-2
+    enum-told-9
+    search-requires-3
+    enum-told-10
+    command-requires
+    once-requires-7
+    returns
     same-length
     returns-2
-    begin-requires
-    once-requires-3
     same-length-2
     returns-3
-    begin-back-requires
-    once-requires-4
     same-length-3
     returns-4
-    command-requires
-    once-requires-5
     same-length-4
     returns-5
-    search-requires
     same-length-5
-    returns-6)
+    returns-6
+    same-length-6
+    returns-7
+    same-length-7
+    returns-8
+    same-length-8
+    returns-9
+    same-length-9
+    returns-10)

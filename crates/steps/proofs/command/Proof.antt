@@ -1,6 +1,6 @@
 -- `steps::command` meets its contract. Assumes nothing.
 use borrow.Author.Needs.{needs}
-use Rattle.steps.proofs.Performed.{performed, performed-stop}
+use Rattle.seeks.proofs.Looking.{performed, performed-stop}
 use Rattle.steps.proofs.command.Statement.{statement}
 use Rattle.steps.proofs.command.Tie as tie
 
@@ -17,13 +17,13 @@ same-length : tie.Need-same-length
 same-length c = search needs
 
 returns : tie.Need-returns
-returns c = λ op e x t a h. performed _ _ _ _ _ _ op _ e x t h (c .before .before .before .before .before .perform .ensures op e x t a h) (c .before .r .given .1)
+returns c = λ op e x t a h. performed _ _ _ _ (c .before .before .before .before .before .perform .ensures op e x t a h) (c .before .r .given .1)
 
 same-length-2 : tie.Need-same-length-2
 same-length-2 c = search needs
 
 returns-2 : tie.Need-returns-2
-returns-2 c = λ op e x t a h. performed-stop _ _ _ _ _ _ op _ e x t h (c .before .before .before .before .before .perform .ensures op e x t a h) _ (c .before .r2 .given .1)
+returns-2 c = λ op e x t a h. performed-stop _ _ _ _ (c .before .before .before .before .before .perform .ensures op e x t a h) _ (c .before .r2 .given .1)
 
 pub command-spec : {M : Type 1} → statement M
 command-spec =

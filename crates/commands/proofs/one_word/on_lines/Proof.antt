@@ -12,7 +12,7 @@ previous-line-requires : tie.Need-previous-line-requires
 previous-line-requires c κs = shown-text (c .before .before .before .before .pre)
 
 copy-line-requires : tie.Need-copy-line-requires
-copy-line-requires c κs = shown-text (c .before .before .before .before .pre)
+copy-line-requires c κs = search needs
 
 on-bytes-requires : tie.Need-on-bytes-requires
 on-bytes-requires c κs = search needs
@@ -40,7 +40,7 @@ same-length-3 c = search needs
 
 returns-4 : tie.Need-returns-4
 unfolding wordOp
-returns-4 c = tableless _ _ (rw (c .before .before .before .before .match .keys4)) (c .before .before .copy-line .ensures)
+returns-4 c = performs-as _ _ (rw (c .before .before .before .before .match .keys4)) (c .before .before .copy-line .ensures)
 
 same-length-4 : tie.Need-same-length-4
 same-length-4 c = search needs

@@ -19,7 +19,7 @@ target-requires : tie.Need-target-requires
 target-requires c κs = search needs
 
 returns-2 : tie.Need-returns-2
-returns-2 c = option-some _ _ _ (c .before .before .before .skip-spaces .ensures .0) (omega arith) (omega arith) (c .target .result) (sym (c .before .before .starts-target .ensures) ∙ not-false _ (c .before .if1 .left)) (c .target .ensures)
+returns-2 c = option-some _ _ _ (c .before .before .before .skip-spaces .ensures .0) (omega arith) (omega arith) (sym (c .before .before .starts-target .ensures) ∙ not-false _ (c .before .if1 .left)) (c .target .ensures)
 
 pub optional-target-spec : {M : Type 1} → statement M
 optional-target-spec =

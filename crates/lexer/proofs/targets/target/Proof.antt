@@ -25,7 +25,7 @@ number-requires : tie.Need-number-requires
 number-requires c κs = search needs
 
 returns-3 : tie.Need-returns-3
-returns-3 c = target-number _ _ (c .number .result) (λ e. c .before .before .if1 .left (c .before .before .before .next-byte .ensures ∙ e)) (λ e. c .before .if2 .left (c .before .before .before .next-byte .ensures ∙ e)) (c .number .ensures .0) (c .number .ensures .1)
+returns-3 c = target-number _ _ (λ e. c .before .before .if1 .left (c .before .before .before .next-byte .ensures ∙ e)) (λ e. c .before .if2 .left (c .before .before .before .next-byte .ensures ∙ e)) (c .number .ensures)
 
 pub target-spec : {M : Type 1} → statement M
 target-spec =

@@ -26,7 +26,7 @@ number-requires : tie.Need-number-requires
 number-requires c κs = search needs
 
 returns-2 : tie.Need-returns-2
-returns-2 c = through-number _ _ _ (c .before .before .before .before .before .skip-spaces .ensures .0) (omega arith) (omega arith) (λ e. c .before .before .before .if1 .left (c .before .before .before .before .next-byte .ensures ∙ e)) (c .number .result) (ap isDigit (sym (c .before .before .before .before .next-byte .ensures)) ∙ sym (c .before .before .is-digit .ensures) ∙ c .before .if2 .taken) (c .number .ensures .0) (c .number .ensures .1)
+returns-2 c = through-number _ _ _ (c .before .before .before .before .before .skip-spaces .ensures .0) (omega arith) (omega arith) (λ e. c .before .before .before .if1 .left (c .before .before .before .before .next-byte .ensures ∙ e)) (ap isDigit (sym (c .before .before .before .before .next-byte .ensures)) ∙ sym (c .before .before .is-digit .ensures) ∙ c .before .if2 .taken) (c .number .ensures)
 
 returns-3 : tie.Need-returns-3
 returns-3 c = through-alone _ _ _ (c .before .before .before .before .skip-spaces .ensures .0) (omega arith) (omega arith) (λ e. c .before .before .if1 .left (c .before .before .before .next-byte .ensures ∙ e)) (ap isDigit (sym (c .before .before .before .next-byte .ensures)) ∙ sym (c .before .is-digit .ensures) ∙ c .if2 .left)

@@ -4,7 +4,7 @@ use Prim.Native.Nat.{_-_}
 use native.Mathlib.Omega.{arith}
 use lib.ListN.{length}
 use borrow.Author.Needs.{needs}
-use Rattle.matching.proofs.Sides.{LeftTurn, left-begins, left-inside, left-found, left-missed, left-skipped, left-skip-falls, left-too-few, left-next, left-next-falls, left-reached}
+use Rattle.matching.proofs.Sides.{LeftTurn, left-begins, left-inside, left-found, left-missed, left-skipped, left-skip-falls, left-too-few, left-next, left-reached}
 use Rattle.matching.proofs.scan.from_left.Statement.{statement}
 use Rattle.matching.proofs.scan.from_left.Tie as tie
 
@@ -45,7 +45,7 @@ add-i : tie.Need-add-i Inv-loop μ-loop
 add-i c = omega (arith, left-reached _ _ _ _ _ _ _ _ _ _ (c .before .before .before .before .before .loop .inv) (c .before .before .before .before .next-place .ensures))
 
 loop-less : tie.Need-loop-less Inv-loop μ-loop
-loop-less c = left-next-falls _ _ _ _ _ _ _ _ _ _ (c .before .before .before .before .before .loop .inv) (c .before .before .before .before .next-place .ensures) (c .before .if2 .left) (sym (c .before .before .before .stands .ensures) ∙ c .before .before .if1 .taken) _ (c .before .before .before .before .before .before .step-of .ensures) (c .if3 .left)
+loop-less c = omega (arith, left-reached _ _ _ _ _ _ _ _ _ _ (c .before .before .before .before .before .loop .inv) (c .before .before .before .before .next-place .ensures), c .before .before .before .before .before .before .step-of .ensures, c .if3 .left)
 
 loop-again : tie.Need-loop-again Inv-loop μ-loop
 loop-again c = left-next _ _ _ _ _ _ _ _ _ _ (c .before .before .before .before .before .loop .inv) (c .before .before .before .before .next-place .ensures) (c .before .if2 .left) (sym (c .before .before .before .stands .ensures) ∙ c .before .before .if1 .taken) _ (c .before .before .before .before .before .before .step-of .ensures) (c .if3 .left)

@@ -15,10 +15,11 @@ use Rattle.definitions.specs.Run.{End, run}
 use Rattle.editor.specs.Shows.{lent}
 use Rattle.editor.specs.Current.{Ready}
 use Rattle.editor.proofs.Parts.{lent-same}
-use Rattle.steps.specs.Steps.{Comes}
+use Rattle.steps.proofs.OneStep.{Comes}
+use Rattle.steps.proofs.Answering.{step-comes}
 use Rattle.run.specs.Items.{Runnable}
 use Rattle.control.proofs.Pulling.{at-start}
-use Rattle.run.proofs.Going.{Going, Wanting, going-start, going-done, going-wants, going-late, going-yes, going-no, going-stops, lines-few, yes-lines, no-lines, stopped-place}
+use Rattle.run.proofs.Going.{Going, Wanting, going-start, going-done, going-wants, going-late, going-yes, going-no, going-stops, yes-lines, no-lines, stopped-place}
 use Rattle.run.proofs.items.run_items.Statement.{statement}
 use Rattle.run.proofs.items.run_items.Tie as tie
 
@@ -56,7 +57,7 @@ came : (c : tie.After-answer-step Inv-loop μ-loop)
     Comes (lent (a .j .now)) (a .budget - l .made) (l .made) (g .from) (state (g .then) (g .carries)) (g .rest) (a .table .now) (c .answer-step .last .1 .1 .1 .1 .0) (c .before .before .before .before .before .next .given .0 .0 .place) (h .c₁) (h .c₀) (c .answer-step .result)
 came c x g =
     let h = wanting (c .before .before .before .before) x g in
-    rw (lent-same (c .before .before .before .before .before .before .before .before .before .before .before .before .before .before .before .before .before .args .j .now) (c .before .before .before .before .before .before .before .before .before .before .before .loop .j) (c .before .before .before .before .before .before .before .before .before .before .before .loop .inv .4)) at (c .answer-step .ensures (g .from) (h .op) (h .c₁) (h .c₀) (g .then) (g .carries) (g .rest) (c .before .before .before .before .before .before .before .before .before .before .before .loop .made) (h .wants) (g .ready))
+    rw (lent-same (c .before .before .before .before .before .before .before .before .before .before .before .before .before .before .before .before .before .args .j .now) (c .before .before .before .before .before .before .before .before .before .before .before .loop .j) (c .before .before .before .before .before .before .before .before .before .before .before .loop .inv .4)) at (step-comes _ _ _ _ (c .before .before .before .before .before .before .before .before .before .before .before .loop .made) (g .from) (h .op) (h .c₁) (h .c₀) (g .then) (g .carries) (g .rest) _ _ _ _ _ (omega arith) (h .wants) (g .ready) (c .answer-step .ensures))
 
 start-requires : tie.Need-start-requires Inv-loop μ-loop
 start-requires c κs = tt
@@ -104,7 +105,7 @@ answer-step-requires : tie.Need-answer-step-requires Inv-loop μ-loop
 answer-step-requires c κs =
     let g = standing (c .before .before .before .before .before .before .before .before .before .before) in
     let h = wanting (c .before .before .before) _ g in
-    (((g .from, h .op, h .c₁, h .c₀, h .wants), (g .then, g .rest, g .ready)), omega arith, (λ q. omega (arith, lines-few _ _ _ _ _ _ h q)))
+    (((g .from, h .op, h .c₁, h .c₀, h .wants), (g .then, g .rest, g .ready)), omega arith, omega (arith, h .shown .few))
 
 add-made : tie.Need-add-made Inv-loop μ-loop
 add-made c = let w = came (c .before .before .before) _ (standing (c .before .before .before .before .before .before .before .before .before .before .before .before .before .before)) in omega (arith, w .few, c .before .before .before .before .before .before .before .before .before .before .before .before .before .before .before .before .before .before .before .before .pre .2)

@@ -1,8 +1,9 @@
 -- `script::commands::count` meets its contract. Assumes nothing.
-use Rattle.script.proofs.Items.{refused-written, count-apart, over-count, small-count, large-count}
+use Rattle.script.proofs.Items.{count-apart, over-count, small-count, large-count}
 use Rattle.script.proofs.Distances.{digits-far, digits-end}
 use native.Mathlib.Omega.{arith}
 use borrow.Author.Needs.{needs}
+use Rattle.answers.specs.Answers.{CommandOr}
 use Rattle.script.proofs.commands.count.Statement.{statement}
 use Rattle.script.proofs.commands.count.Tie as tie
 
@@ -10,7 +11,7 @@ digits-requires : tie.Need-digits-requires
 digits-requires c κs = search needs
 
 returns : tie.Need-returns
-returns c = refused-written _ _ _ _ _ _ _ _ (over-count _ _ _ _ _ _ (c .before .before .before .before .pre .0) (c .before .digits .ensures .0) (c .if1 .taken))
+returns c = CommandOr.refused _ _ (over-count _ _ _ _ _ _ (c .before .before .before .before .pre .0) (c .before .digits .ensures .0) (c .if1 .taken))
 
 cast-head-with : tie.Need-cast-head-with
 cast-head-with c = search needs
@@ -21,8 +22,8 @@ head-with-requires c κs = search needs
 put-one-requires : tie.Need-put-one-requires
 put-one-requires c κs = search needs
 
-add-t14 : tie.Need-add-t14
-add-t14 c = search needs
+add-t15 : tie.Need-add-t15
+add-t15 c = search needs
 
 same-length : tie.Need-same-length
 same-length c = search needs
@@ -43,8 +44,8 @@ cast-put-two c = search needs
 put-two-requires : tie.Need-put-two-requires
 put-two-requires c κs = search needs
 
-add-t20 : tie.Need-add-t20
-add-t20 c = search needs
+add-t22 : tie.Need-add-t22
+add-t22 c = search needs
 
 same-length-2 : tie.Need-same-length-2
 same-length-2 c = search needs
@@ -65,12 +66,12 @@ count-spec =
     cast-head-with
     head-with-requires
     put-one-requires
-    add-t14
+    add-t15
     same-length
     returns-2
     head-requires
     cast-put-two
     put-two-requires
-    add-t20
+    add-t22
     same-length-2
     returns-3)

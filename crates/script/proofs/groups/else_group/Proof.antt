@@ -13,7 +13,7 @@ next-byte-requires : tie.Need-next-byte-requires
 next-byte-requires c κs = search needs
 
 returns : tie.Need-returns
-returns c = λ acc h. refusal-comes _ _ _ _ _ _ (else-missing _ _ _ acc h _ _ (λ e. c .if1 .taken (c .before .next-byte .ensures ∙ e)))
+returns c = λ acc h. refusal-comes _ _ _ _ _ _ (else-missing _ _ _ _ acc h _ (λ e. c .if1 .taken (c .before .next-byte .ensures ∙ e)))
 
 sub-top : tie.Need-sub-top
 sub-top c = search needs
@@ -31,31 +31,31 @@ mul-w-2 : tie.Need-mul-w-2
 mul-w-2 c = search needs
 
 slice-write-w-2 : tie.Need-slice-write-w-2
-slice-write-w-2 c = simp length-set (omega (arith, free _ _ _ _ (c .before .before .before .before .pre .0 .1)))
+slice-write-w-2 c = simp length-set (omega (arith, free _ _ _ _ _ (c .before .before .before .before .pre .0 .1)))
 
 cast-w : tie.Need-cast-w
-cast-w c = omega (arith, ending-room _ _ _ _ (c .before .before .before .before .pre .0 .1) (c .before .before .before .before .pre .1) _ (c .before .before .before .before .pre .4))
+cast-w c = omega (arith, ending-room _ _ _ _ _ (c .before .before .before .before .pre .0 .1) (c .before .before .before .before .pre .1) _ (c .before .before .before .before .pre .2))
 
 mul-w-3 : tie.Need-mul-w-3
-mul-w-3 c = omega (arith, ending-room _ _ _ _ (c .before .before .before .before .pre .0 .1) (c .before .before .before .before .pre .1) _ (c .before .before .before .before .pre .4))
+mul-w-3 c = omega (arith, ending-room _ _ _ _ _ (c .before .before .before .before .pre .0 .1) (c .before .before .before .before .pre .1) _ (c .before .before .before .before .pre .2))
 
 mul-w-4 : tie.Need-mul-w-4
 mul-w-4 c = search needs
 
 slice-write-w-3 : tie.Need-slice-write-w-3
-slice-write-w-3 c = simp length-set (omega (arith, free _ _ _ _ (c .before .before .before .before .pre .0 .1)))
+slice-write-w-3 c = simp length-set (omega (arith, free _ _ _ _ _ (c .before .before .before .before .pre .0 .1)))
 
-add-t13 : tie.Need-add-t13
-add-t13 c = search needs
+add-t14 : tie.Need-add-t14
+add-t14 c = search needs
 
-add-t11 : tie.Need-add-t11
-add-t11 c = search needs
+add-t12 : tie.Need-add-t12
+add-t12 c = search needs
 
 same-length : tie.Need-same-length
 same-length c = search needs
 
 returns-2 : tie.Need-returns-2
-returns-2 c = λ acc h. else-opens _ _ _ acc h _ _ (c .before .before .before .before .pre .1) (c .before .before .before .before .pre .5) (c .before .before .before .before .pre .2) (c .before .before .before .before .pre .4) (sym (c .before .next-byte .ensures) ∙ c .if1 .left)
+returns-2 c = λ acc h. else-opens _ _ _ _ acc h _ (c .before .before .before .before .pre .1) (c .before .before .before .before .pre .3) (c .before .before .before .before .pre .2) (sym (c .before .next-byte .ensures) ∙ c .if1 .left)
 
 pub else-group-spec : {M : Type 1} → statement M
 else-group-spec =
@@ -73,7 +73,7 @@ else-group-spec =
     mul-w-3
     mul-w-4
     slice-write-w-3
-    add-t13
-    add-t11
+    add-t14
+    add-t12
     same-length
     returns-2)

@@ -29,25 +29,25 @@ mul-w-2 : tie.Need-mul-w-2
 mul-w-2 c = search needs
 
 slice-write-w-2 : tie.Need-slice-write-w-2
-slice-write-w-2 c = simp length-set (omega (arith, free _ _ _ _ (c .before .before .before .pre .0 .2)))
+slice-write-w-2 c = simp length-set (omega (arith, free _ _ _ _ _ (c .before .before .before .pre .0 .2)))
 
 mul-w-3 : tie.Need-mul-w-3
 mul-w-3 c = search needs
 
 slice-write-w-3 : tie.Need-slice-write-w-3
-slice-write-w-3 c = simp length-set (omega (arith, free _ _ _ _ (c .before .before .before .pre .0 .2)))
+slice-write-w-3 c = simp length-set (omega (arith, free _ _ _ _ _ (c .before .before .before .pre .0 .2)))
 
-add-t10 : tie.Need-add-t10
-add-t10 c = search needs
+add-t11 : tie.Need-add-t11
+add-t11 c = search needs
 
-add-t7 : tie.Need-add-t7
-add-t7 c = search needs
+add-t8 : tie.Need-add-t8
+add-t8 c = search needs
 
 same-length : tie.Need-same-length
 same-length c = search needs
 
 returns : tie.Need-returns
-returns c = λ s acc h less. opens-bare s _ _ acc h less (c .before .before .before .pre .1) (c .before .before .before .pre .2) _ (c .head .ensures)
+returns c = λ s acc h less. opens-bare s _ _ _ acc h less (c .before .before .before .pre .1) (c .before .before .before .pre .2) _ (c .head .ensures)
 
 pub open-bare-spec : {M : Type 1} → statement M
 open-bare-spec =
@@ -63,7 +63,7 @@ open-bare-spec =
     slice-write-w-2
     mul-w-3
     slice-write-w-3
-    add-t10
-    add-t7
+    add-t11
+    add-t8
     same-length
     returns)

@@ -37,19 +37,19 @@ mul-w-3 : tie.Need-mul-w-3
 mul-w-3 c = search needs
 
 slice-write-w-2 : tie.Need-slice-write-w-2
-slice-write-w-2 c = simp length-set (omega (arith, free _ _ _ _ (c .before .before .before .before .pre .0 .2)))
+slice-write-w-2 c = simp length-set (omega (arith, free _ _ _ _ _ (c .before .before .before .before .pre .0 .2)))
 
-add-t7 : tie.Need-add-t7
-add-t7 c = search needs
+add-t8 : tie.Need-add-t8
+add-t8 c = search needs
 
-add-t14 : tie.Need-add-t14
-add-t14 c = search needs
+add-t8-2 : tie.Need-add-t8-2
+add-t8-2 c = search needs
 
 same-length : tie.Need-same-length
 same-length c = search needs
 
 returns : tie.Need-returns
-returns c = λ s acc h less. opens-body s _ _ acc h less (c .before .before .before .before .pre .1) _ (ap (λ (n : ℕ). 2 * c .before .before .before .before .args .st .due + n) (c .flag .ensures .0))
+returns c = λ s acc h less. opens-body s _ _ _ acc h less (c .before .before .before .before .pre .1) _ (ap (λ (n : ℕ). 2 * c .before .before .before .before .args .st .due + n) (c .flag .ensures .0))
 
 pub open-body-spec : {M : Type 1} → statement M
 open-body-spec =
@@ -65,7 +65,7 @@ open-body-spec =
     add-w
     mul-w-3
     slice-write-w-2
-    add-t7
-    add-t14
+    add-t8
+    add-t8-2
     same-length
     returns)

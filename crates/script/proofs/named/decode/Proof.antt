@@ -1,7 +1,7 @@
 -- `script::named::decode` meets its contract. Assumes nothing.
 use Rattle.script.proofs.Choosing.{is-seeks, is-moves, is-deletes, is-string, is-lines, is-replaces, is-alters, is-points, is-branches, is-loops, is-unknown, long-branch, long-loop, plain-written, leaves-written, repeats-written, eof-written}
-use Rattle.script.proofs.Items.{refused-written}
 use borrow.Author.Needs.{needs}
+use Rattle.answers.specs.Answers.{CommandOr}
 use Rattle.script.proofs.named.decode.Statement.{statement}
 use Rattle.script.proofs.named.decode.Tie as tie
 
@@ -183,7 +183,7 @@ returns-14 : tie.Need-returns-14
 returns-14 c = rw (is-loops _ _ _ _ _ (c .before .before .before .before .before .shape6 .given .1)) (c .before .before .loops .ensures)
 
 returns-15 : tie.Need-returns-15
-returns-15 c = refused-written _ _ _ _ _ _ _ _ (is-unknown _ _ _ _ (c .enum-told9 .given .1))
+returns-15 c = CommandOr.refused _ _ (is-unknown _ _ _ _ (c .enum-told9 .given .1))
 
 pub decode-spec : {M : Type 1} → statement M
 decode-spec =

@@ -1,12 +1,12 @@
 -- `script::qualified::points` meets its contract. Assumes nothing.
-use Rattle.items.specs.Words.{head}
-use Rattle.script.proofs.Qualifying.{refused-string, can-write, string-room, points-written, points-refused}
-use Rattle.strings.proofs.Callers.{string-at}
-use lib.ListN.{length-set}
-use Prim.Native.Nat.{ℕ}
 use mathlib.Core.Path.{ap, _∙_}
+use Prim.Native.Nat.{ℕ}
 use native.Mathlib.Omega.{arith}
+use lib.ListN.{length-set}
 use borrow.Author.Needs.{needs}
+use Rattle.items.specs.Words.{head}
+use Rattle.answers.proofs.Taking.{is-string, no-string, up-command}
+use Rattle.script.proofs.Qualifying.{can-write, string-room, points-written, points-refused}
 use Rattle.script.proofs.qualified.points.Statement.{statement}
 use Rattle.script.proofs.qualified.points.Tie as tie
 
@@ -16,14 +16,8 @@ qualified-string-requires c κs = search needs
 enum-known-string : tie.Need-enum-known-string
 enum-known-string c = search needs
 
-enum-told : tie.Need-enum-told
-enum-told c = search needs
-
-refusal-requires : tie.Need-refusal-requires
-refusal-requires c κs = search needs
-
 returns : tie.Need-returns
-returns c = rw (refused-string _ _ _ _ (c .refusal .ensures) (c .before .enum-told .given .1)) (points-refused _ _ _ _ _ (c .before .before .before .before .before .before .pre) _ _ (c .before .before .before .qualified-string .ensures) _ _ (c .before .enum-told .given .1))
+returns c = up-command (no-string (c .before .qualified-string .ensures) (c .match .keys2)) (points-refused _ _ _ _ _ (c .before .before .before .before .pre) _)
 
 point-kind-requires : tie.Need-point-kind-requires
 point-kind-requires c κs = search needs
@@ -41,36 +35,16 @@ add-put-string : tie.Need-add-put-string
 add-put-string c = search needs
 
 sub-put-string : tie.Need-sub-put-string
-sub-put-string c =
-    let at = string-at _ _ _ _ (c .before .before .before .before .before .before .qualified-string .ensures) _ _ _ _ (c .before .before .before .before .string .given .1) in
-    omega (arith, at .ordered)
+sub-put-string c = omega (arith, (is-string (c .before .before .before .before .before .before .qualified-string .ensures) (c .before .before .before .before .string .given .1)) .1 .ordered)
 
 put-string-requires : tie.Need-put-string-requires
-put-string-requires c κs =
-    let at = string-at _ _ _ _ (c .before .before .before .before .before .before .qualified-string .ensures) _ _ _ _ (c .before .before .before .before .string .given .1) in
-    (can-write _ _ _ _ _ (c .before .before .before .before .before .before .before .before .before .pre) _ _ _ _ at, simp length-set (omega (arith, string-room _ _ _ _ _ (c .before .before .before .before .before .before .before .before .before .pre) _ _ _ _ at)))
+put-string-requires c κs = let at = (is-string (c .before .before .before .before .before .before .qualified-string .ensures) (c .before .before .before .before .string .given .1)) .1 in (can-write _ _ _ _ _ (c .before .before .before .before .before .before .before .before .before .pre) _ _ _ _ at, simp length-set (omega (arith, string-room _ _ _ _ _ (c .before .before .before .before .before .before .before .before .before .pre) _ _ _ _ at)))
 
 same-length : tie.Need-same-length
 same-length c = c .before .before .put-string .kept .0 ∙ simp length-set
 
 returns-2 : tie.Need-returns-2
-returns-2 c = points-written _ _ _ _ _ (c .before .before .before .before .before .before .before .before .before .before .before .before .pre) _ _ (c .before .before .before .before .before .before .before .before .before .qualified-string .ensures) _ _ _ _ (c .before .before .before .before .before .before .before .string .given .1) _ _ _ (c .before .before .before .before .head .ensures ∙ ap (λ (n : ℕ). head n (c .before .before .before .before .before .before .before .before .before .before .before .before .args .place)) (c .before .before .before .before .before .point-kind .ensures .0)) (c .before .before .put-string .ensures .0) (c .before .before .put-string .ensures .1)
+returns-2 c = points-written _ _ _ _ _ (c .before .before .before .before .before .before .before .before .before .before .before .before .pre) _ _ _ _ _ (is-string (c .before .before .before .before .before .before .before .before .before .qualified-string .ensures) (c .before .before .before .before .before .before .before .string .given .1)) _ _ _ (c .before .before .before .before .head .ensures ∙ ap (λ (n : ℕ). head n (c .before .before .before .before .before .before .before .before .before .before .before .before .args .place)) (c .before .before .before .before .before .point-kind .ensures .0)) (c .before .before .put-string .ensures .0) (c .before .before .put-string .ensures .1)
 
 pub points-spec : {M : Type 1} → statement M
-points-spec =
-    tie.close
-    (tie.spec
-    qualified-string-requires
-    enum-known-string
-    enum-told
-    refusal-requires
-    returns
-    point-kind-requires
-    head-requires
-    mul-w
-    slice-write-w
-    add-put-string
-    sub-put-string
-    put-string-requires
-    same-length
-    returns-2)
+points-spec = tie.close (tie.spec qualified-string-requires enum-known-string returns point-kind-requires head-requires mul-w slice-write-w add-put-string sub-put-string put-string-requires same-length returns-2)

@@ -14,7 +14,6 @@ use Rattle.searches.proofs.part.Kinds as part-kinds
 use Rattle.searches.proofs.+alternatives+conjunction+part.Lts-part as part-lts
 use Rattle.lexer.proofs.bytes.next_byte.Reads as next-byte-reads
 use Rattle.lexer.proofs.spaces.skip_spaces.Reads as skip-spaces-reads
-use Rattle.searches.proofs.closed.Reads as closed-reads
 use Rattle.searches.proofs.closing.Reads as closing-reads
 use Rattle.searches.proofs.joint.Reads as joint-reads
 use Rattle.searches.proofs.operator.Reads as operator-reads
@@ -65,6 +64,4 @@ part-calls t = (
   alternatives.Post,
   closing-reads.Asked,
   closing-reads.Learnt,
-  closed-reads.Asked,
-  closed-reads.Learnt,
 )

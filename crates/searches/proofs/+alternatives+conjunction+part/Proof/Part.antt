@@ -3,7 +3,8 @@ use mathlib.Core.Path.{sym, _∙_}
 use Prim.Native.Nat.{ℕ}
 use native.Mathlib.Omega.{arith}
 use borrow.Author.Needs.{needs}
-use Rattle.searches.proofs.Parts.{one-string, bracket-within, too-deep, inner-room, inner-refused, inner-within, inner-closed}
+use Rattle.answers.proofs.Taking.{is-past, no-past, is-search, no-search, up-search}
+use Rattle.searches.proofs.Parts.{one-string, bracket-within, too-deep, inner-room, inner-refused, inner-open, inner-closed}
 use Rattle.searches.proofs.part.Reads as reads
 use Rattle.searches.proofs.+alternatives+conjunction+part.Lts-part as lts
 use Rattle.searches.proofs.+alternatives+conjunction+part.Proof.Calls.{part-at, part-calls}
@@ -61,49 +62,26 @@ module _ (t : ℕ) where
   pub enum-known-inner : lts.Need-enum-known-inner (part-calls t) (part-at t) reads.Post
   enum-known-inner c = search needs
 
-  pub enum-told : lts.Need-enum-told (part-calls t) (part-at t) reads.Post
-  enum-told c = search needs
-
   pub same-length-2 : lts.Need-same-length-2 (part-calls t) (part-at t) reads.Post
   same-length-2 c = search needs
 
   pub returns-3 : lts.Need-returns-3 (part-calls t) (part-at t) reads.Post
-  returns-3 c =
-      let start = c .before .before .before .before .before .before .before .before .before .before .before .before in
-      let skip-spaces = c .before .before .before .before .before .before .before .before .before .skip-spaces in
-      let next-byte = c .before .before .before .before .before .before .before .before .next-byte in
-      let else1 = c .before .before .before .before .before .before .before .if1 in
-      let else2 = c .before .before .before .before .before .before .if2 in
-      let alternatives = c .before .before .before .before .alternatives in
-      let told = c .enum-told in
-      inner-refused (start .args .s .now) (start .args .at) (start .args .deep) (skip-spaces .ensures .0) (skip-spaces .ensures .1 .0) (sym (next-byte .ensures) ∙ else1 .left) (else2 .left) (alternatives .ensures) (told .given .1)
+  returns-3 c = up-search (no-search (c .before .before .before .alternatives .ensures) (c .match .keys2)) (inner-refused (c .before .before .before .before .before .before .before .before .before .before .before .args .s .now) (c .before .before .before .before .before .before .before .before .before .before .before .args .at) (c .before .before .before .before .before .before .before .before .before .before .before .args .deep) (c .before .before .before .before .before .before .before .before .skip-spaces .ensures .0) (c .before .before .before .before .before .before .before .before .skip-spaces .ensures .1 .0) (sym (c .before .before .before .before .before .before .before .next-byte .ensures) ∙ c .before .before .before .before .before .before .if1 .left) (c .before .before .before .before .before .if2 .left))
 
   pub closing-requires : lts.Need-closing-requires (part-calls t) (part-at t) reads.Post
-  closing-requires c κs =
-      let start = c .before .before .before .before .before .before .before .before .before .before .before .before .before in
-      let skip-spaces = c .before .before .before .before .before .before .before .before .before .before .skip-spaces in
-      let next-byte = c .before .before .before .before .before .before .before .before .before .next-byte in
-      let else1 = c .before .before .before .before .before .before .before .before .if1 in
-      let else2 = c .before .before .before .before .before .before .before .if2 in
-      let alternatives = c .before .before .before .before .before .alternatives in
-      let inner = c .before .inner in
-      inner-within (start .args .s .now) (start .args .at) (start .args .deep) (skip-spaces .ensures .0) (skip-spaces .ensures .1 .0) (sym (next-byte .ensures) ∙ else1 .left) (else2 .left) (alternatives .ensures) (inner .given .1)
+  closing-requires c κs = (is-search (c .before .before .before .before .before .alternatives .ensures) (c .before .inner .given .1)) .within
 
-  pub closed-requires : lts.Need-closed-requires (part-calls t) (part-at t) reads.Post
-  closed-requires c κs = search needs
+  pub enum-known-close : lts.Need-enum-known-close (part-calls t) (part-at t) reads.Post
+  enum-known-close c = search needs
 
   pub same-length-3 : lts.Need-same-length-3 (part-calls t) (part-at t) reads.Post
   same-length-3 c = search needs
 
   pub returns-4 : lts.Need-returns-4 (part-calls t) (part-at t) reads.Post
-  returns-4 c =
-      let start = c .before .before .before .before .before .before .before .before .before .before .before .before .before .before .before in
-      let skip-spaces = c .before .before .before .before .before .before .before .before .before .before .before .before .skip-spaces in
-      let next-byte = c .before .before .before .before .before .before .before .before .before .before .before .next-byte in
-      let else1 = c .before .before .before .before .before .before .before .before .before .before .if1 in
-      let else2 = c .before .before .before .before .before .before .before .before .before .if2 in
-      let alternatives = c .before .before .before .before .before .before .before .alternatives in
-      let inner = c .before .before .before .inner in
-      let closing = c .before .closing in
-      let closed = c .closed in
-      rw (closed .ensures) (inner-closed (start .args .s .now) (start .args .at) (start .args .deep) (skip-spaces .ensures .0) (skip-spaces .ensures .1 .0) (sym (next-byte .ensures) ∙ else1 .left) (else2 .left) (alternatives .ensures) (inner .given .1) _ (closing .ensures .0) (closing .ensures .1))
+  returns-4 c = up-search (no-past (c .before .closing .ensures) (c .match2 .keys2)) (inner-open (c .before .before .before .before .before .before .before .before .before .before .before .before .before .before .before .args .s .now) (c .before .before .before .before .before .before .before .before .before .before .before .before .before .before .before .args .at) (c .before .before .before .before .before .before .before .before .before .before .before .before .before .before .before .args .deep) (c .before .before .before .before .before .before .before .before .before .before .before .before .skip-spaces .ensures .0) (c .before .before .before .before .before .before .before .before .before .before .before .before .skip-spaces .ensures .1 .0) (sym (c .before .before .before .before .before .before .before .before .before .before .before .next-byte .ensures) ∙ c .before .before .before .before .before .before .before .before .before .before .if1 .left) (c .before .before .before .before .before .before .before .before .before .if2 .left) (is-search (c .before .before .before .before .before .before .before .alternatives .ensures) (c .before .before .before .inner .given .1)))
+
+  pub same-length-4 : lts.Need-same-length-4 (part-calls t) (part-at t) reads.Post
+  same-length-4 c = search needs
+
+  pub returns-5 : lts.Need-returns-5 (part-calls t) (part-at t) reads.Post
+  returns-5 c = inner-closed (c .before .before .before .before .before .before .before .before .before .before .before .before .before .before .before .before .before .args .s .now) (c .before .before .before .before .before .before .before .before .before .before .before .before .before .before .before .before .before .args .at) (c .before .before .before .before .before .before .before .before .before .before .before .before .before .before .before .before .before .args .deep) (c .before .before .before .before .before .before .before .before .before .before .before .before .before .before .skip-spaces .ensures .0) (c .before .before .before .before .before .before .before .before .before .before .before .before .before .before .skip-spaces .ensures .1 .0) (sym (c .before .before .before .before .before .before .before .before .before .before .before .before .before .next-byte .ensures) ∙ c .before .before .before .before .before .before .before .before .before .before .before .before .if1 .left) (c .before .before .before .before .before .before .before .before .before .before .before .if2 .left) (is-search (c .before .before .before .before .before .before .before .before .before .alternatives .ensures) (c .before .before .before .before .before .inner .given .1)) _ (is-past (c .before .before .before .closing .ensures) (c .before .close .given .1))

@@ -1,5 +1,8 @@
 use mathlib.Core.Path.{refl, sym, _∙_}
+use mathlib.Core.List.{[]}
 use Rattle.editor.proofs.Held.{stays-on, holds-lists, held-length}
+use Rattle.spans.specs.Spans.{backLive}
+use Rattle.spans.proofs.Struck.{struck-back}
 use borrow.Author.Needs.{needs}
 use Rattle.spans.proofs.striking.strike_back.Statement.{statement}
 use Rattle.spans.proofs.striking.strike_back.Tie as tie
@@ -11,8 +14,8 @@ strike-to-requires : tie.Need-strike-to-requires
 strike-to-requires c κs =
     let s = c .before .before .before .before .before .before in
     let near = c .before .before .before .back-live in
-    let w = near .ensures .0 (s .pre .0) (s .pre .1) (s .pre .2) in
-    (w .front, w .passed, s .pre .1, w .holds, sym (held-length (s .pre .2)) ∙ sym (near .kept .0))
+    let w = backLive (s .args .k) (s .pre .0) [] in
+    (w .0, w .1, s .pre .1, near .ensures .0 (s .pre .0) (s .pre .1) (s .pre .2), sym (held-length (s .pre .2)) ∙ sym (near .kept .0))
 
 same-length : tie.Need-same-length
 same-length c = search needs
@@ -21,9 +24,7 @@ returns : tie.Need-returns
 returns c =
     let near = c .before .before .before .before .before .before .back-live in
     let gone = c .before .before .strike-to in (
-      (λ b a h.
-          let w = near .ensures .0 b a h in
-          holds-lists (sym (w .same)) refl (gone .ensures .0 (w .front) (w .passed) a (w .holds) (sym (held-length h) ∙ sym (near .kept .0)))),
+      (λ b a h. holds-lists (sym (struck-back _ b)) refl (gone .ensures .0 _ _ a (near .ensures .0 b a h) (sym (held-length h) ∙ sym (near .kept .0)))),
       stays-on (near .ensures .1) (gone .ensures .1),
     )
 

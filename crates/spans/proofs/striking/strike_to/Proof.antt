@@ -1,40 +1,29 @@
-use mathlib.Core.Path.{_≡_, refl, sym, _∙_}
+use mathlib.Core.Path.{_∙_}
 use mathlib.Core.List.{List, _∷_, _++_}
-use Prim.Native.Nat.{_+_, _-_, _<_}
+use Prim.Native.Nat.{_-_, _<_}
 use native.Mathlib.Omega.{arith}
-use lib.ListN.{length}
 use Rattle.definitions.specs.Journal.{Record, erase}
-use Rattle.editor.specs.Records.{encAll}
-use Rattle.editor.specs.Shows.{Holds, Stays, strikeOver}
-use Rattle.editor.proofs.Held.{stays-still, stays-on}
-use Rattle.spans.proofs.Struck.{Going, going-start, going-first, going-done, going-on, strike-one, strike-none, strike-still}
+use Rattle.editor.specs.Shows.{Holds, strikeOver}
+use Rattle.editor.proofs.Held.{stays-on}
+use Rattle.spans.proofs.Struck.{Passing, passing-start, passing-first, passing-on, passing-done, strike-one, strike-none, strike-still}
 use Rattle.spans.proofs.striking.strike_to.Statement.{statement}
 use Rattle.spans.proofs.striking.strike_to.Tie as tie
 
 abbrev Inv-loop : tie.InvT-loop
-Inv-loop j₀ end s₀ j s = ((c m d : List Record) → Holds j₀ s₀ c (m ++ d) → end + length (encAll d) ≡ length j₀ → Going strikeOver j s c m d) × Stays s₀ s × (length j ≡ length j₀)
+Inv-loop j₀ end s₀ j s = Passing strikeOver end j₀ s₀ j s
 
 abbrev μ-loop : tie.MeasureT-loop
 μ-loop j₀ end s₀ j s = end - s .back
-
--- records that the buffer holds at the loop's head
-shown : (c : tie.At-loop Inv-loop μ-loop) → Going strikeOver (c .loop .j) (c .loop .s) (c .before .before .pre .0) (c .before .before .pre .1) (c .before .before .pre .2)
-shown c =
-    let p = c .before .before .pre in
-    c .loop .inv .0 (p .0) (p .1) (p .2) (p .3) (p .4)
-
-at-end : (c : tie.At-loop Inv-loop μ-loop) → c .before .before .args .end + length (encAll (c .before .before .pre .2)) ≡ length (c .loop .j)
-at-end c = c .before .before .pre .4 ∙ sym (c .loop .inv .2)
 
 less : (c : tie.Then1 Inv-loop μ-loop) → c .before .before .loop .s .back < c .before .before .before .before .args .end
 less c = let h = c .if1 .taken in omega arith
 
 -- the record that is current
 first : (c : tie.Then1 Inv-loop μ-loop) → (b : List Record) × (r : Record) × (a : List Record) × Holds (c .before .before .loop .j) (c .before .before .loop .s) b (r ∷ a)
-first c = going-first (shown (c .before .before)) (c .before .before .before .before .args .end) (at-end (c .before .before)) (less c)
+first c = passing-first (c .before .before .loop .inv) (c .before .before .before .before .pre) (less c)
 
 loop-holds : tie.Need-loop-holds Inv-loop μ-loop
-loop-holds c = ((λ c m d h q. going-start c m d h), stays-still, refl)
+loop-holds c = passing-start
 
 pass-record-requires : tie.Need-pass-record-requires Inv-loop μ-loop
 pass-record-requires c κs = first (c .before)
@@ -57,20 +46,14 @@ loop-again c =
     let l = c .before .before .before .before .before .before .before .before .before .before .loop in
     let r = c .before .before .before .before .before .before .pass-record in
     let v = c .before .before .strike-record in
-    let end = c .before .before .before .before .before .before .before .before .before .before .before .before .args .end in (
-      (λ b m d h q. going-on (l .inv .0 b m d h q) end (q ∙ sym (l .inv .2)) (λ x b. erase x ++ b) strike-one (less (c .before .before .before .before .before .before .before .before)) (λ b x a i. v .ensures .0 x b a (r .ensures .0 b x a i) (i .front))),
-      stays-on (l .inv .1) (stays-on (r .ensures .1) (v .ensures .1)),
-      v .kept .0 ∙ r .kept .0 ∙ l .inv .2,
-    )
+    passing-on (l .inv) (λ x b. erase x ++ b) strike-one (less (c .before .before .before .before .before .before .before .before))
+    (λ b x a i. v .ensures .0 x b a (r .ensures .0 b x a i) (i .front)) (stays-on (r .ensures .1) (v .ensures .1)) (v .kept .0 ∙ r .kept .0)
 
 same-length : tie.Need-same-length Inv-loop μ-loop
-same-length c = c .before .before .loop .inv .2
+same-length c = c .before .before .loop .inv .long
 
 returns : tie.Need-returns Inv-loop μ-loop
-returns c =
-    let l = c .before .before .loop in
-    let end = c .before .before .before .before .args .end in
-    ((λ b m d h q. going-done (l .inv .0 b m d h q) end (q ∙ sym (l .inv .2)) strike-none (λ x. let y = c .if1 .left in omega arith)), l .inv .1)
+returns c = passing-done (c .before .before .loop .inv) strike-none (λ x. let y = c .if1 .left in omega arith)
 
 pub strike-to-spec : {M : Type 1} → statement M
 strike-to-spec =

@@ -27,7 +27,7 @@ returns-2 c =
     let is-digit = c .before .before .is-digit in
     let then2 = c .before .if2 in
     let read-count = c .read-count in
-    digit-here (start .args .s .now) (start .args .at) (start .args .q) (start .args .in-search) (else1 .left) _ (sym (is-digit .ensures) ∙ then2 .taken) (read-count .ensures)
+    digit-here (start .args .s .now) (start .args .at) (start .args .q) (start .args .in-search) (else1 .left) (sym (is-digit .ensures) ∙ then2 .taken) (read-count .ensures)
 
 returns-3 : tie.Need-returns-3
 returns-3 c =
@@ -54,7 +54,7 @@ returns-4 c =
     let then3 = c .before .before .before .if3 in
     let else4 = c .before .if4 in
     let read-columns = c .read-columns in
-    columns-here (start .args .s .now) (start .args .at) (start .args .q) (start .args .in-search) (else1 .left) (sym (is-digit .ensures) ∙ else2 .left) _ (then3 .taken) (else4 .left) (read-columns .ensures)
+    columns-here (start .args .s .now) (start .args .at) (start .args .q) (start .args .in-search) (else1 .left) (sym (is-digit .ensures) ∙ else2 .left) (then3 .taken) (else4 .left) (read-columns .ensures)
 
 upper-requires : tie.Need-upper-requires
 upper-requires c κs = search needs

@@ -4,7 +4,8 @@ use Prim.Native.Nat.{_-_}
 use native.Mathlib.Omega.{arith}
 use lib.ListN.{length}
 use borrow.Author.Needs.{needs}
-use Rattle.strings.proofs.Opening.{Begun, begins, opened, refused-up, further, goes-round}
+use Rattle.answers.proofs.Taking.{is-qualifiers, no-qualifiers, up-qualifiers}
+use Rattle.strings.proofs.Opening.{Begun, begins, opened, refused-up, goes-round}
 use Rattle.strings.proofs.qualifiers.read_qualifiers.Statement.{statement}
 use Rattle.strings.proofs.qualifiers.read_qualifiers.Tie as tie
 
@@ -48,37 +49,22 @@ read-qualifier-requires c κs = (c .before .before .before .loop .inv .to, c .be
 enum-known-step : tie.Need-enum-known-step Inv-loop μ-loop
 enum-known-step c = search needs
 
-enum-told : tie.Need-enum-told Inv-loop μ-loop
-enum-told c = search needs
-
 returns-2 : tie.Need-returns-2 Inv-loop μ-loop
 returns-2 c =
-    let start = c .before .before .before .before .before .before .before .before .before .before in
-    let loop = c .before .before .before .before .before .before .loop in
-    let next-byte = c .before .before .before .before .before .next-byte in
-    let is-delimiter = c .before .before .before .before .is-delimiter in
-    let else1 = c .before .before .before .if1 in
-    let read-qualifier = c .before .before .read-qualifier in
-    let told = c .enum-told in
-    refused-up (start .args .s .now) (start .args .at) (start .args .in-search) (loop .q) (loop .i) (loop .inv) (rw (← next-byte .ensures) (sym (is-delimiter .ensures) ∙ else1 .left)) _ (read-qualifier .ensures) _ _ (told .given .1)
+    let start = c .before .before .before .before .before .before .before .before .before in
+    let loop = c .before .before .before .before .before .loop in
+    let next-byte = c .before .before .before .before .next-byte in
+    let is-delimiter = c .before .before .before .is-delimiter in
+    let else1 = c .before .before .if1 in
+    up-qualifiers (no-qualifiers (c .before .read-qualifier .ensures) (c .match .keys2)) (refused-up (start .args .s .now) (start .args .at) (start .args .in-search) (loop .q) (loop .i) (loop .inv) (rw (← next-byte .ensures) (sym (is-delimiter .ensures) ∙ else1 .left)))
 
 skip-spaces-requires-2 : tie.Need-skip-spaces-requires-2 Inv-loop μ-loop
-skip-spaces-requires-2 c κs =
-    let start = c .before .before .before .before .before .before .before .before .before .before .before in
-    let loop = c .before .before .before .before .before .before .before .loop in
-    let next-byte = c .before .before .before .before .before .before .next-byte in
-    let is-delimiter = c .before .before .before .before .before .is-delimiter in
-    let else1 = c .before .before .before .before .if1 in
-    let read-qualifier = c .before .before .before .read-qualifier in
-    let step = c .before .step in
-    further (start .args .s .now) (start .args .at) (start .args .in-search) (loop .q) (loop .i) (loop .inv) (rw (← next-byte .ensures) (sym (is-delimiter .ensures) ∙ else1 .left)) _ (read-qualifier .ensures) _ _ (step .given .1) .1
+skip-spaces-requires-2 c κs = is-qualifiers (c .before .before .before .read-qualifier .ensures) (c .before .step .given .1) .2
 
 loop-less : tie.Need-loop-less Inv-loop μ-loop
 loop-less c =
-    let start = c .before .before .before .before .before .before .before .before .before .before .before .before in
-    let loop = c .before .before .before .before .before .before .before .before .loop in
-    let on = further (start .args .s .now) (start .args .at) (start .args .in-search) (loop .q) (loop .i) (loop .inv) (rw (← c .before .before .before .before .before .before .before .next-byte .ensures) (sym (c .before .before .before .before .before .before .is-delimiter .ensures) ∙ c .before .before .before .before .before .if1 .left)) _ (c .before .before .before .before .read-qualifier .ensures) _ _ (c .before .before .step .given .1) in
-    omega (arith, on .0, c .skip-spaces2 .ensures .1 .0, c .skip-spaces2 .ensures .1 .1)
+    let on = is-qualifiers (c .before .before .before .before .read-qualifier .ensures) (c .before .before .step .given .1) in
+    omega (arith, on .1, c .skip-spaces2 .ensures .1 .0, c .skip-spaces2 .ensures .1 .1)
 
 loop-again : tie.Need-loop-again Inv-loop μ-loop
 loop-again c =
@@ -87,10 +73,8 @@ loop-again c =
     let next-byte = c .before .before .before .before .before .before .before .next-byte in
     let is-delimiter = c .before .before .before .before .before .before .is-delimiter in
     let else1 = c .before .before .before .before .before .if1 in
-    let read-qualifier = c .before .before .before .before .read-qualifier in
-    let step = c .before .before .step in
     let skip-spaces2 = c .skip-spaces2 in
-    goes-round (start .args .s .now) (start .args .at) (start .args .in-search) (loop .q) (loop .i) (loop .inv) (rw (← next-byte .ensures) (sym (is-delimiter .ensures) ∙ else1 .left)) _ (read-qualifier .ensures) _ _ _ (step .given .1) (skip-spaces2 .ensures .0) (skip-spaces2 .ensures .1 .0) (skip-spaces2 .ensures .1 .1)
+    goes-round (start .args .s .now) (start .args .at) (start .args .in-search) (loop .q) (loop .i) (loop .inv) (rw (← next-byte .ensures) (sym (is-delimiter .ensures) ∙ else1 .left)) _ _ _ (is-qualifiers (c .before .before .before .before .read-qualifier .ensures) (c .before .before .step .given .1)) (skip-spaces2 .ensures .0) (skip-spaces2 .ensures .1 .0) (skip-spaces2 .ensures .1 .1)
 
 pub read-qualifiers-spec : {M : Type 1} → statement M
 read-qualifiers-spec =
@@ -106,7 +90,6 @@ read-qualifiers-spec =
     returns
     read-qualifier-requires
     enum-known-step
-    enum-told
     returns-2
     skip-spaces-requires-2
     loop-less

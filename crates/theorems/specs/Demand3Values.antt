@@ -1,0 +1,131 @@
+-- Demand 3 of what a caller of the run sees: the answer's five values, and the bytes of the journal buffer. The code's statements are made from these laws.
+use mathlib.Core.Path.{_≡_, refl, sym, _∙_}
+use mathlib.Core.Option.{some}
+use mathlib.Core.List.{List, _++_, map}
+use Prim.Native.Nat.{ℕ, _-_, _≤_}
+use lib.ListN.{length, take, drop, replicate}
+use lib.Seq.{take-at, drop-at}
+use Rattle.definitions.specs.Bytes.{linesOf}
+use Rattle.definitions.specs.Journal.{Record, kept, upToLine, afterLine, journalBytes, recordsOf}
+use Rattle.definitions.specs.Run.{Answer, answer, refusal, runAnswer, answerNumber, answerSteps, answerFurthest, answerPlace, answerLength, answerRecords, bufferAfter, outcome, outcomeFrom}
+use Rattle.theorems.specs.Demand3.{IsAccepted, Agree, SameUpTo, KeptAfter, Demand3}
+use Rattle.theorems.specs.Demand3Proof.{demand3}
+use Rattle.theorems.specs.JournalBytes.{journal-length}
+
+-- a call: what the run is given, the answer's values, and the journal buffer's bytes afterwards
+pub record Call : Type 0 where
+  pub table : List ℕ
+  pub script : List ℕ
+  pub budget : ℕ
+  pub work : ℕ
+  pub buffer : List ℕ
+  pub number : ℕ
+  pub steps : ℕ
+  pub furthest : ℕ
+  pub long : ℕ
+  pub place : ℕ
+  pub bytes : List ℕ
+
+-- the definitions' answer
+abbrev pub defined : Call → Answer
+defined c = runAnswer (c .table) (c .script) (c .budget) (c .work) (length (c .buffer))
+
+-- values and bytes are the definitions'
+abbrev pub IsRun : Call → Type 0
+IsRun c = outcome (c .number) (c .steps) (c .furthest) (c .long) (c .place) (c .bytes) ≡ outcomeFrom (c .buffer) (defined c)
+
+-- the same, one by one
+record Told (c : Call) (a : Answer) : Type 0 where
+  number : c .number ≡ answerNumber a
+  steps : c .steps ≡ answerSteps a
+  furthest : c .furthest ≡ answerFurthest a
+  long : c .long ≡ answerLength a
+  place : c .place ≡ answerPlace a
+  is : c .bytes ≡ bufferAfter (c .buffer) a
+
+told-of : (c : Call) (a : Answer)
+    → outcome (c .number) (c .steps) (c .furthest) (c .long) (c .place) (c .bytes) ≡ outcomeFrom (c .buffer) a → Told c a
+unfolding outcomeFrom
+told-of c a q = record { number = cc; steps = cc; furthest = cc; long = cc; place = cc; is = cc }
+
+journal-long : (a : Answer) → IsAccepted a → answerLength a ≡ length (journalBytes (answerRecords a))
+unfolding IsAccepted answerLength answerRecords
+journal-long (answer n steps f at j) h = sym (journal-length j)
+journal-long (refusal n at) h = absurd h
+
+module _ (c : Call) (run : IsRun c) (accepted : IsAccepted (defined c)) where
+  told : Told c (defined c)
+  told = told-of c (defined c) run
+
+  -- demand 3 of the definitions' run
+  pub holds : Demand3 (c .table) (c .script) (c .budget) (c .work) (length (c .buffer))
+  holds = demand3 (c .table) (c .script) (c .budget) (c .work) (length (c .buffer)) accepted
+
+  long-as : length (journalBytes (answerRecords (defined c))) ≡ c .long
+  long-as = sym (told .long ∙ journal-long (defined c) accepted)
+
+  bytes-are : c .bytes ≡ journalBytes (answerRecords (defined c)) ++ replicate (length (c .buffer) - c .long) 0
+  bytes-are = told .is ∙ holds .bytes (c .buffer) refl ∙ rw long-as
+
+  -- the first bytes of the buffer are the journal
+  pub read-journal : recordsOf (take (c .long) (c .bytes)) ≡ some (answerRecords (defined c))
+  read-journal = rw (bytes-are, take-at (journalBytes (answerRecords (defined c))) _ (c .long) long-as) (holds .reads-back)
+
+  pub journal-fits : c .long ≤ length (c .buffer)
+  journal-fits = rw long-as at (holds .fits)
+
+  -- the bytes past it are 0
+  pub past-journal : drop (c .long) (c .bytes) ≡ replicate (length (c .buffer) - c .long) 0
+  past-journal = rw bytes-are (drop-at (journalBytes (answerRecords (defined c))) _ (c .long) long-as)
+
+  -- after the furthest line stand the table's lines, kept
+  pub kept-after : afterLine (c .furthest) (answerRecords (defined c)) ≡ map kept (drop (c .furthest) (linesOf (c .table)))
+  kept-after = rw (told .furthest) (holds .after)
+
+  -- no other journal is read from the bytes
+  only-journal : (j : List Record) → recordsOf (take (c .long) (c .bytes)) ≡ some j → j ≡ answerRecords (defined c)
+  only-journal j h = let q : some j ≡ some (answerRecords (defined c)) = sym h ∙ read-journal in cc
+
+-- two calls that do not differ up to the first one's furthest line, j and j₂ being their journals; after it the second one's lines, kept
+pub record SameCalls (c : Call) (j : List Record) (c₂ : Call) (j₂ : List Record) : Type 0 where
+  pub number : c₂ .number ≡ c .number
+  pub place : c₂ .place ≡ c .place
+  pub steps : c₂ .steps ≡ c .steps
+  pub furthest : c₂ .furthest ≡ c .furthest
+  pub journal : upToLine (c .furthest) j₂ ≡ upToLine (c .furthest) j
+  pub after : afterLine (c .furthest) j₂ ≡ map kept (drop (c .furthest) (linesOf (c₂ .table)))
+
+module _ (c : Call) (run : IsRun c) (accepted : IsAccepted (defined c)) (c₂ : Call) (run₂ : IsRun c₂) (accepted₂ : IsAccepted (defined c₂)) where
+  v : Told c (defined c)
+  v = told c run accepted
+
+  v₂ : Told c₂ (defined c₂)
+  v₂ = told c₂ run₂ accepted₂
+
+  same-calls : SameUpTo (answerFurthest (defined c)) (defined c) (defined c₂) → KeptAfter (answerFurthest (defined c)) (c₂ .table) (defined c₂)
+      → SameCalls c (answerRecords (defined c)) c₂ (answerRecords (defined c₂))
+  same-calls s k = record {
+    number = v₂ .number ∙ s .number ∙ sym (v .number);
+    place = v₂ .place ∙ s .place ∙ sym (v .place);
+    steps = v₂ .steps ∙ s .steps ∙ sym (v .steps);
+    furthest = v₂ .furthest ∙ s .furthest ∙ sym (v .furthest);
+    journal = rw (v .furthest) (s .journal);
+    after = rw (v .furthest) k;
+  }
+
+  module _ (same-script : c₂ .script ≡ c .script) (same-budget : c₂ .budget ≡ c .budget) where
+    definitions-agree : Agree (c .furthest) (linesOf (c .table)) (linesOf (c₂ .table)) → (c .number ≡ 26 → ⊥) → (c₂ .number ≡ 26 → ⊥)
+        → SameUpTo (answerFurthest (defined c)) (defined c) (defined c₂) × KeptAfter (answerFurthest (defined c)) (c₂ .table) (defined c₂)
+    definitions-agree agree full full₂ =
+        let full′ : answerNumber (defined c₂) ≡ 26 → ⊥ = λ q. full₂ (v₂ .number ∙ q) in
+        rw (same-script, same-budget)
+        (holds c run accepted .agreeing (c₂ .table) (c₂ .work) (length (c₂ .buffer)) (rw (same-script, same-budget) at accepted₂)
+        (rw (v .furthest) at agree) (λ q. full (v .number ∙ q)) (rw (same-script, same-budget) at full′))
+
+    -- THE LAW
+    pub calls-agree : (j₂ : List Record) → recordsOf (take (c₂ .long) (c₂ .bytes)) ≡ some j₂
+        → Agree (c .furthest) (linesOf (c .table)) (linesOf (c₂ .table)) → (c .number ≡ 26 → ⊥) → (c₂ .number ≡ 26 → ⊥)
+        → SameCalls c (answerRecords (defined c)) c₂ j₂
+    calls-agree j₂ read agree full full₂ =
+        let d = definitions-agree agree full full₂ in
+        rw (only-journal c₂ run₂ accepted₂ j₂ read) (same-calls (d .0) (d .1))

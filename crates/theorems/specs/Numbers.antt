@@ -1,0 +1,140 @@
+-- The number of an answer tells how the run ended (document 01, "Who causes which number"): 0 done, 20 to 29 stopped, 1 to 9 refused.
+use mathlib.Core.Path.{_≡_, refl}
+use mathlib.Core.Bool.{Bool, true, false, cond}
+use mathlib.Core.Logic.{_⊎_, inl, inr}
+use mathlib.Core.List.{List}
+use Prim.Native.Nat.{ℕ, _≤_}
+use native.Mathlib.Omega.{arith}
+use lib.Dec.{leb}
+use Rattle.definitions.specs.Bytes.{Line, linesOf}
+use Rattle.definitions.specs.Table.{isTable, isScript}
+use Rattle.definitions.specs.Tape.{Tape, unread, bind}
+use Rattle.definitions.specs.Given.{Given, given, bytes, Carried}
+use Rattle.definitions.specs.Editor.{Stop, n20, n21, n22, n23, n24, n25, n26, n27, n28, stopNumber, edits}
+use Rattle.definitions.specs.Reading.{Ran, gave, stopped}
+use Rattle.definitions.specs.StepProgram.{runs, RunState, state, Did, answers, changes, quits, Out, on, edited, halt, finish, perform}
+use Rattle.definitions.specs.Edit.{Op, program, step}
+use Rattle.definitions.specs.Control.{Item}
+use Rattle.definitions.specs.Script.{Script, items, refusedAt, readScript}
+use Rattle.definitions.specs.Run.{End, end, runItems, Answer, answer, refusal, answerOf, ranItems, openingLength, workLength, ranTable, ranScript, runAnswer, answerNumber}
+use Rattle.theorems.specs.ComesTo.{within-comes}
+use Rattle.theorems.specs.Reading.{At}
+use Rattle.theorems.specs.Runs.{StepOr, EndOf, inner-all, items-all, runItems-ends}
+use Rattle.theorems.specs.ReadScript.{refusal-numbers}
+use Rattle.theorems.specs.Demand3.{IsAccepted}
+
+-- ---- a step
+
+-- the number with which a step ends a run: W's 0, or a stop's
+abbrev pub StepNumber : ℕ → Type 0
+StepNumber n = (n ≡ 0) ⊎ ((20 ≤ n) × (n ≤ 28))
+
+-- a step goes on, or ends the run with such a number
+abbrev pub StepNumbered : Out → Tape → Type 0
+StepNumbered o t = StepOr (λ s u. Unit {0}) (λ n s u. StepNumber n) o t
+
+stop-number : (n : Stop) → StepNumber (stopNumber n)
+unfolding stopNumber
+stop-number n20 = inr (omega arith, omega arith)
+stop-number n21 = inr (omega arith, omega arith)
+stop-number n22 = inr (omega arith, omega arith)
+stop-number n23 = inr (omega arith, omega arith)
+stop-number n24 = inr (omega arith, omega arith)
+stop-number n25 = inr (omega arith, omega arith)
+stop-number n26 = inr (omega arith, omega arith)
+stop-number n27 = inr (omega arith, omega arith)
+stop-number n28 = inr (omega arith, omega arith)
+
+finish-number : (g : Given) (c : Carried) (r : Ran Did) (t : Tape) → At StepNumbered (finish g c r t)
+unfolding finish
+finish-number g c (gave (answers b) e) t = tt
+finish-number g c (gave (changes xs) e) t = within-comes StepNumbered g c e (edits xs e) t (λ x. tt) (stop-number n26)
+finish-number g c (gave quits e) t = inl refl
+finish-number g c (stopped n e) t = stop-number n
+
+pub step-number : (g : Given) (op : Op) (s : RunState) (t : Tape) → At StepNumbered (step g op s t)
+unfolding step perform bind
+step-number g op (state e c) t = finish-number g c ((runs g c (program op) e t) .0) ((runs g c (program op) e t) .1)
+
+-- ---- the answer
+
+-- "done (0)", or a number of "The run: 20 .. 29"
+abbrev pub EndNumber : ℕ → Type 0
+EndNumber n = (n ≡ 0) ⊎ ((20 ≤ n) × (n ≤ 29))
+
+-- a number of "The script's author", "The table's keeper", or 8 and 9 of "The loader"
+abbrev pub RefusalNumber : ℕ → Type 0
+RefusalNumber n = (1 ≤ n) × (n ≤ 9)
+
+-- the number of an answer, by its case
+unfoldable pub Numbered : Answer → Type 0
+Numbered (answer n steps f at j) = EndNumber n
+Numbered (refusal n at) = RefusalNumber n
+
+-- a step's number is an end's
+ends : (n : ℕ) → StepNumber n → EndNumber n
+ends n (inl q) = inl q
+ends n (inr (a, b)) = inr (a, omega (arith, b))
+
+abbrev Ends : ℕ → RunState → Tape → Type 0
+Ends n s t = EndNumber n
+
+step-ends : (g : Given) (op : Op) (s : RunState) (t : Tape) → At (StepOr (λ x u. Unit {0}) Ends) (step g op s t)
+step-ends g op s t = by ((step g op s t) .0) ((step g op s t) .1) (step-number g op s t)
+  where
+    by : (o : Out) (u : Tape) → StepNumbered o u → StepOr (λ x w. Unit {0}) Ends o u
+    by (on b x) u h = tt
+    by (edited x) u h = tt
+    by (halt n x) u h = ends n h
+
+end-numbered : (x : End) (t : Tape) → EndOf Ends x t → Numbered (answerOf x t)
+unfolding answerOf Numbered
+end-numbered (end n steps at s) t h = h
+
+items-numbered : (g : Given) (budget : ℕ) (is : List Item) (ls : List Line) → Numbered (ranItems (step g) budget is ls)
+unfolding ranItems
+items-numbered g budget is ls =
+    end-numbered ((runItems (step g) budget is (unread ls)) .0) ((runItems (step g) budget is (unread ls)) .1)
+    (runItems-ends (λ op. Unit {0}) (inner-all (λ op. Unit {0}) (λ op. tt)) (λ s t. Unit {0}) Ends (λ s t h. inl refl) (λ s t h. inr (omega arith, omega arith)) (step g)
+    (λ op s t u h. step-ends g op s t) budget is (unread ls) (items-all (λ op. Unit {0}) (λ op. tt) is) tt)
+
+cond-numbered : (t : Bool) (a : Answer) (n at : ℕ) → Numbered a → RefusalNumber n → Numbered (cond t a (refusal n at))
+unfolding Numbered
+cond-numbered true a n at h k = h
+cond-numbered false a n at h k = k
+
+script-numbered : (table : List ℕ) (budget size : ℕ) (script : List ℕ) (r : Script) → readScript script ≡ r → Numbered (ranScript table budget size r)
+unfolding ranScript ranTable Numbered
+script-numbered table budget size script (items is) e =
+    cond-numbered (isTable table) _ 7 0
+    (cond-numbered (leb (openingLength (linesOf table)) size) _ 9 0 (items-numbered (given (bytes size)) budget is (linesOf table)) (omega arith, omega arith))
+    (omega arith, omega arith)
+script-numbered table budget size script (refusedAt n at) e =
+    let k : (2 ≤ n) × (n ≤ 6) = refusal-numbers script n at e in
+    (omega (arith, k .0), omega (arith, k .1))
+
+-- THE LAW: refusals have the numbers 1 to 9, all other answers 0 or 20 to 29
+pub answer-numbered : (table script : List ℕ) (budget work size : ℕ) → Numbered (runAnswer table script budget work size)
+unfolding runAnswer
+answer-numbered table script budget work size =
+    cond-numbered (isScript script) _ 1 0
+    (cond-numbered (leb (workLength script) work) _ 8 0 (script-numbered table budget size script (readScript script) refl) (omega arith, omega arith))
+    (omega arith, omega arith)
+
+-- so the number alone says whether a run was refused
+number-accepted : (a : Answer) → Numbered a → EndNumber (answerNumber a) → IsAccepted a
+unfolding Numbered answerNumber IsAccepted
+number-accepted (answer n steps f at j) h k = tt
+number-accepted (refusal n at) h (inl q) = omega (arith, q, h .0)
+number-accepted (refusal n at) h (inr (b, d)) = omega (arith, b, h .1)
+
+pub accepted-by-number : (table script : List ℕ) (budget work size : ℕ) → EndNumber (answerNumber (runAnswer table script budget work size)) → IsAccepted (runAnswer table script budget work size)
+accepted-by-number table script budget work size h = number-accepted (runAnswer table script budget work size) (answer-numbered table script budget work size) h
+
+accepted-number : (a : Answer) → Numbered a → IsAccepted a → EndNumber (answerNumber a)
+unfolding Numbered answerNumber IsAccepted
+accepted-number (answer n steps f at j) h k = h
+accepted-number (refusal n at) h k = absurd k
+
+pub number-of-accepted : (table script : List ℕ) (budget work size : ℕ) → IsAccepted (runAnswer table script budget work size) → EndNumber (answerNumber (runAnswer table script budget work size))
+number-of-accepted table script budget work size h = accepted-number (runAnswer table script budget work size) (answer-numbered table script budget work size) h

@@ -1,0 +1,33 @@
+-- `Returned`, from which demand 3 of `zed_run` follows, is the contract of `zed_run`, no less and no more. Assumes nothing.
+use contract.Lifetimes.{Lfts}
+use borrow.Fn.Kinds.{Dens, resT, endedOf}
+use denote.Triple.Clauses.{AtExit}
+use Rattle.zed.proofs.zed_run.Kinds as kinds
+use Rattle.zed.proofs.zed_run.Reads as contract-of
+use Rattle.zed.specs.Demand3.{Call, Returned, Accepted, Demand3}
+use Rattle.zed.proofs.Demand3.{zed-demand3}
+
+-- the arguments of a call, in their order, its result, and what is lent as it stands at the end
+module _ (κs : Lfts 5) (a : Dens κs kinds.ps) (r : resT kinds.r κs .Denot) (s : AtExit (endedOf 5 kinds.ps kinds.r) κs) where
+  abbrev pub call : Call
+  call = record {
+    table = a .0 .now;
+    script = a .1 .0 .now;
+    budget = a .1 .1 .0;
+    work = a .1 .1 .1 .0 .now;
+    buffer = a .1 .1 .1 .1 .0 .now;
+    result = r;
+    answer = s .1 .1 .1 .1 .1 .0 .now;
+    journal = s .1 .1 .1 .1 .0 .now;
+  }
+
+  -- what the contract tells a caller
+  pub contract-tells : contract-of.Learnt κs a r s → Returned call
+  contract-tells h = record { number = h .0; answers = h .1 .0; journals = h .1 .1 }
+
+  pub tells-contract : Returned call → contract-of.Learnt κs a r s
+  tells-contract h = (h .number, (h .answers, h .journals))
+
+  -- so demand 3 holds of every accepted call of the function
+  pub call-demand3 : contract-of.Learnt κs a r s → Accepted call → Demand3 call
+  call-demand3 h accepted = zed-demand3 call (contract-tells h) accepted
