@@ -11,7 +11,7 @@ use Rattle.definitions.specs.Search.{one}
 use Rattle.definitions.specs.Edit.{Change, alter, point}
 use Rattle.definitions.specs.Control.{simple}
 use Rattle.definitions.specs.Reader.{refused}
-use Rattle.definitions.specs.Strings.{pair, qualifiedString, twoStrings}
+use Rattle.definitions.specs.Strings.{pair, startQualifiers, qualifiedString, twoStrings}
 use Rattle.definitions.specs.Commands.{alters, points, alterOp, decode}
 use Rattle.matching.specs.Quals.{qualifiersOf}
 use Rattle.matching.specs.Words.{stringWords, Encodes, Writable}
@@ -83,12 +83,12 @@ module _ (s w : List ℕ) (place at k : ℕ) (r : CommandRoom s w place at k) wh
     unfolding decode
     points-refused n p e = passed-up (qualifiedString false (cursorAt s at)) _ n p e
 
-    pub points-written : (q : Quals) (start end next : ℕ) → QuotedAt s at (qualifiedString false (cursorAt s at)) q start end next → (v m : ℕ) (w' : List ℕ)
+    pub points-written : (q : Quals) (start end next : ℕ) → QuotedAt s at (startQualifiers false (cursorAt s at)) (qualifiedString false (cursorAt s at)) q start end next → (v m : ℕ) (w' : List ℕ)
         → v ≡ head (pointKind after) place
         → w' ≡ sets (set w k v) (k + 1) (stringWords (qualifiersOf q) start (end - start)) → m ≡ k + 1 + length (stringWords (qualifiersOf q) start (end - start))
         → CommandRead s w w' place k (decode false place (points after) (cursorAt s at)) (Answer.Command Follow.Nothing next m)
     unfolding decode ItemAt OpAt CommandIs openAfter
-    points-written q start end next (read, stands) v m w' hd we me =
+    points-written q start end next (read, stands, opened) v m w' hd we me =
         let few = string-few s at q start end next stands in
         let l : Qualified = qualified (qualifiersOf q) (take (end - start) (drop start s)) in
         rw (we, me) (CommandOr.read Follow.Nothing next (k + 1 + length (stringWords (qualifiersOf q) start (end - start))) (
@@ -114,13 +114,13 @@ module _ (s w : List ℕ) (place at k : ℕ) (r : CommandRoom s w place at k) wh
     unfolding decode
     alters-refused n p e = passed-up (twoStrings (cursorAt s at)) _ n p e
 
-    pub alters-written : (q : Quals) (start end second second-end next : ℕ) → PairedAt s at (twoStrings (cursorAt s at)) q start end second second-end next → (v m u : ℕ) (w' : List ℕ)
+    pub alters-written : (q : Quals) (start end second second-end next : ℕ) → PairedAt s at (startQualifiers false (cursorAt s at)) (qualifiedString false (cursorAt s at)) (twoStrings (cursorAt s at)) q start end second second-end next → (v m u : ℕ) (w' : List ℕ)
         → v ≡ head (changeKind change pointing) place
         → w' ≡ sets (set w k v) (k + 1) (stringWords (qualifiersOf q) start (end - start)) → m ≡ k + 1 + length (stringWords (qualifiersOf q) start (end - start))
         → u ≡ stringWord second (second-end - second)
         → CommandRead s w (set w' m u) place k (decode false place (alters change pointing) (cursorAt s at)) (Answer.Command Follow.Nothing next (m + 1))
     unfolding decode ItemAt OpAt CommandIs alterOp openAfter
-    alters-written q start end second second-end next (read, stands) v m u w' hd we me wd =
+    alters-written q start end second second-end next (read, stands, first) v m u w' hd we me wd =
         let few = string-few s at q start end second (stands .first) in
         let room = string-room q start end second (stands .first) in
         let l : Qualified = qualified (qualifiersOf q) (take (end - start) (drop start s)) in

@@ -9,7 +9,7 @@ use lib.Seq.{sets, sets-eq, take-at, length-take-le}
 use Rattle.definitions.specs.Matching.{qualified}
 use Rattle.definitions.specs.Reader.{got, refused, andThen}
 use Rattle.definitions.specs.Search.{one}
-use Rattle.definitions.specs.Strings.{qualifiedString}
+use Rattle.definitions.specs.Strings.{startQualifiers, qualifiedString}
 use Rattle.matching.specs.declared.Quals.{Quals}
 use Rattle.matching.specs.Quals.{qualifiersOf}
 use Rattle.matching.specs.Words.{stringWords, Writable}
@@ -28,7 +28,7 @@ before-stays w ws k h =
     ∙ take-at (take k w) (ws ++ drop (k + length ws) w) k (length-take-le k w (omega arith))
 
 module _ (s w : List ℕ) (at k : ℕ) (room : SearchRoom s w at k) where
-  module _ (q : Quals) (start end next : ℕ) (read : QuotedAt s at (qualifiedString true (cursorAt s at)) q start end next) where
+  module _ (q : Quals) (start end next : ℕ) (read : QuotedAt s at (startQualifiers true (cursorAt s at)) (qualifiedString true (cursorAt s at)) q start end next) where
     stands : StringAt s at q start end next
     stands = read .1
 

@@ -102,7 +102,7 @@ module _ (q : Quals) where
         → Adds (addAnchor (anchorOf anchor) (qualifiersOf q)) q (Now (set-anchor q anchor))
     unfolding addAnchor qualifiersOf unless
     anchor-now h k e high =
-        now _ q _ (rw (is-zero (q .anchor) h, eq-eqb (q .count) 0 k, stands (q .last) anchor e)) (λ s. record { anchor = high; count = s .count; from = s .from; to = s .to })
+        now _ q _ (rw (is-zero (q .anchor) h, eq-eqb (q .count) 0 k, stands (q .last) anchor e)) (λ s. record { anchor = high; count = s .count; from = s .from; to = s .to; unset = s .unset })
 
   -- ---- a count
 
@@ -118,12 +118,12 @@ module _ (q : Quals) where
     pub count-now : q .anchor ≡ 0 → q .count ≡ 0 → count ≤ 65535 → Adds (addCount count (qualifiersOf q)) q (Now (set-count q count))
     unfolding addCount qualifiersOf unless
     count-now h k high =
-        now _ q _ (rw (is-zero (q .anchor) h, eq-eqb (q .count) 0 k)) (λ s. record { anchor = s .anchor; count = high; from = s .from; to = s .to })
+        now _ q _ (rw (is-zero (q .anchor) h, eq-eqb (q .count) 0 k)) (λ s. record { anchor = s .anchor; count = high; from = s .from; to = s .to; unset = s .unset })
 
   -- ---- flags
 
   flags-small : (l n w u s : Bool) → Small q → Small (set-flags q l n w u s)
-  flags-small l n w u s h = record { anchor = h .anchor; count = h .count; from = h .from; to = h .to }
+  flags-small l n w u s h = record { anchor = h .anchor; count = h .count; from = h .from; to = h .to; unset = h .unset }
 
   pub last-twice : q .last ≡ true → Adds (addL (qualifiersOf q)) q Clash
   unfolding addL qualifiersOf unless

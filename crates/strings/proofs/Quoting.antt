@@ -12,7 +12,7 @@ use Rattle.text.specs.Lines.{part}
 use Rattle.text.proofs.Parts.{part-length, part-none, part-cons}
 use borrow.Author.Tests.{eq-eqb, ne-eqb, eqb-true}
 use Rattle.definitions.specs.Bytes.{isDigit}
-use Rattle.definitions.specs.Matching.{Qualified}
+use Rattle.definitions.specs.Matching.{Qualifiers, Qualified}
 use Rattle.definitions.specs.Reader.{Cursor, cursor, Got, refused, andThen, placeAt, nextByte, stringUpTo, stringNext, advance, pastDelimiter, afterString}
 use Rattle.definitions.specs.Strings.{wantsBytes, isEmpty, readString, startQualifiers, qualifiedString, secondString, twoStrings}
 use Rattle.matching.specs.declared.Quals.{Quals}
@@ -21,7 +21,7 @@ use Rattle.answers.specs.declared.Answer.{Answer}
 use Rattle.answers.specs.Answers.{StringOr, StringsOr}
 use Rattle.lexer.specs.Places.{cursorAt}
 use Rattle.lexer.proofs.AtPlace.{is-next, next-in, next-at, after-in, after-next}
-use Rattle.strings.specs.Answers.{Open, OpenAt, Short, QuotedAt, Quoted, Paired}
+use Rattle.strings.specs.Answers.{Open, OpenAt, Short, QuotedAt, Quoted, Paired, PairRead}
 
 -- ---- which qualifiers want bytes
 
@@ -93,9 +93,12 @@ short : (s : List ℕ) (start end d : ℕ) → stringNext d (cursorAt s start) �
 short s start end d e h lines = omega (arith, lines d start, ap length e ∙ part-length s start end h)
 
 -- `from` is where the qualifiers begin, `at` where the opening delimiter stands
-module _ (s : List ℕ) (from at : ℕ) (q : Quals) (opened : Open s from q at) where
+module _ (s : List ℕ) (from : ℕ) (y : Got Qualifiers) (at : ℕ) (q : Quals) (opening : OpenAt s from y q at) where
+  opened : Open s from q at
+  opened = opening .1
+
   module _ (end : ℕ) (string : stringNext (getD s at 0) (cursorAt s (at + 1)) ≡ part (at + 1) end s) where
-    pub wants-more : end ≡ at + 1 → wantsBytes (qualifiersOf q) ≡ true → Quoted s from (readString (qualifiersOf q) (cursorAt s at)) (Answer.Refused 4 at)
+    pub wants-more : end ≡ at + 1 → wantsBytes (qualifiersOf q) ≡ true → Quoted s from y (readString (qualifiersOf q) (cursorAt s at)) (Answer.Refused 4 at)
     unfolding readString placeAt isEmpty
     wants-more e w = StringOr.refused 4 at (rw (next-in s at (opened .inside), after-in s at (opened .inside), string, e, part-none s (at + 1), w))
 
@@ -103,7 +106,7 @@ module _ (s : List ℕ) (from at : ℕ) (q : Quals) (opened : Open s from q at) 
         (closed : pastDelimiter (getD s at 0) (cursorAt s end) ≡ cursorAt s next)
         (ordered : at + 1 ≤ end) (ends : end ≤ next) (within : next ≤ length s) where
       quoted-is : (isEmpty (part (at + 1) end s) && wantsBytes (qualifiersOf q)) ≡ false
-          → Quoted s from (readString (qualifiersOf q) (cursorAt s at)) (Answer.OneString q (at + 1) end next)
+          → Quoted s from y (readString (qualifiersOf q) (cursorAt s at)) (Answer.OneString q (at + 1) end next)
       unfolding readString
       quoted-is e = StringOr.read q (at + 1) end next (
         rw (next-in s at (opened .inside), after-in s at (opened .inside), after-is s (at + 1) end (getD s at 0) next string passed closed, string, e),
@@ -117,12 +120,13 @@ module _ (s : List ℕ) (from at : ℕ) (q : Quals) (opened : Open s from q at) 
           columned = λ h. omega (arith, opened .columned h);
           short = short s (at + 1) end (getD s at 0) string (omega arith);
         },
+        record { opening = at; is = opening .0; starts = omega arith },
       )
 
-      pub quoted-empty : wantsBytes (qualifiersOf q) ≡ false → Quoted s from (readString (qualifiersOf q) (cursorAt s at)) (Answer.OneString q (at + 1) end next)
+      pub quoted-empty : wantsBytes (qualifiersOf q) ≡ false → Quoted s from y (readString (qualifiersOf q) (cursorAt s at)) (Answer.OneString q (at + 1) end next)
       quoted-empty w = quoted-is (rw w (and-false (isEmpty (part (at + 1) end s))))
 
-      pub quoted-bytes : (end ≡ at + 1 → ⊥) → Quoted s from (readString (qualifiersOf q) (cursorAt s at)) (Answer.OneString q (at + 1) end next)
+      pub quoted-bytes : (end ≡ at + 1 → ⊥) → Quoted s from y (readString (qualifiersOf q) (cursorAt s at)) (Answer.OneString q (at + 1) end next)
       quoted-bytes e = quoted-is (rw (not-empty s (at + 1) end (omega arith) (omega arith)))
 
 -- ---- a qualified string
@@ -137,21 +141,22 @@ module _ (s : List ℕ) (at : ℕ) (i : Bool) where
     unfolding qualifiedString andThen
     string-is = rw (opened .0)
 
-    pub string-read : {r : Answer} → ((from : ℕ) → Open s from q o → Quoted s from (readString (qualifiersOf q) (cursorAt s o)) r)
-        → Quoted s at (qualifiedString i (cursorAt s at)) r
-    string-read string = rw string-is (string at (opened .1))
+    pub string-read : {r : Answer} → ((from : ℕ) (y : Got Qualifiers) → OpenAt s from y q o → Quoted s from y (readString (qualifiersOf q) (cursorAt s o)) r)
+        → Quoted s at (startQualifiers i (cursorAt s at)) (qualifiedString i (cursorAt s at)) r
+    string-read string = rw string-is (string at (startQualifiers i (cursorAt s at)) opened)
 
 -- ---- a second string
 
-module _ (s : List ℕ) (d at : ℕ) (x : Got Qualified) where
-  pub pair-read : (q : Quals) (start end next second-end past : ℕ) → QuotedAt s at x q start end next → stringNext d (cursorAt s next) ≡ part next second-end s
+module _ (s : List ℕ) (d at : ℕ) (y : Got Qualifiers) (x : Got Qualified) where
+  pub pair-read : (q : Quals) (start end next second-end past : ℕ) → QuotedAt s at y x q start end next → stringNext d (cursorAt s next) ≡ part next second-end s
       → advance (length (stringNext d (cursorAt s next))) (cursorAt s next) ≡ cursorAt s second-end → pastDelimiter d (cursorAt s second-end) ≡ cursorAt s past
       → next ≤ second-end → second-end ≤ past → past ≤ length s
-      → Paired s at (andThen x (λ q c. secondString d q c)) (Answer.TwoStrings q start end next second-end past)
+      → Paired s at y x (andThen x (λ q c. secondString d q c)) (Answer.TwoStrings q start end next second-end past)
   unfolding andThen secondString
   pair-read q start end next second-end past first string passed closed ordered ends within = StringsOr.read q start end next second-end past (
     rw (first .0, after-is s next second-end d past string passed closed, string),
     record { first = first .1; ordered = ordered; ends = ends; within = within; short = short s next second-end d string (omega arith) },
+    first,
   )
 
 module _ (s : List ℕ) (at : ℕ) where
@@ -164,7 +169,7 @@ module _ (s : List ℕ) (at : ℕ) where
     unfolding twoStrings andThen
     both-are = rw (opened .0, next-in s o (opened .1 .inside))
 
-    pub both-read : {first r : Answer} → ((from : ℕ) → Open s from q o → Quoted s from (readString (qualifiersOf q) (cursorAt s o)) first)
-        → ((from : ℕ) (x : Got Qualified) → Quoted s from x first → Paired s from (andThen x (λ q c. secondString (getD s o 0) q c)) r)
-        → Paired s at (twoStrings (cursorAt s at)) r
-    both-read string pairs = rw both-are (pairs at _ (string at (opened .1)))
+    pub both-read : {first r : Answer} → ((from : ℕ) (y : Got Qualifiers) → OpenAt s from y q o → Quoted s from y (readString (qualifiersOf q) (cursorAt s o)) first)
+        → ((from : ℕ) (y : Got Qualifiers) (x : Got Qualified) → Quoted s from y x first → Paired s from y x (andThen x (λ q c. secondString (getD s o 0) q c)) r)
+        → PairRead s at r
+    both-read string pairs = rw (both-are, string-is s at false q o opened) (pairs at _ _ (string at _ opened))

@@ -105,7 +105,7 @@ module _ (s : List ℕ) (at n : ℕ) (q : Quals) where
     goes-on (secondColumn n (cursorAt s at)) _ m (cursorAt s next) (on .0) ∙ ap (λ (x : Qualifiers). got x (cursorAt s next)) (sym (columns-are q n m low)),
     on .1 .2,
     on .2,
-    record { anchor = small .anchor; count = small .count; from = high; to = on .1 .1 },
+    record { anchor = small .anchor; count = small .count; from = high; to = on .1 .1; unset = λ e. omega arith },
   )
 
 later : (s : List ℕ) (at at′ : ℕ) (x y : Got Qualifiers) {r : Answer} → at ≤ at′ → x ≡ y → QualifierRead s at′ y r → QualifierRead s at x r

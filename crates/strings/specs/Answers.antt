@@ -1,6 +1,6 @@
 -- What the answers of the code stand for, in the terms of the definitions. Assumes nothing.
 use mathlib.Core.Path.{_≡_}
-use mathlib.Core.Bool.{Bool, true, cond}
+use mathlib.Core.Bool.{Bool, true, false, cond}
 use mathlib.Core.List.{List}
 use mathlib.Core.Option.{Option}
 use Prim.Native.Nat.{ℕ, suc, _+_, _≤_, _<_}
@@ -9,7 +9,7 @@ use lib.ListN.{length, getD}
 use Rattle.definitions.specs.Bytes.{isDigit}
 use Rattle.definitions.specs.Matching.{Qualifiers, Qualified, qualified}
 use Rattle.definitions.specs.Reader.{Cursor, Got, got, refused, andThen, placeAt, nextByte, afterByte, expect, skipSpaces, number, stringNext}
-use Rattle.definitions.specs.Strings.{added, setColumns, qualifierByte, readQualifier, Pair, pair}
+use Rattle.definitions.specs.Strings.{added, setColumns, qualifierByte, readQualifier, startQualifiers, qualifiedString, Pair, pair, twoStrings}
 use Rattle.text.specs.Lines.{part}
 use Rattle.matching.specs.declared.Quals.{Quals}
 use Rattle.matching.specs.Quals.{qualifiersOf}
@@ -20,12 +20,13 @@ use Rattle.lexer.specs.Answers.{Refuses}
 use Rattle.strings.specs.declared.Added.{Added}
 use Rattle.strings.specs.declared.Added.the-variants.{Now, Clash, Unknown}
 
--- the numbers of qualifiers that a script can give
+-- the numbers of qualifiers that a script can give; no two of these stand for the same qualifiers
 pub record Small (q : Quals) : Type 0 where
   pub anchor : q .anchor ≤ 3
   pub count : q .count ≤ 65535
   pub from : q .from ≤ 65535
   pub to : q .to ≤ 65535
+  pub unset : q .from ≡ 0 → q .to ≡ 0
 
 -- what adding a qualifier comes to, with the place of the qualifier and the cursor after it: 4 where it cannot stand, 3 where there is none such
 unfoldable pub addedOf : Added → ℕ → Cursor → Got Qualifiers
@@ -108,11 +109,19 @@ pub record StringAt (s : List ℕ) (at : ℕ) (q : Quals) (start end next : ℕ)
   pub columned : 0 < q .from → suc (suc at) ≤ start
   pub short : Short s → end ≤ start + 255
 
-abbrev pub QuotedAt : List ℕ → ℕ → Got Qualified → Quals → ℕ → ℕ → ℕ → Type 0
-QuotedAt s at x q start end next = (x ≡ got (qualified (qualifiersOf q) (part start end s)) (cursorAt s next)) × StringAt s at q start end next
+-- the string starts after its opening delimiter, up to which the qualifiers y are read; so its bytes fix its end
+pub record Opened (s : List ℕ) (y : Got Qualifiers) (q : Quals) (start : ℕ) : Type 0 where
+  pub opening : ℕ
+  pub is : y ≡ got (qualifiersOf q) (cursorAt s opening)
+  pub starts : start ≡ suc opening
 
-abbrev pub Quoted : List ℕ → ℕ → Got Qualified → Answer → Type 0
-Quoted s at x = StringOr (QuotedAt s at x) (Refuses x)
+-- y is the reading of the qualifiers, x that of the whole
+abbrev pub QuotedAt : List ℕ → ℕ → Got Qualifiers → Got Qualified → Quals → ℕ → ℕ → ℕ → Type 0
+QuotedAt s at y x q start end next =
+    (x ≡ got (qualified (qualifiersOf q) (part start end s)) (cursorAt s next)) × StringAt s at q start end next × Opened s y q start
+
+abbrev pub Quoted : List ℕ → ℕ → Got Qualifiers → Got Qualified → Answer → Type 0
+Quoted s at y x = StringOr (QuotedAt s at y x) (Refuses x)
 
 -- where the two strings lie
 pub record PairAt (s : List ℕ) (at : ℕ) (q : Quals) (start end second secondEnd next : ℕ) : Type 0 where
@@ -122,10 +131,16 @@ pub record PairAt (s : List ℕ) (at : ℕ) (q : Quals) (start end second second
   pub within : next ≤ length s
   pub short : Short s → secondEnd ≤ second + 255
 
-abbrev pub PairedAt : List ℕ → ℕ → Got Pair → Quals → ℕ → ℕ → ℕ → ℕ → ℕ → Type 0
-PairedAt s at x q start end second secondEnd next =
-    (x ≡ got (pair (qualified (qualifiersOf q) (part start end s)) (part second secondEnd s)) (cursorAt s next))
+-- y is the reading of the qualifiers, x that of the first string, after which the second starts, and z that of both
+abbrev pub PairedAt : List ℕ → ℕ → Got Qualifiers → Got Qualified → Got Pair → Quals → ℕ → ℕ → ℕ → ℕ → ℕ → Type 0
+PairedAt s at y x z q start end second secondEnd next =
+    (z ≡ got (pair (qualified (qualifiersOf q) (part start end s)) (part second secondEnd s)) (cursorAt s next))
     × PairAt s at q start end second secondEnd next
+    × QuotedAt s at y x q start end second
 
-abbrev pub Paired : List ℕ → ℕ → Got Pair → Answer → Type 0
-Paired s at x = StringsOr (PairedAt s at x) (Refuses x)
+abbrev pub Paired : List ℕ → ℕ → Got Qualifiers → Got Qualified → Got Pair → Answer → Type 0
+Paired s at y x z = StringsOr (PairedAt s at y x z) (Refuses z)
+
+-- a qualified string and a second string were read at `at`
+abbrev pub PairRead : List ℕ → ℕ → Answer → Type 0
+PairRead s at = Paired s at (startQualifiers false (cursorAt s at)) (qualifiedString false (cursorAt s at)) (twoStrings (cursorAt s at))

@@ -2,13 +2,13 @@
 ghost use Prim.Native.Nat.{_≤_};
 ghost use Rattle.definitions.specs.Strings.{addAnchor, addCount, addL, addN, addW, addU, addS, letterOf, readQualifier};
 ghost use Rattle.matching.specs.Quals.{anchorOf, qualifiersOf};
-ghost use Rattle.strings.specs.Answers.{Adds, AddsAt};
+ghost use Rattle.strings.specs.Answers.{Small, Adds, AddsAt};
 use crate::Added;
 use matching::Quals;
 
 // B, E or P: anchor 1, 2 or 3.
 fn add_anchor(q: Quals, anchor: u8) -> Added
-    requires { ⌜ (1 ≤ anchor) × (anchor ≤ 3) ⌝ }
+    requires { ⌜ (1 ≤ anchor) × (anchor ≤ 3) × Small q ⌝ }
     ensures { λ r. ⌜ Adds (addAnchor (anchorOf anchor) (qualifiersOf q)) q r ⌝ }
 {
     if q.anchor != 0 {
@@ -28,7 +28,7 @@ fn add_anchor(q: Quals, anchor: u8) -> Added
 }
 
 pub fn add_count(q: Quals, count: usize) -> Added
-    requires { ⌜ count ≤ 65535 ⌝ }
+    requires { ⌜ (count ≤ 65535) × Small q ⌝ }
     ensures { λ r. ⌜ Adds (addCount count (qualifiersOf q)) q r ⌝ }
 {
     if q.anchor != 0 {
@@ -43,6 +43,7 @@ pub fn add_count(q: Quals, count: usize) -> Added
 }
 
 fn add_last(q: Quals) -> Added
+    requires { ⌜ Small q ⌝ }
     ensures { λ r. ⌜ Adds (addL (qualifiersOf q)) q r ⌝ }
 {
     if q.last {
@@ -61,6 +62,7 @@ fn add_last(q: Quals) -> Added
 
 // N stands in searches only.
 fn add_negated(q: Quals, in_search: bool) -> Added
+    requires { ⌜ Small q ⌝ }
     ensures { λ r. ⌜ Adds (addN «in_search» (qualifiersOf q)) q r ⌝ }
 {
     if q.negated {
@@ -75,6 +77,7 @@ fn add_negated(q: Quals, in_search: bool) -> Added
 }
 
 fn add_word(q: Quals) -> Added
+    requires { ⌜ Small q ⌝ }
     ensures { λ r. ⌜ Adds (addW (qualifiersOf q)) q r ⌝ }
 {
     if q.word {
@@ -86,6 +89,7 @@ fn add_word(q: Quals) -> Added
 }
 
 fn add_fold(q: Quals) -> Added
+    requires { ⌜ Small q ⌝ }
     ensures { λ r. ⌜ Adds (addU (qualifiersOf q)) q r ⌝ }
 {
     if q.fold {
@@ -97,6 +101,7 @@ fn add_fold(q: Quals) -> Added
 }
 
 fn add_skip(q: Quals) -> Added
+    requires { ⌜ Small q ⌝ }
     ensures { λ r. ⌜ Adds (addS (qualifiersOf q)) q r ⌝ }
 {
     if q.skip {
@@ -109,6 +114,7 @@ fn add_skip(q: Quals) -> Added
 
 // The qualifier of one letter, a capital one.
 pub fn add_letter(q: Quals, letter: u8, in_search: bool) -> Added
+    requires { ⌜ Small q ⌝ }
     ensures { λ r. ⌜ AddsAt (λ c. readQualifier «in_search» (qualifiersOf q) c (letterOf letter)) q r ⌝ }
 {
     match letter {

@@ -11,12 +11,12 @@ use qualifiers::read_qualifiers;
 ghost use mathlib.Core.Path.{_≡_};
 ghost use Prim.Native.Nat.{ℕ, _≤_};
 ghost use lib.ListN.{length};
-ghost use Rattle.definitions.specs.Matching.{Qualified};
+ghost use Rattle.definitions.specs.Matching.{Qualifiers, Qualified};
 ghost use Rattle.definitions.specs.Reader.{Got, andThen};
-ghost use Rattle.definitions.specs.Strings.{wantsBytes, readString, qualifiedString, secondString, twoStrings};
+ghost use Rattle.definitions.specs.Strings.{wantsBytes, readString, startQualifiers, qualifiedString, secondString};
 ghost use Rattle.matching.specs.Quals.{qualifiersOf};
 ghost use Rattle.lexer.specs.Places.{cursorAt};
-ghost use Rattle.strings.specs.Answers.{Open, Quoted, Paired};
+ghost use Rattle.strings.specs.Answers.{OpenAt, Quoted, Paired, PairRead};
 
 // The qualifiers with one more; or that it cannot stand with them, or that there is none such.
 pub enum Added {
@@ -36,8 +36,8 @@ fn wants_bytes(q: Quals) -> bool
 
 // The string at its opening delimiter.
 fn read_string(s: &[u8], at: usize, q: Quals) -> Answer
-    requires { ⌜ ((from : ℕ) × Open (now s) from q at) ⌝ }
-    ensures { λ r. ⌜ ((from : ℕ) → Open (now (s .entry)) from q at → Quoted (now (s .entry)) from (readString (qualifiersOf q) (cursorAt (now (s .entry)) at)) r) ⌝ }
+    requires { ⌜ ((from : ℕ) × (y : Got Qualifiers) × OpenAt (now s) from y q at) ⌝ }
+    ensures { λ r. ⌜ ((from : ℕ) (y : Got Qualifiers) → OpenAt (now (s .entry)) from y q at → Quoted (now (s .entry)) from y (readString (qualifiersOf q) (cursorAt (now (s .entry)) at)) r) ⌝ }
 {
     let d = s[at];
     let start = at + 1;
@@ -59,7 +59,7 @@ fn read_string(s: &[u8], at: usize, q: Quals) -> Answer
 // A qualified string at the place.
 pub fn qualified_string(s: &[u8], at: usize, in_search: bool) -> Answer
     requires { ⌜ at ≤ length (now s) ⌝ }
-    ensures { λ r. ⌜ Quoted (now (s .entry)) at (qualifiedString «in_search» (cursorAt (now (s .entry)) at)) r ⌝ }
+    ensures { λ r. ⌜ Quoted (now (s .entry)) at (startQualifiers «in_search» (cursorAt (now (s .entry)) at)) (qualifiedString «in_search» (cursorAt (now (s .entry)) at)) r ⌝ }
 {
     let quals = read_qualifiers(s, at, in_search);
     let Answer::Qualifiers(q, open) = quals else {
@@ -70,8 +70,8 @@ pub fn qualified_string(s: &[u8], at: usize, in_search: bool) -> Answer
 
 // The second string, after the first one; d is their delimiter.
 fn with_second(s: &[u8], first: Answer, d: u8) -> Answer
-    requires { ⌜ ((at : ℕ) × (x : Got Qualified) × Quoted (now s) at x first) ⌝ }
-    ensures { λ r. ⌜ ((at : ℕ) (x : Got Qualified) → Quoted (now (s .entry)) at x first → Paired (now (s .entry)) at (andThen x (λ q c. secondString d q c)) r) ⌝ }
+    requires { ⌜ ((at : ℕ) × (y : Got Qualifiers) × (x : Got Qualified) × Quoted (now s) at y x first) ⌝ }
+    ensures { λ r. ⌜ ((at : ℕ) (y : Got Qualifiers) (x : Got Qualified) → Quoted (now (s .entry)) at y x first → Paired (now (s .entry)) at y x (andThen x (λ q c. secondString d q c)) r) ⌝ }
 {
     let Answer::OneString {
         quals,
@@ -97,7 +97,7 @@ fn with_second(s: &[u8], first: Answer, d: u8) -> Answer
 // A qualified string and a second string at the place.
 pub fn two_strings(s: &[u8], at: usize) -> Answer
     requires { ⌜ at ≤ length (now s) ⌝ }
-    ensures { λ r. ⌜ Paired (now (s .entry)) at (twoStrings (cursorAt (now (s .entry)) at)) r ⌝ }
+    ensures { λ r. ⌜ PairRead (now (s .entry)) at r ⌝ }
 {
     let quals = read_qualifiers(s, at, false);
     let Answer::Qualifiers(q, open) = quals else {

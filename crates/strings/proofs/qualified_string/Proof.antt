@@ -15,7 +15,7 @@ returns : tie.Need-returns
 returns c = up-string (no-qualifiers (c .before .read-qualifiers .ensures) (c .match .keys2)) (string-refused (c .before .before .before .args .s .now) (c .before .before .before .args .at) (c .before .before .before .args .in-search))
 
 read-string-requires : tie.Need-read-string-requires
-read-string-requires c κs = (_, (is-qualifiers (c .before .before .before .read-qualifiers .ensures) (c .before .quals .given .1)) .1)
+read-string-requires c κs = (_, _, is-qualifiers (c .before .before .before .read-qualifiers .ensures) (c .before .quals .given .1))
 
 returns-2 : tie.Need-returns-2
 returns-2 c = string-read (c .before .before .before .before .before .before .args .s .now) (c .before .before .before .before .before .before .args .at) (c .before .before .before .before .before .before .args .in-search) _ _ (is-qualifiers (c .before .before .before .before .read-qualifiers .ensures) (c .before .before .quals .given .1)) (c .read-string .ensures)

@@ -25,7 +25,7 @@ returns c =
     let then1 = c .before .before .if1 in
     let wants-bytes = c .before .wants-bytes in
     let then2 = c .if2 in
-    λ from h. wants-more (start .args .s .now) from (start .args .at) (start .args .q) h _ (string-end .ensures .0) (then1 .taken) (sym (wants-bytes .ensures) ∙ then2 .taken)
+    λ from y h. wants-more (start .args .s .now) from y (start .args .at) (start .args .q) h _ (string-end .ensures .0) (then1 .taken) (sym (wants-bytes .ensures) ∙ then2 .taken)
 
 past-delimiter-requires : tie.Need-past-delimiter-requires
 past-delimiter-requires c κs = search needs
@@ -36,7 +36,7 @@ returns-2 c =
     let string-end = c .before .before .string-end in
     let joined1 = c .before .if1 in
     let past-delimiter = c .past-delimiter in
-    λ from h. ⊎-elim (λ x. quoted-empty (start .args .s .now) from (start .args .at) (start .args .q) h _ (string-end .ensures .0) _ (string-end .ensures .1 .0) (past-delimiter .ensures .0) (string-end .ensures .1 .1 .0) (past-delimiter .ensures .1 .0) (past-delimiter .ensures .1 .1) (sym (x .1 .ensures) ∙ x .2 .left)) (λ x. quoted-bytes (start .args .s .now) from (start .args .at) (start .args .q) h _ (string-end .ensures .0) _ (string-end .ensures .1 .0) (past-delimiter .ensures .0) (string-end .ensures .1 .1 .0) (past-delimiter .ensures .1 .0) (past-delimiter .ensures .1 .1) (x .left)) (joined1 .came)
+    λ from y h. ⊎-elim (λ x. quoted-empty (start .args .s .now) from y (start .args .at) (start .args .q) h _ (string-end .ensures .0) _ (string-end .ensures .1 .0) (past-delimiter .ensures .0) (string-end .ensures .1 .1 .0) (past-delimiter .ensures .1 .0) (past-delimiter .ensures .1 .1) (sym (x .1 .ensures) ∙ x .2 .left)) (λ x. quoted-bytes (start .args .s .now) from y (start .args .at) (start .args .q) h _ (string-end .ensures .0) _ (string-end .ensures .1 .0) (past-delimiter .ensures .0) (string-end .ensures .1 .1 .0) (past-delimiter .ensures .1 .0) (past-delimiter .ensures .1 .1) (x .left)) (joined1 .came)
 
 pub read-string-spec : {M : Type 1} → statement M
 read-string-spec =

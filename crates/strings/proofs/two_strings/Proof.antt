@@ -15,13 +15,13 @@ returns : tie.Need-returns
 returns c = up-strings (no-qualifiers (c .before .read-qualifiers .ensures) (c .match .keys2)) (both-refused (c .before .before .before .args .s .now) (c .before .before .before .args .at))
 
 read-string-requires : tie.Need-read-string-requires
-read-string-requires c κs = (_, (is-qualifiers (c .before .before .before .read-qualifiers .ensures) (c .before .quals .given .1)) .1)
+read-string-requires c κs = (_, _, is-qualifiers (c .before .before .before .read-qualifiers .ensures) (c .before .quals .given .1))
 
 shared-slice-read-with-second : tie.Need-shared-slice-read-with-second
 shared-slice-read-with-second c = (is-qualifiers (c .before .before .before .before .before .read-qualifiers .ensures) (c .before .before .before .quals .given .1)) .1 .inside
 
 with-second-requires : tie.Need-with-second-requires
-with-second-requires c κs = (_, _, c .before .read-string .ensures _ ((is-qualifiers (c .before .before .before .before .before .read-qualifiers .ensures) (c .before .before .before .quals .given .1)) .1))
+with-second-requires c κs = (_, _, _, c .before .read-string .ensures _ _ (is-qualifiers (c .before .before .before .before .before .read-qualifiers .ensures) (c .before .before .before .quals .given .1)))
 
 returns-2 : tie.Need-returns-2
 returns-2 c = both-read (c .before .before .before .before .before .before .before .before .args .s .now) (c .before .before .before .before .before .before .before .before .args .at) _ _ (is-qualifiers (c .before .before .before .before .before .before .read-qualifiers .ensures) (c .before .before .before .before .quals .given .1)) (c .before .before .read-string .ensures) (c .with-second .ensures)

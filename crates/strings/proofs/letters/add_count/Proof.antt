@@ -10,7 +10,7 @@ returns-2 : tie.Need-returns-2
 returns-2 c = let a = c .before .before .before .before .args in count-counted (a .q) (a .count) (c .before .before .if1 .left) (c .if2 .taken)
 
 returns-3 : tie.Need-returns-3
-returns-3 c = let a = c .before .before .before .before .args in count-now (a .q) (a .count) (c .before .before .if1 .left) (c .if2 .left) (c .before .before .before .before .pre)
+returns-3 c = let a = c .before .before .before .before .args in count-now (a .q) (a .count) (c .before .before .if1 .left) (c .if2 .left) (c .before .before .before .before .pre .0)
 
 pub add-count-spec : {M : Type 1} → statement M
 add-count-spec = tie.close (tie.spec returns returns-2 returns-3)

@@ -15,7 +15,7 @@ returns : tie.Need-returns
 returns c = up-qualifiers (no-number (c .before .number .ensures) (c .match .keys2)) (count-refused (c .before .before .before .args .s .now) (c .before .before .before .args .at) (c .before .before .before .args .q))
 
 add-count-requires : tie.Need-add-count-requires
-add-count-requires c κs = (is-number (c .before .before .before .number .ensures) (c .before .n .given .1)) .1 .1
+add-count-requires c κs = (is-number (c .before .before .before .number .ensures) (c .before .n .given .1) .1 .1, c .before .before .before .before .before .pre .1)
 
 added-at-requires : tie.Need-added-at-requires
 added-at-requires c κs = search needs
