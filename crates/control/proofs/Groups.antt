@@ -4,7 +4,7 @@ use mathlib.Core.Bool.{Bool, true}
 use mathlib.Core.List.{List, [], _∷_}
 use Prim.Native.Nat.{ℕ, _+_, _-_, _<_}
 use native.Mathlib.Omega.{arith}
-use Rattle.definitions.specs.Control.{Opener, Item, simple, seek, opens, bracket, close, otherwise, leave, lineEnd, Frame, frame, running, skipping, finished, pullAt, pull}
+use Rattle.definitions.specs.Control.{Opener, Item, simple, seek, opens, bracket, close, otherwise, leave, lineEnd, Frame, frame, running, skipping, lost, pullAt, pull}
 use Rattle.theorems.specs.NestingLaws.{mayBracket}
 use Rattle.items.specs.Kinds.{lineEndKind, bracketKind, closeKind, elseKind, leaveKind}
 use Rattle.items.specs.Ends.{classOf, simpleClass, searchClass, openerClass}
@@ -22,7 +22,7 @@ use Rattle.control.proofs.Running.{closing, two-left}
 
 -- no bracket, ELSE or close runs outside all bodies
 nothing-runs : (class : ℕ) (i : Item) (items : List Item) → class ≡ classOf i → (class ≡ openerClass → ⊥) → (class ≡ searchClass → ⊥) → (class ≡ simpleClass → ⊥) → (class ≡ leaveKind → ⊥) → (class ≡ lineEndKind → ⊥)
-    → pullAt (i ∷ items) [] ≡ finished
+    → pullAt (i ∷ items) [] ≡ lost
 unfolding classOf pullAt
 nothing-runs class (opens p o) items e a b c d f = absurd (a e)
 nothing-runs class (seek p k se) items e a b c d f = absurd (b e)

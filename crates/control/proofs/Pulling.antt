@@ -3,7 +3,7 @@ use mathlib.Core.Path.{_≡_, refl, sym, _∙_, subst}
 use mathlib.Core.List.{List, []}
 use Prim.Native.Nat.{ℕ, _+_, _≤_, _<_}
 use native.Mathlib.Omega.{arith}
-use Rattle.definitions.specs.Control.{Item, Frame, Ctl, running, skipping, failing, leaving, seeking, Pull, finished, want, pullAt, pullAfter, pullElse, pullLine, pull}
+use Rattle.definitions.specs.Control.{Item, Frame, Ctl, running, skipping, failing, leaving, seeking, Pull, finished, want, lost, pullAt, pullAfter, pullElse, pullLine, pull}
 use Rattle.control.specs.Items.{Startable}
 use Rattle.control.specs.Shown.{ItemsFrom, FramesAt, InFrames, entered, Runs, ShowsCtl, ShowsNext, Onward, ShowsStep, standAt}
 use Rattle.control.specs.declared.Control.{Control}
@@ -117,13 +117,13 @@ module _ (w : List ℕ) (end : ℕ) (c : Control) (less : c .at < end) (s : List
 
 -- ---- the end of the items
 
-pub all-done : (s w : List ℕ) (end : ℕ) (c : Control) (from : Ctl) → c .mode < 4 → end ≤ c .at → ShowsCtl s w end c from → pull from ≡ finished
-unfolding ShowsCtl pull pullAt pullAfter pullElse pullLine
-all-done s w end c (running items frames) q le h = rw (no-more s w end (c .at) (c .depth) items (h .1 .stands) le)
-all-done s w end c (skipping k items frames) q le h = rw (no-more s w end (c .at) (c .depth + k) items (h .3 .stands) le)
-all-done s w end c (failing k items frames) q le h = rw (no-more s w end (c .at) (c .depth + k) items (h .3 .stands) le)
-all-done s w end c (leaving items) q le h = rw (no-more s w end (c .at) (h .1 .0) items (h .1 .1) le)
-all-done s w end c (seeking place f se k items frames) q le h = absurd (omega (arith, q, h .0))
+all-done : (s w : List ℕ) (end n : ℕ) (c : Control) (from : Ctl) → c .mode < 4 → end ≤ c .at → ShowsCtl s w end c from → ShowsNext s w end n Finished (pull from)
+unfolding ShowsCtl ShowsNext pull pullAt pullAfter pullElse pullLine
+all-done s w end n c (running items frames) q le h = rw (no-more s w end (c .at) (c .depth) items (h .1 .stands) le) tt
+all-done s w end n c (skipping k items frames) q le h = rw (no-more s w end (c .at) (c .depth + k) items (h .3 .stands) le) tt
+all-done s w end n c (failing k items frames) q le h = rw (no-more s w end (c .at) (c .depth + k) items (h .3 .stands) le) tt
+all-done s w end n c (leaving items) q le h = rw (no-more s w end (c .at) (h .1 .0) items (h .1 .1) le) tt
+all-done s w end n c (seeking place f se k items frames) q le h = absurd (omega (arith, q, h .0))
 
 -- ---- from item to item
 
@@ -151,7 +151,9 @@ shows-more : (s w : List ℕ) (end n m : ℕ) (r : Next) (p : Pull) → n ≤ m 
 unfolding ShowsNext
 shows-more s w end n m Finished finished le h = h
 shows-more s w end n m Finished (want place op c₁ c₀) le h = h
+shows-more s w end n m Finished lost le h = h
 shows-more s w end n m (Want x) finished le h = h
+shows-more s w end n m (Want x) lost le h = h
 shows-more s w end n m (Want x) (want place op c₁ c₀) le h =
     record {
       at-place = h .at-place;
@@ -170,8 +172,7 @@ came-next s w w′ end n c r k e step from h =
     shows-more s w′ end 0 n k (pull from) (omega arith) (subst (λ (p : Pull). ShowsNext s w′ end 0 k p) (h .same) (rw e at (step (h .to) (h .shows))))
 
 pub came-end : (s w : List ℕ) (end n : ℕ) (c : Control) (from : Ctl) → c .mode < 4 → end ≤ c .at → Came s w end c from → ShowsNext s w end n Finished (pull from)
-unfolding ShowsNext
-came-end s w end n c from q le h = rw (sym (h .same) ∙ all-done s w end c (h .to) q le (h .shows)) tt
+came-end s w end n c from q le h = subst (λ (p : Pull). ShowsNext s w end n Finished p) (h .same) (all-done s w end n c (h .to) q le (h .shows))
 
 pub few-modes : (s w : List ℕ) (end : ℕ) (c : Control) (from : Ctl) → (c .mode ≡ 4 → ⊥) → ShowsCtl s w end c from → c .mode < 4
 unfolding ShowsCtl

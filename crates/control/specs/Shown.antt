@@ -8,7 +8,7 @@ use lib.ListN.{length, getD}
 use lib.Dec.{eqb}
 use Rattle.definitions.specs.Search.{Search}
 use Rattle.definitions.specs.Edit.{is, isNot, isEof, Op, onlyStep, test, begin, beginBack, find, findBack, findDelete}
-use Rattle.definitions.specs.Control.{Opener, times, forever, bare, branch, loop, Item, opens, otherwise, Frame, frame, Ctl, running, skipping, failing, leaving, seeking, Pull, finished, want, pull}
+use Rattle.definitions.specs.Control.{Opener, times, forever, bare, branch, loop, Item, opens, otherwise, Frame, frame, Ctl, running, skipping, failing, leaving, seeking, Pull, finished, want, lost, pull}
 use Rattle.matching.specs.Words.{Encodes}
 use Rattle.items.specs.Kinds.{findKind, findBackKind, ifKind, unlessKind, whileKind, untilKind, seekKind}
 use Rattle.items.specs.Words.{head, kindAt, placeAt, OpAt, SearchAt, TimesAt, OpenerAt, ItemAt, ItemsAt}
@@ -154,11 +154,14 @@ pub record ShowsWant (s w : List ℕ) (end n : ℕ) (x : Wanted) (place : ℕ) (
   pub yes-few : x .yes .lines ≤ n
   pub no-few : x .no .lines ≤ n
 
+-- where the definitions are lost, which no run of an accepted script is (theorems, Frames), the items are taken to be at their end
 unfoldable pub ShowsNext : List ℕ → List ℕ → ℕ → ℕ → Next → Pull → Type 0
 ShowsNext s w end n Finished finished = Unit {0}
 ShowsNext s w end n Finished (want place op c₁ c₀) = ⊥
+ShowsNext s w end n Finished lost = Unit {0}
 ShowsNext s w end n (Want x) finished = ⊥
 ShowsNext s w end n (Want x) (want place op c₁ c₀) = ShowsWant s w end n x place op c₁ c₀
+ShowsNext s w end n (Want x) lost = ⊥
 
 -- where the run goes on without a step, further on in the items; what comes next from there is what comes next from `from`
 pub record Onward (s w : List ℕ) (end at : ℕ) (c : Control) (from : Ctl) : Type 0 where

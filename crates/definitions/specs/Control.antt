@@ -41,10 +41,13 @@ pub data Ctl : Type 0 where
   leaving : List Item → Ctl
   seeking : ℕ → Seek → Search → ℕ → List Item → List Frame → Ctl
 
--- what comes next: the script's end; or a step: its place, what it asks of the editor, and how to go on after the answer true or false
+-- What comes next: the script's end; or a step: its place, what it asks of the editor, and how to go on after the answer true or false. `lost` is
+-- a close, bracket or ELSE without its body, or a close that is not there: no run of an accepted script comes to it (theorems, Frames:
+-- frames-suffice).
 pub data Pull : Type 0 where
   finished : Pull
   want : ℕ → Op → Ctl → Ctl → Pull
+  lost : Pull
 
 -- a step after which the run goes on in one way
 unfoldable pub wantOne : ℕ → Op → Ctl → Pull
@@ -88,29 +91,29 @@ lookOp deleting se k = findDelete se k
 unfoldable mutual
   unfolding bodyStart bodyEnd leaveTo wantOne beginOp
 
-  -- at items; that no frame is missing at a bracket, close or ELSE is a theorem (theorems, Frames: frames-suffice)
+  -- at items
   pub pullAt : List Item → List Frame → Pull
   pullAt [] frames = finished
   pullAt (simple at op ∷ items) frames = wantOne at op (running items frames)
   pullAt (seek at s se ∷ items) frames = wantOne at (beginOp s) (seeking at s se 0 items frames)
   pullAt (opens at o ∷ items) frames = let skip = pullAfter items 1 frames in bodyStart o at items frames skip
-  pullAt (bracket ∷ items) [] = finished
+  pullAt (bracket ∷ items) [] = lost
   pullAt (bracket ∷ items) (frame g at o body ∷ frames) = pullAt items (frame true at o body ∷ frames)
-  pullAt (close ∷ items) [] = finished
+  pullAt (close ∷ items) [] = lost
   pullAt (close ∷ items) (frame g at o body ∷ frames) = let skip = pullAt items frames in bodyEnd o g at body items frames skip
-  pullAt (otherwise ∷ items) [] = finished
+  pullAt (otherwise ∷ items) [] = lost
   pullAt (otherwise ∷ items) (f ∷ frames) = pullAfter items 1 frames
   pullAt (leave at ∷ items) frames = wantOne at onlyStep (leaveTo 0 items frames)
   pullAt (lineEnd ∷ items) frames = pullAt items frames
 
   -- after the kth close
   pub pullAfter : List Item → ℕ → List Frame → Pull
-  pullAfter [] k frames = finished
+  pullAfter [] k frames = lost
   pullAfter (simple at op ∷ items) k frames = pullAfter items k frames
   pullAfter (seek at s se ∷ items) k frames = pullAfter items k frames
   pullAfter (opens at o ∷ items) k frames = pullAfter items (suc k) frames
   pullAfter (bracket ∷ items) k frames = pullAfter items k frames
-  pullAfter (close ∷ items) zero frames = pullAt items frames
+  pullAfter (close ∷ items) zero frames = lost
   pullAfter (close ∷ items) (suc zero) frames = pullAt items frames
   pullAfter (close ∷ items) (suc (suc k)) frames = pullAfter items (suc k) frames
   pullAfter (otherwise ∷ items) k frames = pullAfter items k frames
@@ -119,15 +122,15 @@ unfoldable mutual
 
 -- at the ELSE, or after the close, of a test that failed, k bodies deep; the group after ELSE is run as a body without rounds
 unfoldable pub pullElse : List Item → ℕ → List Frame → Pull
-pullElse [] k frames = finished
+pullElse [] k frames = lost
 pullElse (simple at op ∷ items) k frames = pullElse items k frames
 pullElse (seek at s se ∷ items) k frames = pullElse items k frames
 pullElse (opens at o ∷ items) k frames = pullElse items (suc k) frames
 pullElse (bracket ∷ items) k frames = pullElse items k frames
-pullElse (close ∷ items) zero frames = pullAt items frames
+pullElse (close ∷ items) zero frames = lost
 pullElse (close ∷ items) (suc zero) frames = pullAt items frames
 pullElse (close ∷ items) (suc (suc k)) frames = pullElse items (suc k) frames
-pullElse (otherwise ∷ items) zero frames = pullAt items (frame false 0 bare items ∷ frames)
+pullElse (otherwise ∷ items) zero frames = lost
 pullElse (otherwise ∷ items) (suc zero) frames = pullAt items (frame false 0 bare items ∷ frames)
 pullElse (otherwise ∷ items) (suc (suc k)) frames = pullElse items (suc (suc k)) frames
 pullElse (leave at ∷ items) k frames = pullElse items k frames

@@ -14,7 +14,7 @@ use Rattle.definitions.specs.Editor.{journal, furthest}
 use Rattle.definitions.specs.Reading.{opening}
 use Rattle.definitions.specs.StepProgram.{RunState, state, textOf, Out, on, edited, halt}
 use Rattle.definitions.specs.Edit.{Op, step}
-use Rattle.definitions.specs.Control.{Item, Ctl, running, Pull, finished, want, pull}
+use Rattle.definitions.specs.Control.{Item, Ctl, running, Pull, finished, want, lost, pull}
 use Rattle.definitions.specs.Script.{Script, items, refusedAt, readScript}
 
 -- how a run ends: number, steps, place, and the last state
@@ -30,10 +30,12 @@ unfoldable pub endPlace : ℕ → ℕ → ℕ
 endPlace zero at = 0
 endPlace (suc n) at = at
 
--- the budget is spent: "The run stops when its next step would exceed the budget" (29), at the place of that step (R27); done where none is wanted (R28)
+-- the budget is spent: "The run stops when its next step would exceed the budget" (29), at the place of that step (R27); done where none is wanted
+-- (R28); `lost` never comes
 unfoldable pub spent : ℕ → RunState → Pull → End
 spent steps s finished = end 0 steps 0 s
 spent steps s (want at op c₁ c₀) = end 29 steps at s
+spent steps s lost = end 0 steps 0 s
 
 -- after a step; `go` is the run with what is left of the budget
 unfoldable pub stepped : (Ctl → RunState → Reads End) → ℕ → ℕ → Ctl → Ctl → Out → Reads End
@@ -41,10 +43,11 @@ stepped go steps at c₁ c₀ (on b s) = go (choose b c₁ c₀) s
 stepped go steps at c₁ c₀ (edited s) = go c₁ s
 stepped go steps at c₁ c₀ (halt n s) = ret (end n steps (endPlace n at) s)
 
--- the next step, if there is one
+-- the next step, if there is one; `lost` never comes
 unfoldable pub stepping : (Op → RunState → Reads Out) → (Ctl → RunState → Reads End) → ℕ → RunState → Pull → Reads End
 stepping take-step go steps s finished = ret (end 0 steps 0 s)
 stepping take-step go steps s (want at op c₁ c₀) = bind (take-step op s) (stepped go (suc steps) at c₁ c₀)
+stepping take-step go steps s lost = ret (end 0 steps 0 s)
 
 -- the run with so much of the budget left, `steps` being made; `take-step` is what one step does
 unfoldable pub run : (Op → RunState → Reads Out) → ℕ → ℕ → Ctl → RunState → Reads End

@@ -1,5 +1,6 @@
 -- The run's loop: where it stands after each round, and how it ends. Assumes nothing.
 use mathlib.Core.Path.{_≡_, refl, sym, ap, _∙_, subst}
+use mathlib.Core.Logic.{_⊎_, inl, inr}
 use mathlib.Core.Bool.{true, false, cond}
 use mathlib.Core.List.{List, []}
 use Prim.Native.Nat.{ℕ, zero, suc, _+_, _-_, _≤_}
@@ -10,7 +11,7 @@ use Rattle.definitions.specs.Given.{Given, Carried}
 use Rattle.definitions.specs.Editor.{Ed}
 use Rattle.definitions.specs.StepProgram.{RunState, state, textOf}
 use Rattle.definitions.specs.Edit.{Op, step}
-use Rattle.definitions.specs.Control.{Item, Ctl, running, Pull, finished, want, pull}
+use Rattle.definitions.specs.Control.{Item, Ctl, running, Pull, finished, want, lost, pull}
 use Rattle.definitions.specs.Run.{End, end, endPlace, spent, stepping, run}
 use Rattle.control.specs.declared.Control.{Control}
 use Rattle.control.specs.declared.Wanted.{Wanted}
@@ -48,19 +49,26 @@ pub record Wanting (s w : List ℕ) (last n : ℕ) (x : Wanted) (from : Ctl) : T
 
 -- ---- the script's end, and the budget
 
-run-out : (g : Given) (n steps : ℕ) (c : Ctl) (z : RunState) (t : Tape) → pull c ≡ finished → run (step g) n steps c z t ≡ (end 0 steps 0 z, t)
+-- no step is wanted
+abbrev NoneWanted : Pull → Type 0
+NoneWanted p = (p ≡ finished) ⊎ (p ≡ lost)
+
+run-out : (g : Given) (n steps : ℕ) (c : Ctl) (z : RunState) (t : Tape) → NoneWanted (pull c) → run (step g) n steps c z t ≡ (end 0 steps 0 z, t)
 unfolding run spent stepping
-run-out g zero steps c z t q = rw q
-run-out g (suc n) steps c z t q = rw q
+run-out g zero steps c z t (inl q) = rw q
+run-out g zero steps c z t (inr q) = rw q
+run-out g (suc n) steps c z t (inl q) = rw q
+run-out g (suc n) steps c z t (inr q) = rw q
 
 run-late : (g : Given) (steps : ℕ) (c : Ctl) (place : ℕ) (op : Op) (c₁ c₀ : Ctl) (z : RunState) (t : Tape) → pull c ≡ want place op c₁ c₀ → run (step g) 0 steps c z t ≡ (end 29 steps place z, t)
 unfolding run spent
 run-late g steps c place op c₁ c₀ z t q = rw q
 
-is-finished : (s w : List ℕ) (last n : ℕ) (x : Pull) → ShowsNext s w last n Finished x → x ≡ finished
+none-wanted : (s w : List ℕ) (last n : ℕ) (p : Pull) → ShowsNext s w last n Finished p → NoneWanted p
 unfolding ShowsNext
-is-finished s w last n finished h = refl
-is-finished s w last n (want place op c₁ c₀) h = absurd h
+none-wanted s w last n finished h = inl refl
+none-wanted s w last n lost h = inr refl
+none-wanted s w last n (want place op c₁ c₀) h = absurd h
 
 module _ {s table : List ℕ} {lends : Given} {budget last : ℕ} {w j : List ℕ} {c : Control} {st : State} {made : ℕ} {x : End × Tape} (g : Going s table lends budget last w j c st made x) where
   -- the state that it stands in
@@ -71,7 +79,7 @@ module _ {s table : List ℕ} {lends : Given} {budget last : ℕ} {w j : List �
   pub going-done : (k : List ℕ) (n : ℕ) (r : Next) → r ≡ Finished → ShowsNext s k last n r (pull (g .from)) → EndsAs j (record { number = 0; steps = made; place = 0; st = st }) x
   unfolding Ends textOf
   going-done k n r q h =
-      rw (← g .same, run-out lends (budget - made) made (g .from) at-state (g .rest) (is-finished s k last n (pull (g .from)) (rw q at h)))
+      rw (← g .same, run-out lends (budget - made) made (g .from) at-state (g .rest) (none-wanted s k last n (pull (g .from)) (rw q at h)))
       (refl, refl, refl, g .ready .shows)
 
   -- a step is wanted
@@ -81,6 +89,7 @@ module _ {s table : List ℕ} {lends : Given} {budget last : ℕ} {w j : List �
     where
       by : (p : Pull) → pull (g .from) ≡ p → ShowsNext s k last n (Want y) p → Wanting s k last n y (g .from)
       by finished is h = absurd h
+      by lost is h = absurd h
       by (want place op c₁ c₀) is h = record {
         op = op;
         c₁ = c₁;

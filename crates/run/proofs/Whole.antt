@@ -33,7 +33,7 @@ use Rattle.editor.proofs.Opening.{table-last}
 use Rattle.editor.proofs.Tables.{opens-table}
 use Rattle.run.specs.Answers.{valuesOf, outcomeWith, caseOf, refusedBy, Gives, Ran}
 use Rattle.run.specs.declared.Answer.{Answer as Answer-of}
-use Rattle.run.specs.Items.{Runnable, Ends, EndsAs}
+use Rattle.run.specs.Items.{Runnable, Ends, EndsAs, Opening}
 use Rattle.run.specs.declared.items.Ended.{Ended}
 use Rattle.run.specs.declared.Answer.the-variants.{Done, Stopped, Refused}
 
@@ -69,6 +69,12 @@ opening-point (l ∷ ls) = omega arith
 pub opened-ready : {j : List ℕ} {st : State} (table : List ℕ) → isTable table ≡ true → Opens j st (opening (unread (linesOf table)))
     → Ready table j st ((opening (unread (linesOf table))) .0) ((opening (unread (linesOf table))) .1)
 opened-ready table good h = record { shows = h; point = opening-point (linesOf table); old = opens-table table good }
+
+-- neither 7 nor 9
+opened-runs : (buffer table : List ℕ) → Opening table buffer → (budget : ℕ) (is : List Item)
+    → ranScript table budget (length buffer) (items is) ≡ ranItems (step (lent buffer)) budget is (linesOf table)
+unfolding ranScript ranTable lent
+opened-runs buffer table h budget is = rw (h .0, le-leb (openingLength (linesOf table)) (length buffer) (h .1))
 
 -- ---- the end
 
@@ -107,15 +113,19 @@ module _ (buffer j k : List ℕ) (r : Ended) (n : ℕ) (long : length j ≡ leng
       let z = closed (textOf s) t w in
       rw (a, b, c, w .furthest, z .0)
 
-  module _ (table : List ℕ) (budget : ℕ) (g : Given) (same : g ≡ lent buffer) (is : List Item)
+  module _ (table : List ℕ) (opens : Opening table buffer) (budget : ℕ) (g : Given) (same : g ≡ lent buffer) (is : List Item)
       (ends : EndsAs j r (run (step g) budget 0 (running is []) (state ((opening (unread (linesOf table))) .0) carried) ((opening (unread (linesOf table))) .1))) where
-    pub gives-done : r .number ≡ 0 → (r .number ≡ 0 → r .place ≡ 0) → Gives buffer (ranItems (step (lent buffer)) budget is (linesOf table)) (Done (r .steps) (r .st .furthest) n) k
+    pub gives-done : r .number ≡ 0 → (r .number ≡ 0 → r .place ≡ 0) → Gives buffer (ranScript table budget (length buffer) (items is)) (Done (r .steps) (r .st .furthest) n) k
     unfolding ranItems runItems bind outcomeWith valuesOf
-    gives-done none at = record { values = rw (none, at none) at (ended-outcome _ _ (rw same at ends)); case = ended-done _ _ (rw same at ends) none }
+    gives-done none at =
+        rw (opened-runs buffer table opens budget is)
+        record { values = rw (none, at none) at (ended-outcome _ _ (rw same at ends)); case = ended-done _ _ (rw same at ends) none }
 
-    pub gives-stopped : (r .number ≡ 0 → ⊥) → Gives buffer (ranItems (step (lent buffer)) budget is (linesOf table)) (Stopped (r .number) (r .steps) (r .st .furthest) n (r .place)) k
+    pub gives-stopped : (r .number ≡ 0 → ⊥) → Gives buffer (ranScript table budget (length buffer) (items is)) (Stopped (r .number) (r .steps) (r .st .furthest) n (r .place)) k
     unfolding ranItems runItems bind outcomeWith valuesOf
-    gives-stopped some = record { values = ended-outcome _ _ (rw same at ends); case = ended-stopped _ _ (rw same at ends) some }
+    gives-stopped some =
+        rw (opened-runs buffer table opens budget is)
+        record { values = ended-outcome _ _ (rw same at ends); case = ended-stopped _ _ (rw same at ends) some }
 
 -- ---- refusals
 
@@ -131,14 +141,9 @@ module _ (buffer table : List ℕ) (good : isTable table ≡ true) (n : ℕ) (li
   pub has-room : v ≡ true → openingLength (linesOf table) ≤ length buffer
   has-room is = leb-true (openingLength (linesOf table)) (length buffer) (room-as ∙ is)
 
-  module _ (budget : ℕ) (is : List Item) where
-    pub no-room : v ≡ false → Gives buffer (ranScript table budget (length buffer) (items is)) (Refused 9 0) buffer
-    unfolding ranScript ranTable
-    no-room q = refused buffer 9 0 _ (rw (good, room-as, q))
-
-    pub gives-script : v ≡ true → (r : Answer-of) (k : List ℕ) → Gives buffer (ranItems (step (lent buffer)) budget is (linesOf table)) r k → Gives buffer (ranScript table budget (length buffer) (items is)) r k
-    unfolding ranScript ranTable lent
-    gives-script q r k g = rw (good, room-as, q) g
+  pub no-room : (budget : ℕ) (is : List Item) → v ≡ false → Gives buffer (ranScript table budget (length buffer) (items is)) (Refused 9 0) buffer
+  unfolding ranScript ranTable
+  no-room budget is q = refused buffer 9 0 _ (rw (good, room-as, q))
 
 pub not-table : (buffer table : List ℕ) (budget : ℕ) (is : List Item) → isTable table ≡ false → Gives buffer (ranScript table budget (length buffer) (items is)) (Refused 7 0) buffer
 unfolding ranScript

@@ -13,7 +13,7 @@ use Rattle.definitions.specs.StepProgram.{state, textOf}
 use Rattle.definitions.specs.Edit.{step}
 use Rattle.definitions.specs.Control.{Item, running}
 use Rattle.definitions.specs.Script.{items as items-of}
-use Rattle.definitions.specs.Run.{End, end, run, openingLength, ranItems, ranScript}
+use Rattle.definitions.specs.Run.{End, end, run, openingLength, ranScript}
 use Rattle.theorems.specs.GoodItems.{goodOp}
 use Rattle.theorems.specs.Runs.{ItemsOf}
 use Rattle.control.specs.Items.{Startable}
@@ -53,12 +53,8 @@ CanRun script w last budget = ((items : List Item) × Runnable script w last ite
 abbrev pub Opening : List ℕ → List ℕ → Type 0
 Opening table buffer = (isTable table ≡ true) × (openingLength (linesOf table) ≤ length buffer)
 
--- what a function answers that ran the items below `last`, and the bytes of the journal buffer afterwards: those of the run over the table's lines
-abbrev pub GivesTable : List ℕ → List ℕ → ℕ → ℕ → List ℕ → List ℕ → Answer → List ℕ → Type 0
-GivesTable script w last budget table buffer r bytes =
-    (is : List Item) → Runnable script w last is → Gives buffer (ranItems (step (lent buffer)) budget is (linesOf table)) r bytes
-
--- the same of any bytes as the table, 7 and 9 tested
-abbrev pub GivesScript : List ℕ → List ℕ → ℕ → ℕ → List ℕ → List ℕ → Answer → List ℕ → Type 0
-GivesScript script w last budget table buffer r bytes =
+-- what a function answers that ran the items below `last` on any bytes as the table, and the bytes of the journal buffer afterwards: 7 and 9 come
+-- first, and neither where `Opening` holds
+abbrev pub GivesRun : List ℕ → List ℕ → ℕ → ℕ → List ℕ → List ℕ → Answer → List ℕ → Type 0
+GivesRun script w last budget table buffer r bytes =
     (is : List Item) → Runnable script w last is → Gives buffer (ranScript table budget (length buffer) (items-of is)) r bytes

@@ -7,7 +7,7 @@ ghost use Prim.Native.Nat.{_+_, _*_, _≤_};
 ghost use lib.ListN.{length};
 ghost use lib.Dec.{leb};
 ghost use Rattle.run.specs.Answers.{refusedBy, Ran};
-ghost use Rattle.run.specs.Items.{CanRun, Opening, GivesTable, GivesScript};
+ghost use Rattle.run.specs.Items.{CanRun, Opening, GivesRun};
 use answers::Answer as Read;
 use answers::number;
 use answers::place;
@@ -58,7 +58,7 @@ fn run_table(
     journal: &mut [u8],
 ) -> Answer
     requires { ⌜ Opening (now table) (now journal) × CanRun (now script) (now work) end budget ⌝ }
-    ensures { λ r. ⌜ GivesTable (now (script .entry)) (now (work .entry)) end budget (now (table .entry)) (now (journal .entry)) r (now (journal .exit)) ⌝ }
+    ensures { λ r. ⌜ GivesRun (now (script .entry)) (now (work .entry)) end budget (now (table .entry)) (now (journal .entry)) r (now (journal .exit)) ⌝ }
 {
     let st = editor::ends::open_journal(table, journal);
     let ended = run_items(script, table, work, end, budget, journal, st);
@@ -93,7 +93,7 @@ fn run_decoded(
     journal: &mut [u8],
 ) -> Answer
     requires { ⌜ CanRun (now script) (now work) end budget ⌝ }
-    ensures { λ r. ⌜ GivesScript (now (script .entry)) (now (work .entry)) end budget (now (table .entry)) (now (journal .entry)) r (now (journal .exit)) ⌝ }
+    ensures { λ r. ⌜ GivesRun (now (script .entry)) (now (work .entry)) end budget (now (table .entry)) (now (journal .entry)) r (now (journal .exit)) ⌝ }
 {
     let form = text::table_form(table);
     let Form::Lines(lines) = form else {

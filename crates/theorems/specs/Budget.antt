@@ -15,7 +15,7 @@ use Rattle.definitions.specs.Editor.{Ed}
 use Rattle.definitions.specs.Reading.{opening}
 use Rattle.definitions.specs.StepProgram.{RunState, state, Out, on, edited, halt}
 use Rattle.definitions.specs.Edit.{Op, step}
-use Rattle.definitions.specs.Control.{Item, Ctl, running, Pull, finished, want, pull}
+use Rattle.definitions.specs.Control.{Item, Ctl, running, Pull, finished, want, lost, pull}
 use Rattle.definitions.specs.Script.{Script, items, refusedAt, readScript}
 use Rattle.definitions.specs.Run.{End, end, choose, spent, stepped, stepping, run, runItems, Answer, refusal, answerOf, ranItems, openingLength, workLength}
 use Rattle.definitions.specs.Run.{ranTable, ranScript, runAnswer, answerNumber, answerSteps}
@@ -54,11 +54,13 @@ module _ (take-step : Op → RunState → Reads Out) (go more : Ctl → RunState
   unfolding stepping bind
   stepping-settled steps s finished t = λ x. refl
   stepping-settled steps s (want at op c₁ c₀) t = stepped-settled (suc steps) at c₁ c₀ ((take-step op s t) .0) ((take-step op s t) .1)
+  stepping-settled steps s lost t = λ x. refl
 
 spent-settled : (take-step : Op → RunState → Reads Out) (go : Ctl → RunState → Reads End) (steps : ℕ) (s : RunState) (x : Pull) (t : Tape) → Settled (spent steps s x, t) (stepping take-step go steps s x t)
 unfolding spent stepping endNumber
 spent-settled take-step go steps s finished t = λ x. refl
 spent-settled take-step go steps s (want at op c₁ c₀) t = λ x. absurd (x refl)
+spent-settled take-step go steps s lost t = λ x. refl
 
 run-settled : (take-step : Op → RunState → Reads Out) (budget steps : ℕ) (c : Ctl) (s : RunState) (t : Tape) → Settled (run take-step budget steps c s t) (run take-step (suc budget) steps c s t)
 unfolding run
@@ -126,11 +128,13 @@ module _ (size total : ℕ) (go : Ctl → RunState → Reads End) (h : (c : Ctl)
   stepping-in-budget steps s finished t le = (omega (arith, le), λ q. absurd (omega (arith, q)))
   stepping-in-budget steps s (want at op c₁ c₀) t le =
       stepped-in-budget (suc steps) at c₁ c₀ ((step (given (bytes size)) op s t) .0) ((step (given (bytes size)) op s t) .1) le (step-number (given (bytes size)) op s t)
+  stepping-in-budget steps s lost t le = (omega (arith, le), λ q. absurd (omega (arith, q)))
 
 spent-in-budget : (total steps : ℕ) → steps ≡ total → (s : RunState) (x : Pull) → InBudget total (spent steps s x)
 unfolding spent endNumber endSteps
 spent-in-budget total steps h s finished = (omega (arith, h), λ q. h)
 spent-in-budget total steps h s (want at op c₁ c₀) = (omega (arith, h), λ q. h)
+spent-in-budget total steps h s lost = (omega (arith, h), λ q. h)
 
 run-in-budget : (size budget steps total : ℕ) → steps + budget ≡ total → (c : Ctl) (s : RunState) (t : Tape) → InBudget total ((run (step (given (bytes size))) budget steps c s t) .0)
 unfolding run

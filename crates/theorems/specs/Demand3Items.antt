@@ -14,7 +14,7 @@ use Rattle.definitions.specs.Editor.{Ed, journal, furthest, sources, records}
 use Rattle.definitions.specs.Reading.{opening}
 use Rattle.definitions.specs.StepProgram.{RunState, state, textOf, Out, on, edited, halt}
 use Rattle.definitions.specs.Edit.{step}
-use Rattle.definitions.specs.Control.{Item, Ctl, running, Pull, finished, want, pull}
+use Rattle.definitions.specs.Control.{Item, Ctl, running, Pull, finished, want, lost, pull}
 use Rattle.definitions.specs.Run.{End, end, choose, endPlace, spent, stepped, stepping, run, runItems, Answer, answerOf, ranItems}
 use Rattle.definitions.specs.Run.{answerNumber, answerSteps, answerFurthest, answerPlace, answerRecords}
 use Rattle.theorems.specs.Reading.{Local, metEof, readOnly, Faithful, never, ret-faithful, bind-faithful}
@@ -34,6 +34,7 @@ spent-old : (steps : ℕ) (s : RunState) (x : Pull) → oldEnd (spent steps s x)
 unfolding oldEnd spent
 spent-old steps s finished = refl
 spent-old steps s (want at op c₁ c₀) = refl
+spent-old steps s lost = refl
 
 module _ (size : ℕ) (go free : Ctl → RunState → Reads End) (h : (c : Ctl) (s : RunState) → Faithful (go c s) (free c s) oldEnd fullEnd (oldState s)) where
   stepped-faithful : (steps at : ℕ) (c₁ c₀ : Ctl) (o : Out) → Faithful (stepped go steps at c₁ c₀ o) (stepped free steps at c₁ c₀ o) oldEnd fullEnd (oldOut o)
@@ -54,6 +55,7 @@ module _ (size : ℕ) (go free : Ctl → RunState → Reads End) (h : (c : Ctl) 
   stepping-faithful steps s (want at op c₁ c₀) =
       bind-faithful (step (given (bytes size)) op s) (stepFree op s) (stepped go (suc steps) at c₁ c₀) (stepped free (suc steps) at c₁ c₀) oldOut fullOut oldEnd fullEnd (oldState s)
       (stepped-full (suc steps) at c₁ c₀) (step-faithful size op s) (stepped-faithful (suc steps) at c₁ c₀)
+  stepping-faithful steps s lost = ret-faithful (end 0 steps 0 s) oldEnd fullEnd (oldState s) refl
 
 run-faithful : (size budget steps : ℕ) (c : Ctl) (s : RunState) → Faithful (run (step (given (bytes size))) budget steps c s) (run stepFree budget steps c s) oldEnd fullEnd (oldState s)
 unfolding run

@@ -8,7 +8,7 @@ use Rattle.definitions.specs.Given.{carried}
 use Rattle.definitions.specs.Reading.{opening}
 use Rattle.definitions.specs.StepProgram.{RunState, state, Out, on, edited, halt}
 use Rattle.definitions.specs.Edit.{Test, Op, onlyStep, test, begin, beginBack, find, findBack, findDelete}
-use Rattle.definitions.specs.Control.{Seek, forward, backward, deleting, Opener, times, forever, bare, branch, loop, Item, simple, seek, opens, bracket, close, otherwise, leave, lineEnd, Frame, frame, Ctl, running, skipping, failing, leaving, seeking, Pull, finished, want, wantOne, bodyStart, bodyEnd, leaveTo, beginOp, lookOp, pullAt, pullAfter, pullElse, pullLine, pull}
+use Rattle.definitions.specs.Control.{Seek, forward, backward, deleting, Opener, times, forever, bare, branch, loop, Item, simple, seek, opens, bracket, close, otherwise, leave, lineEnd, Frame, frame, Ctl, running, skipping, failing, leaving, seeking, Pull, finished, want, lost, wantOne, bodyStart, bodyEnd, leaveTo, beginOp, lookOp, pullAt, pullAfter, pullElse, pullLine, pull}
 use Rattle.definitions.specs.Run.{End, end, choose, spent, stepped, stepping, run, runItems}
 use Rattle.theorems.specs.Each.{Each, each-all}
 
@@ -64,6 +64,7 @@ module _ (Q : Op → Type 0) (P : ℕ → Op → Ctl → Ctl → Type 0) where
   abbrev pub PullOf : Pull → Type 0
   PullOf finished = Unit {0}
   PullOf (want at op c₁ c₀) = P at op c₁ c₀ × CtlOf Q c₁ × CtlOf Q c₀
+  PullOf lost = Unit {0}
 
 module _ (Q R : Op → Type 0) (f : (op : Op) → Q op → R op) where
   item-weaken : (i : Item) → ItemOf Q i → ItemOf R i
@@ -158,7 +159,7 @@ module _ (Q : Op → Type 0) (P : ℕ → Op → Ctl → Ctl → Type 0) (asking
     pullAfter-of (seek at s se ∷ items) k frames i f = pullAfter-of items k frames (i .1) f
     pullAfter-of (opens at o ∷ items) k frames i f = pullAfter-of items (suc k) frames (i .1) f
     pullAfter-of (bracket ∷ items) k frames i f = pullAfter-of items k frames (i .1) f
-    pullAfter-of (close ∷ items) zero frames i f = pullAt-of items frames (i .1) f
+    pullAfter-of (close ∷ items) zero frames i f = tt
     pullAfter-of (close ∷ items) (suc zero) frames i f = pullAt-of items frames (i .1) f
     pullAfter-of (close ∷ items) (suc (suc k)) frames i f = pullAfter-of items (suc k) frames (i .1) f
     pullAfter-of (otherwise ∷ items) k frames i f = pullAfter-of items k frames (i .1) f
@@ -172,10 +173,10 @@ module _ (Q : Op → Type 0) (P : ℕ → Op → Ctl → Ctl → Type 0) (asking
   pullElse-of (seek at s se ∷ items) k frames i f = pullElse-of items k frames (i .1) f
   pullElse-of (opens at o ∷ items) k frames i f = pullElse-of items (suc k) frames (i .1) f
   pullElse-of (bracket ∷ items) k frames i f = pullElse-of items k frames (i .1) f
-  pullElse-of (close ∷ items) zero frames i f = pullAt-of items frames (i .1) f
+  pullElse-of (close ∷ items) zero frames i f = tt
   pullElse-of (close ∷ items) (suc zero) frames i f = pullAt-of items frames (i .1) f
   pullElse-of (close ∷ items) (suc (suc k)) frames i f = pullElse-of items (suc k) frames (i .1) f
-  pullElse-of (otherwise ∷ items) zero frames i f = pullAt-of items (frame false 0 bare items ∷ frames) (i .1) (i .1, f)
+  pullElse-of (otherwise ∷ items) zero frames i f = tt
   pullElse-of (otherwise ∷ items) (suc zero) frames i f = pullAt-of items (frame false 0 bare items ∷ frames) (i .1) (i .1, f)
   pullElse-of (otherwise ∷ items) (suc (suc k)) frames i f = pullElse-of items (suc (suc k)) frames (i .1) f
   pullElse-of (leave at ∷ items) k frames i f = pullElse-of items k frames (i .1) f
@@ -260,6 +261,7 @@ module _ (Q : Op → Type 0) (inner : Inner Q) (I : RunState → Tape → Type 0
   unfolding spent
   spent-ends steps s finished t h = done s t h
   spent-ends steps s (want at op c₁ c₀) t h = late s t h
+  spent-ends steps s lost t h = done s t h
 
   module _ (go : Ctl → RunState → Reads End) (ih : (c : Ctl) (s : RunState) (t : Tape) → CtlOf Q c → I s t → EndOf J ((go c s t) .0) ((go c s t) .1)) where
     stepped-ends : (steps at : ℕ) (c₁ c₀ : Ctl) (o : Out) (t : Tape) → CtlOf Q c₁ → CtlOf Q c₀ → StepOr I J o t
@@ -275,6 +277,7 @@ module _ (Q : Op → Type 0) (inner : Inner Q) (I : RunState → Tape → Type 0
     stepping-ends steps s finished t h i = done s t i
     stepping-ends steps s (want at op c₁ c₀) t h i =
         stepped-ends (suc steps) at c₁ c₀ ((take-step op s t) .0) ((take-step op s t) .1) (h .1) (h .2) (keeps op s t (h .0) i)
+    stepping-ends steps s lost t h i = done s t i
 
   pub run-ends : (budget steps : ℕ) (c : Ctl) (s : RunState) (t : Tape) → CtlOf Q c → I s t
       → EndOf J ((run take-step budget steps c s t) .0) ((run take-step budget steps c s t) .1)

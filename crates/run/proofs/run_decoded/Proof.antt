@@ -8,7 +8,7 @@ use Rattle.definitions.specs.Bytes.{linesOf}
 use Rattle.definitions.specs.Table.{isTable}
 use Rattle.theorems.specs.JournalBytes.{table-short}
 use Rattle.text.proofs.Forms.{table-is, table-is-not}
-use Rattle.run.proofs.Whole.{not-table, no-room, has-room, gives-script}
+use Rattle.run.proofs.Whole.{not-table, no-room, has-room}
 use Rattle.run.proofs.run_decoded.Statement.{statement}
 use Rattle.run.proofs.run_decoded.Tie as tie
 
@@ -44,9 +44,7 @@ same-length-2 : tie.Need-same-length-2
 same-length-2 c = search needs
 
 returns-2 : tie.Need-returns-2
-returns-2 c = λ is d.
-    let f = formed (c .before .before .before .before .before .before .before .before .before) in
-    gives-script _ _ (f .0) _ (f .1) _ (c .before .before .before .before .before .before .before .before .opening-fits .ensures) _ is (c .before .before .before .before .before .before .before .if1 .taken) _ _ (c .before .before .before .before .run-table .ensures is d)
+returns-2 c = c .before .before .before .before .run-table .ensures
 
 returns-3 : tie.Need-returns-3
 returns-3 c = λ is d.

@@ -26,8 +26,9 @@ same-length-2 c = search needs
 
 returns : tie.Need-returns
 returns c = λ is d.
-    gives-done _ _ _ _ _ (c .before .before .before .before .before .before .before .before .before .before .run-items .kept .1 .1 .1 .1 .1 .0 ∙ c .before .before .before .before .before .before .before .before .before .before .before .before .before .before .before .open-journal .kept .1 .0) (c .before .before .before .close-journal .ensures) _ _ _ (lent-same _ _ (c .before .before .before .before .before .before .before .before .before .before .before .before .before .before .before .open-journal .kept .1 .0)) is
-    (c .before .before .before .before .before .before .before .before .before .before .run-items .ensures .0 is _ _ _ d (opened-ready _ (c .before .before .before .before .before .before .before .before .before .before .before .before .before .before .before .before .before .before .before .before .before .pre .0 .0) (c .before .before .before .before .before .before .before .before .before .before .before .before .before .before .before .open-journal .ensures)))
+    let p = c .before .before .before .before .before .before .before .before .before .before .before .before .before .before .before .before .before .before .before .before .before .pre in
+    gives-done _ _ _ _ _ (c .before .before .before .before .before .before .before .before .before .before .run-items .kept .1 .1 .1 .1 .1 .0 ∙ c .before .before .before .before .before .before .before .before .before .before .before .before .before .before .before .open-journal .kept .1 .0) (c .before .before .before .close-journal .ensures) _ (p .0) _ _ (lent-same _ _ (c .before .before .before .before .before .before .before .before .before .before .before .before .before .before .before .open-journal .kept .1 .0)) is
+    (c .before .before .before .before .before .before .before .before .before .before .run-items .ensures .0 is _ _ _ d (opened-ready _ (p .0 .0) (c .before .before .before .before .before .before .before .before .before .before .before .before .before .before .before .open-journal .ensures)))
     (c .if1 .taken) (c .before .before .before .before .before .before .before .before .before .before .run-items .ensures .1)
 
 same-length-3 : tie.Need-same-length-3
@@ -38,8 +39,9 @@ same-length-4 c = search needs
 
 returns-2 : tie.Need-returns-2
 returns-2 c = λ is d.
-    gives-stopped _ _ _ _ _ (c .before .before .before .before .before .before .before .before .before .before .run-items .kept .1 .1 .1 .1 .1 .0 ∙ c .before .before .before .before .before .before .before .before .before .before .before .before .before .before .before .open-journal .kept .1 .0) (c .before .before .before .close-journal .ensures) _ _ _ (lent-same _ _ (c .before .before .before .before .before .before .before .before .before .before .before .before .before .before .before .open-journal .kept .1 .0)) is
-    (c .before .before .before .before .before .before .before .before .before .before .run-items .ensures .0 is _ _ _ d (opened-ready _ (c .before .before .before .before .before .before .before .before .before .before .before .before .before .before .before .before .before .before .before .before .before .pre .0 .0) (c .before .before .before .before .before .before .before .before .before .before .before .before .before .before .before .open-journal .ensures)))
+    let p = c .before .before .before .before .before .before .before .before .before .before .before .before .before .before .before .before .before .before .before .before .before .pre in
+    gives-stopped _ _ _ _ _ (c .before .before .before .before .before .before .before .before .before .before .run-items .kept .1 .1 .1 .1 .1 .0 ∙ c .before .before .before .before .before .before .before .before .before .before .before .before .before .before .before .open-journal .kept .1 .0) (c .before .before .before .close-journal .ensures) _ (p .0) _ _ (lent-same _ _ (c .before .before .before .before .before .before .before .before .before .before .before .before .before .before .before .open-journal .kept .1 .0)) is
+    (c .before .before .before .before .before .before .before .before .before .before .run-items .ensures .0 is _ _ _ d (opened-ready _ (p .0 .0) (c .before .before .before .before .before .before .before .before .before .before .before .before .before .before .before .open-journal .ensures)))
     (c .if1 .left)
 
 pub run-table-spec : {M : Type 1} → statement M
