@@ -24,6 +24,7 @@ def season_table():
 # name, table, script for zed, for sed, for ed
 def jobs(lines):
     every = table(lines)
+    even = table(lines - lines % 2)
     near = f"R{lines - 5:05d}"
     stops = 16384 // 54
     return [
@@ -33,6 +34,10 @@ def jobs(lines):
          f"F/{near}/; E/90/120/\n", f"/{near}/s/90/120/\n", f"/{near}/s/90/120/\nw OUT\nq\n"),
         ("delete a third of the lines", every,
          "RPT (D; IFEOF AGP; N; IFEOF AGP; N; IFEOF AGP)\n", "1~3d\n", None),
+        ("cut every line in two", every,
+         "RPT (SA/ open/; N; IFEOF AGP)\n", "s/ open/&\\n/\n", "1,$s/ open/&\\\n/\nw OUT\nq\n"),
+        ("join every two lines", even,
+         "RPT (CL/ /; N; IFEOF AGP)\n", "N;s/\\n/ /\n", "g/[13579] open/s/$/ /\\\n.,+1j\nw OUT\nq\n"),
         ("the season's script over 16 KB", season_table(),
          f"{stops}(F B/R02/; E/90/120/; F B/R03/; D; IS/R04 open 07:15 60/)\n",
          "/^R02/s/90/120/\n/^R03/c\\\nR04 open 07:15 60\n", "g/^R02/s/90/120/\ng/^R03/s/.*/R04 open 07:15 60/\nw OUT\nq\n"),
@@ -75,7 +80,7 @@ def compare(folder, zedrun, lines):
 def grows(folder, zedrun, few, many):
     print(f"\n{'one run, microseconds':32} {few:>8} {many:>8} {'grows by':>9}   lines grow by {many / few:.1f}")
     old, script = os.path.join(folder, "OLD"), os.path.join(folder, "ZED")
-    for (name, t1, z1, _, _), (_, t2, z2, _, _) in list(zip(jobs(few), jobs(many)))[:3]:
+    for (name, t1, z1, _, _), (_, t2, z2, _, _) in list(zip(jobs(few), jobs(many)))[:5]:
         took = []
         for text, z in ((t1, z1), (t2, z2)):
             write(old, text), write(script, z)

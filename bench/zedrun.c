@@ -30,7 +30,7 @@ int main(int argc, char **argv)
         return 3;
     work_length = 2 * script.length + 64;
     work = malloc(work_length * sizeof *work);
-    if (work == NULL || make_bytes(&journal, 2 * table.length + 65536) < 0)
+    if (work == NULL || make_bytes(&journal, table.length / 2 * 5 + 65536) < 0)
         return 3;
     for (int i = argc > 3 ? atoi(argv[3]) : 1; i > 0; i--) {
         double start = now(), took;

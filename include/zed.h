@@ -40,12 +40,13 @@ enum {
     ZED_JOURNAL_FULL = 26, /* the journal would be longer than its buffer */
     ZED_POINT_AT_END = 27, /* the window is at the line's end, or at its start */
     ZED_LINE_BEFORE = 28,  /* the last line to delete is before the first */
-    ZED_BUDGET_SPENT = 29  /* the next step would exceed the budget */
+    ZED_BUDGET_SPENT = 29, /* the next step would exceed the budget */
+    ZED_NO_NEXT = 30       /* there is no next line to join to the current one */
 };
 
 /* What a run comes to. */
 typedef struct zed_answer {
-    uint64_t number;   /* one of the numbers above: 0 done; 1 to 9 refused; 20 to 29 stopped */
+    uint64_t number;   /* one of the numbers above: 0 done; 1 to 9 refused; 20 to 30 stopped */
     uint64_t steps;    /* the steps made; refused: 0 */
     uint64_t furthest; /* the highest source line read, the end-of-file line counting as lines + 1; refused: 0 */
     uint64_t length;   /* the journal's length in bytes; refused: 0 */

@@ -34,6 +34,7 @@ static const struct meaning meanings[] = {
     { ZED_POINT_AT_END, "The window is at the line's end, or at its start.", TABLE_OR_SCRIPT },
     { ZED_LINE_BEFORE, "The last line to delete stands before the first.", TABLE_OR_SCRIPT },
     { ZED_BUDGET_SPENT, "The steps allowed are spent: the script may run for ever, or -b is too small.", AUTHOR },
+    { ZED_NO_NEXT, "There is no next line to join to the current one.", TABLE_OR_SCRIPT },
 };
 
 void say_number(FILE *out, uint64_t number)

@@ -1,6 +1,7 @@
 /*
- * Runs the editor at each limit of document 01 and one past it: lines of 255 and 256 bytes, a journal buffer exact and one short for each kind
- * of command that lengthens, the largest table and script, the deepest nesting, the work area, every budget of a run.
+ * Runs the editor at each limit of documents 01 and 02 (wish 1) and one past it: lines of 255 and 256 bytes, a journal buffer exact and one short
+ * for each kind of command that lengthens, lines cut and joined at their ends and at the table's, the largest table and script, the deepest
+ * nesting, the work area, every budget of a run.
  */
 #include <stdio.h>
 #include <stdlib.h>
@@ -64,6 +65,13 @@ static void wants(const char *name, struct outcome o, uint64_t number, uint64_t 
     free(o.journal);
 }
 
+/* The same, and this is the furthest line read. */
+static void wants_read(const char *name, struct outcome o, uint64_t number, uint64_t furthest, uint64_t place, const char *journal) {
+    if (o.answer.furthest != furthest) printf("%s: furthest %llu\n", name, (unsigned long long)o.answer.furthest);
+    check(name, o.answer.furthest == furthest);
+    wants(name, o, number, place, journal);
+}
+
 /* `count` times `part`, and `end` after it. */
 static char *repeat(const char *part, size_t count, const char *end) {
     size_t n = strlen(part);
@@ -111,6 +119,12 @@ static void journal_rooms(void) {
         { "I *\nx\nZ\n", "==abc\n==d\n", 0 },     { "R\nx\nZ\n", "==abc\n==d\n", 0 },     { "R 1 2\nx\nZ\n", "==abc\n==d\n", 0 },
         { "R 2 *\nx\ny\nZ\n", "==abc\n==d\n", 0 }, { "%;A/b/xx/\n", "<>abc\nAbc\n==d\n", 2 }, { "%;R\nlonger\nZ\n", "<>abc\nAbc\n==d\n", 2 },
         { "IS/x/;P;E/x/yz/\n", "++x\n==abc\n==d\n", 8 }, { "IS/x/;P;R\nlonger\nZ\n", "++x\n==abc\n==d\n", 8 },
+        { "SA/b/\n", "==abc\n==d\n", 0 },        { "SB/b/\n", "==abc\n==d\n", 0 },      { "SA//\n", "==abc\n==d\n", 0 },
+        { "SA E//\n", "==abc\n==d\n", 0 },       { "%;SA/b/\n", "<>abc\nAbc\n==d\n", 2 }, { "IS/xyz/;P;SB/z/\n", "++xyz\n==abc\n==d\n", 10 },
+        { "CL//\n", "==abc\n==d\n", 0 },         { "CL/-/\n", "==abc\n==d\n", 0 },      { "%;CL/-/\n", "<>abc\nAbc\n==d\n", 2 },
+        /* CL takes a changed line or an inserted one, and so frees bytes */
+        { "N;E/d/dd/;P;CL//\n", "==abc\n<>d\ndd\n", 12 }, { "N;IS/xx/;2P;CL//\n", "==abc\n++xx\n==d\n", 12 },
+        { "IS/x/;IS/yy/;2P;CL/12345/\n", "++x\n++yy\n==abc\n==d\n", 16 }, { "IS/x/;P;CL/1234/\n", "++x\n==abc\n==d\n", 8 },
     };
     for (size_t i = 0; i < sizeof cases / sizeof cases[0]; i++) {
         struct outcome o = run("abc\nd\n", cases[i].script, 99, 999), exact;
@@ -126,6 +140,114 @@ static void journal_rooms(void) {
     wants("no journal buffer for no lines", run("", "\n", 9, 0), 0, 0, "");
 }
 
+/* A buffer that is full before a cut or a join that shortens the journal: it is done. */
+static void shorter_journals(void) {
+    static const struct {
+        const char *table, *script, *before, *journal;
+    } cases[] = {
+        { "abc\nd\n", "%;N;E/d/dddddd/;P;CL//\n", "<>abc\nAbc\n<>d\ndddddd\n", "<>abc\nAbcdddddd\n--d\n" },
+        { "abc\nd\n", "IS/x/;IS/yy/;2P;CL//\n", "++x\n++yy\n==abc\n==d\n", "++xyy\n==abc\n==d\n" },
+        { "abc\nd\n", "%;N;IS/xx/;2P;CL//\n", "<>abc\nAbc\n++xx\n==d\n", "<>abc\nAbcxx\n==d\n" },
+        { "ab\nb\n", "E/b//;CL//\n", "<>ab\na\n==b\n", "==ab\n--b\n" },
+        { "abc\nd\n", "B//z/;SB/abc/\n", "<>abc\nzabc\n==d\n", "++z\n==abc\n==d\n" },
+    };
+    for (size_t i = 0; i < sizeof cases / sizeof cases[0]; i++) {
+        size_t full = strlen(cases[i].before);
+        struct outcome o = run(cases[i].table, cases[i].script, 99, full - 1);
+        check("one byte less is too short before it", o.kept && o.answer.number == 26 && strlen(cases[i].journal) < full);
+        wants(cases[i].script, run(cases[i].table, cases[i].script, 99, full), 0, 0, cases[i].journal);
+        free(o.journal);
+    }
+}
+
+/* Lines joined to 255 bytes, and to 256: then 25, the next line is read and every record stays. Lines of 255 bytes cut. */
+static void joined_lengths(void) {
+    char *x = repeat("x", 200, ""), *fits = repeat("y", 54, ""), *not = repeat("y", 55, ""), *a = repeat("a", 255, "");
+    char *stops = repeat("a\n", 300, ""), *ones = repeat("++a\n", 255, ""), *gone = repeat("--a\n", 254, ""), *left = repeat("==a\n", 45, "");
+    char table[999], script[999], journal[9999];
+    snprintf(table, sizeof table, "%s\n%s\n", x, fits);
+    snprintf(journal, sizeof journal, "<>%s\n%s-%s\n--%s\n", x, x, fits, fits);
+    wants_read("joined to 255", run(table, "CL/-/\n", 9, 999), 0, 2, 0, journal);
+    snprintf(table, sizeof table, "%s\n%s\n", x, not);
+    snprintf(journal, sizeof journal, "==%s\n==%s\n", x, not);
+    wants_read("joined to 256", run(table, "CL/-/\n", 9, 999), 25, 2, 0, journal);
+    wants_read("joined to 256, the journal full", run(table, "CL/-/\n", 9, strlen(journal)), 25, 2, 0, journal);
+    snprintf(script, sizeof script, "IS/%s/\nIS/%s/\n2P;CL/-/\n", x, fits);
+    snprintf(journal, sizeof journal, "++%s-%s\n==a\n", x, fits);
+    wants_read("joined to 255, both inserted", run("a\n", script, 99, 999), 0, 1, 0, journal);
+    snprintf(script, sizeof script, "IS/%s/\nIS/%s/\n2P;CL/-/\n", x, not);
+    snprintf(journal, sizeof journal, "++%s\n++%s\n==a\n", x, not);
+    wants_read("joined to 256, both inserted", run("a\n", script, 99, 999), 25, 1, strlen(script) - 6, journal);
+    snprintf(journal, sizeof journal, "<>a\n%s\n%s%s", a, gone, left);
+    wants_read("joined one by one", run(stops, "RPT CL//\n", 999, 9999), 25, 256, 4, journal);
+
+    snprintf(table, sizeof table, "%s\n", a);
+    snprintf(journal, sizeof journal, "++\n==%s\n", a);
+    wants_read("255 cut at the start", run(table, "SA//\n", 9, 999), 0, 1, 0, journal);
+    snprintf(journal, sizeof journal, "++%s\n<>%s\n\n", a, a);
+    wants_read("255 cut at the end", run(table, "SA E//\n", 9, 999), 0, 1, 0, journal);
+    snprintf(journal, sizeof journal, "%s<>%s\n\n", ones, a);
+    wants_read("255 cut one by one", run(table, "RPT SA/a/\n", 999, 9999), 24, 1, 4, journal);
+    snprintf(journal, sizeof journal, "==%s\n", a);
+    wants_read("255 on the last line", run(table, "CL/z/\n", 9, strlen(journal)), 30, 2, 0, journal);
+    free(x), free(fits), free(not), free(a), free(stops), free(ones), free(gone), free(left);
+}
+
+/* SA, SB and CL at the ends of lines and of the table: number, furthest line, place, journal. */
+static void cuts_and_joins(void) {
+    static const struct {
+        const char *table, *script;
+        uint64_t number, furthest, place;
+        const char *journal;
+    } cases[] = {
+        /* the left part is inserted before the line, which keeps its number and the rest */
+        { "ab12\nz\n", "SA/ab/\n", 0, 1, 0, "++ab\n<>ab12\n12\n==z\n" },
+        { "ab12\nz\n", "SB/12/;M 1;D\n", 0, 2, 0, "++ab\n--ab12\n==z\n" },
+        { "aXaX\n", "PA/a/;SB/a/\n", 0, 1, 0, "++aX\n<>aXaX\naX\n" },
+        { "a\n", "IS/xy/;P;SA/x/\n", 0, 1, 0, "++x\n++y\n==a\n" },
+        /* an empty left part, an empty rest, both; the old text again makes a kept record */
+        { "ab12\n", "SB/ab/\n", 0, 1, 0, "++\n==ab12\n" },
+        { "ab12\n", "SA//\n", 0, 1, 0, "++\n==ab12\n" },
+        { "ab12\n", "SA/12/\n", 0, 1, 0, "++ab12\n<>ab12\n\n" },
+        { "ab12\n", "SA L//\n", 0, 1, 0, "++ab12\n<>ab12\n\n" },
+        { "\n", "SA//\n", 0, 1, 0, "++\n==\n" },
+        { "b\n", "B//a/;SA/a/\n", 0, 1, 0, "++a\n==b\n" },
+        /* p is 0 afterwards; no match; no line */
+        { "ab12\n", "PA/ab/;SA/1/;<\n", 27, 1, 13, "++ab1\n<>ab12\n2\n" },
+        { "ab12\n", "PA/b/;SB/b/\n", 24, 1, 6, "==ab12\n" },
+        { "a\n", "N;SA/a/\n", 20, 2, 2, "==a\n" },
+        { "", "SB//\n", 20, 1, 0, "" },
+
+        /* CL reads the next line and deletes it, a changed one with its old text; p stays */
+        { "a\nb\nc\n", "CL//\n", 0, 2, 0, "<>a\nab\n--b\n==c\n" },
+        { "a\nb\nc\n", "2CL/-\n", 0, 3, 0, "<>a\na-b-c\n--b\n--c\n" },
+        { "a\nb\n", "N;E/b/x/;P;CL//\n", 0, 2, 0, "<>a\nax\n--b\n" },
+        { "ab\ncd\n", "PA/b/;CL/-/;A//!/\n", 0, 2, 0, "<>ab\nab!-cd\n--cd\n" },
+        { "ab\nb\n", "E/b//;CL//\n", 0, 2, 0, "==ab\n--b\n" },
+        { "\n\n", "CL//\n", 0, 2, 0, "==\n--\n" },
+        /* over deleted lines; an inserted line leaves no record, and raises nothing */
+        { "a\nb\nc\nd\ne\n", "D 2 3;M 1;CL/-/\n", 0, 4, 0, "<>a\na-d\n--b\n--c\n--d\n==e\n" },
+        { "a\nb\nc\n", "D 2;IS/x/;M 1;CL//\n", 0, 3, 0, "<>a\nax\n--b\n==c\n" },
+        { "a\nb\n", "N;IS/x/;2P;CL//\n", 0, 2, 0, "<>a\nax\n==b\n" },
+        { "a\n", "IS/x/;IS/y/;2P;CL//\n", 0, 1, 0, "++xy\n==a\n" },
+        { "a\nb\n", "IS/x/;P;CL//\n", 0, 1, 0, "++xa\n--a\n==b\n" },
+        /* no next line: EOF is read, also where deleted lines follow, and from an inserted line */
+        { "a\n", "CL//\n", 30, 2, 0, "==a\n" },
+        { "a\nb\n", "2CL//\n", 30, 3, 1, "<>a\nab\n--b\n" },
+        { "a\nb\nc\n", "D 2 *;P;CL//\n", 30, 4, 8, "==a\n--b\n--c\n" },
+        { "a\n", "IS/x/;P;2CL//\n", 30, 2, 9, "++xa\n--a\n" },
+        { "a\n", "M *;IS/x/;P;CL//\n", 30, 2, 12, "==a\n++x\n" },
+        /* no line */
+        { "a\nb\n", "M *;CL//\n", 20, 3, 4, "==a\n==b\n" },
+        { "", "CL//\n", 20, 1, 0, "" },
+    };
+    for (size_t i = 0; i < sizeof cases / sizeof cases[0]; i++) {
+        wants_read(cases[i].script, run(cases[i].table, cases[i].script, 99, 999), cases[i].number, cases[i].furthest, cases[i].place, cases[i].journal);
+    }
+    wants_read("CL with 26 has read the next line", run("a\nb\n", "CL//\n", 9, 10), 26, 2, 0, "==a\n==b\n");
+    wants_read("CL with 29 has read nothing", run("a\nb\n", "CL//\n", 0, 99), 29, 1, 0, "==a\n==b\n");
+}
+
 /* The largest table and one line more; the largest script and one byte more. */
 static void sizes(void) {
     char *lines = repeat("\n", 65535, ""), *more = repeat("\n", 65536, "");
@@ -138,6 +260,13 @@ static void sizes(void) {
     o = run(lines, "M 65535; D\n", 9, 3 * 65535);
     check("the last line: its record", o.kept && memcmp(o.journal + 3 * 65534, "--\n", 3) == 0);
     wants("the last line", o, 0, 0, NULL);
+    o = run(lines, "M 65534; CL//\n", 9, 3 * 65535);
+    check("the last line joined: its record", o.kept && memcmp(o.journal + 3 * 65534, "--\n", 3) == 0);
+    wants_read("the last line joined", o, 0, 65535, 0, NULL);
+    wants_read("nothing to join to the last line", run(lines, "M 65535; CL//\n", 9, 3 * 65535), 30, 65536, 9, NULL);
+    o = run(lines, "M 65535; SA//\n", 9, 3 * 65536);
+    check("the last line cut: 65,536 new lines", o.answer.length == 3 * 65536);
+    wants_read("the last line cut", o, 0, 65535, 0, NULL);
     check("the script's own size", strlen(script) == 16384 && strlen(over) == 16385);
     wants("script of 16,384 bytes", run("a\n", script, 9, 99), 0, 0, "==a\n");
     wants("script of 16,385 bytes", run("a\n", over, 9, 99), 1, 0, NULL);
@@ -177,7 +306,7 @@ static void work_areas(void) {
 /* With every budget below a run's steps it stops with 29 and just so many steps; from there on it is done alike. */
 static void budgets(void) {
     static const char table[] = "R01 open 06:10 90\nR02 open 06:25 90\nR03 open 07:00 60\n";
-    static const char script[] = "RPT (IFEOF AGP; UL/60/ E/90/120/; F/0/; 2(%;<); N)\nM 1; 2N; D 1 2; IS/x/\n";
+    static const char script[] = "RPT (IFEOF AGP; UL/60/ E/90/120/; F/0/; 2(%;<); N)\nM 1; 2N; D 1 2; IS/x/; P; SA/x/; CL/-/\n";
     struct outcome whole = run(table, script, UINT32_MAX, 999);
     int good = whole.kept && whole.answer.number == 0 && whole.answer.steps > 20;
     for (uint32_t budget = 0; good && budget <= whole.answer.steps + 1; budget++) {
@@ -197,6 +326,9 @@ int main(void) {
     line_lengths();
     changed_lengths();
     journal_rooms();
+    shorter_journals();
+    joined_lengths();
+    cuts_and_joins();
     sizes();
     nesting();
     work_areas();

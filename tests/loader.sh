@@ -74,6 +74,25 @@ check "stopped: never says updated" silent "is updated"
 check "stopped: the table stays" same table table.first
 check "stopped: the journal is filed" grep -q '^R01 open 06:10 95$' table.journal
 
+fresh last
+printf 'F B/R03/\n  CL/, /\n' >season
+load table season
+check "no next line: status" status 1
+check "no next line: says so" says "Stopped: the table is not updated. Steps 5, furthest line read 4"
+check "no next line: in words" says "There is no next line to join to the current one. (30) The script does not fit this table"
+check "no next line: line and column" says "season, line 2, column 3:"
+check "no next line: never says updated" silent "is updated"
+check "no next line: the table stays" same table table.first
+
+fresh joined
+printf 'M 2; CL/, /\n' >season
+load table season
+check "joined: status" status 0
+printf 'R01 open 06:10 90\nR02 open 06:25 90, R03 open 07:00 60\n' >want
+check "joined: the new table" same table want
+printf '==R01 open 06:10 90\n<>R02 open 06:25 90\nR02 open 06:25 90, R03 open 07:00 60\n--R03 open 07:00 60\n' >want
+check "joined: the journal" same table.journal want
+
 fresh budget
 load -b 3 table season
 check "budget: status" status 1

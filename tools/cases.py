@@ -1,5 +1,5 @@
 #!/usr/bin/env python3
-"""Makes run cases by chance: tables and scripts of document 01's commands, some of them damaged.
+"""Makes run cases by chance: tables and scripts of the commands of document 01 and of wish 1 of document 02, some of them damaged.
 
     tools/cases.py SEED COUNT | tools/oracle.py outcome > FILE
     tools/vectors.py run FILE
@@ -39,7 +39,16 @@ def se(deep=0):
         bl = R.choice(['', ' ', '\n', ' \\ c&|)\n', '\n\n ']);  bl2 = R.choice(['', ' ', '\n'])
         parts.append(bl + R.choice('&|') + bl2 + se(deep + 1))
     return '(' + sp() + ''.join(parts) + sp() + (')' if R.random() < .98 else '')
+def cutting():
+    """SA, SB and CL; some without their string, some CL with a qualifier."""
+    name = R.choice(['SA', 'SB', 'CL', 'CL'])
+    said = name if R.random() < .7 else R.choice([name.lower(), name.capitalize()])
+    if R.random() < .04: return said + sp()
+    d = R.choice("//////!'*+,-.:?")
+    arg = qs(False) if name != 'CL' or R.random() < .04 else d + string().replace(d, 'a') + (d if R.random() < .93 else '\n')
+    return said + (' ' if arg[0].isalpha() and R.random() < .97 else sp()) + arg
 def simple():
+    if R.random() < .11: return cutting()
     r = R.random()
     if r < .1: return 'N'
     if r < .15: return 'P'

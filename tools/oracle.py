@@ -1,5 +1,5 @@
 #!/usr/bin/env python3
-"""Document 01 once more, written apart from the definitions: a plain interpreter for making and checking cases.
+"""Document 01 and wish 1 of document 02 once more, written apart from the definitions: a plain interpreter for making and checking cases.
 
     tools/oracle.py check FILE      compares each line of a file of run cases (see tools/vectors.py) with what it finds
     tools/oracle.py outcome < FILE  completes lines of: table script budget work-length buffer-length
@@ -77,6 +77,13 @@ class Reader:
         text = self.s[self.at:i]
         self.at = i + 1 if self.byte(i) == d and i < len(self.s) else i
         return text
+
+    def plain(self):
+        """A string without qualifiers."""
+        self.spaces()
+        if self.byte() not in DELIMITERS or self.at >= len(self.s): raise Refused(3, self.at)
+        d = self.byte(); self.at += 1
+        return self.string(d)
 
     def qualified(self, search, two=False):
         q = dict(anchor='', count=0, cols=None)
@@ -248,13 +255,10 @@ class Reader:
                 if self.is_digit() or self.byte() in b'.*' and self.byte(): node['a'] = self.target(True)
                 else: node['a'] = None; self.at = i
                 node['lines'] = self.lines()
-            elif name == 'IS':
-                self.spaces()
-                if self.byte() not in DELIMITERS or self.at >= len(self.s): raise Refused(3, self.at)
-                d = self.byte(); self.at += 1
-                node.update(name='I', a=None, lines=[self.string(d)])
+            elif name == 'IS': node.update(name='I', a=None, lines=[self.plain()])
+            elif name == 'CL': node['s'] = self.plain()
             elif name in ('A', 'B', 'E', 'AP', 'BP', 'EP'): node['q'], node['new'] = self.qualified(False, True)
-            elif name in ('PA', 'PB'): node['q'] = self.qualified(False)
+            elif name in ('PA', 'PB', 'SA', 'SB'): node['q'] = self.qualified(False)
             else: raise Refused(2, at)
             break
         for p in reversed(prefixes):
@@ -351,11 +355,30 @@ class Editor:
         self.see(i)
         return i
 
+    def rewritten(self, l):
+        """The current line's record with another text."""
+        mark, old, _ = self.recs[self.cur]
+        return ['++', None, l] if mark == '++' else ['==' if l == old else '<>', old, l]
+
     def retext(self, l, p):
         if len(l) > 255: raise Stop(25)
-        mark, old, _ = self.recs[self.cur]
-        r = ['++', None, l] if mark == '++' else ['==' if l == old else '<>', old, l]
-        self.put(self.recs[:self.cur] + [r] + self.recs[self.cur + 1:], self.cur, p)
+        self.put(self.recs[:self.cur] + [self.rewritten(l)] + self.recs[self.cur + 1:], self.cur, p)
+
+    def split(self, k):
+        """SA and SB: the first k bytes go into a line of their own before the current one, which keeps the rest."""
+        l = self.text()
+        self.put(self.recs[:self.cur] + [['++', None, l[:k]], self.rewritten(l[k:])] + self.recs[self.cur + 1:], self.cur + 1, 0)
+
+    def join(self, s):
+        """CL: the next live line is read, then taken into the current one."""
+        i = self.next_live(self.cur)
+        self.see(i)
+        if i >= len(self.recs): raise Stop(30)
+        mark, old, text = self.recs[i]
+        l = self.text() + s + text
+        if len(l) > 255: raise Stop(25)
+        gone = [] if mark == '++' else [['--', old, None]]
+        self.put(self.recs[:self.cur] + [self.rewritten(l)] + self.recs[self.cur + 1:i] + gone + self.recs[i + 1:], self.cur, self.p)
 
     def deleted(self, a, b):
         """D's records and where it lands."""
@@ -435,6 +458,7 @@ class Editor:
             if l is None: raise Stop(20)
             p = self.p
             if name == 'IC': self.put(self.recs[:self.cur] + [['++', None, l]] + self.recs[self.cur:], self.cur + 1, p)
+            elif name == 'CL': self.join(c['s'])
             elif name == 'PR': self.p = 0
             elif name == '<':
                 if p == 0: raise Stop(27)
@@ -450,6 +474,8 @@ class Editor:
                 k = len(c['q']['s'])
                 if name == 'PA': self.p = i + k
                 elif name == 'PB': self.p = i
+                elif name == 'SA': self.split(i + k)
+                elif name == 'SB': self.split(i)
                 else:
                     new = c['new']
                     if name[0] == 'A': t = l[:i + k] + new + l[i + k:]

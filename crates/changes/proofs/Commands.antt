@@ -160,7 +160,7 @@ altering ch pointing q new x i = write (altered ch (x .0) i (length (stringIn q)
 module _ {table j : List ℕ} {st : State} (qs : Qualifiers) (script : List ℕ) (from to : ℕ) (room : to ≤ length script) (o : Place)
     (finds : Finds table j st (qualified qs (part script from to)) o) where
   -- it is not there
-  place-stops : (m : ℕ) → o ≡ Nowhere m → (k : Line × ℕ → ℕ → Program Did) (e : Ed) (c : Carried) (t : Tape) → Ready table j st e t
+  pub place-stops : (m : ℕ) → o ≡ Nowhere m → (k : Line × ℕ → ℕ → Program Did) (e : Ed) (c : Carried) (t : Tape) → Ready table j st e t
       → Answered j (Stop m st) (perform (lent j) (_>>=_ (lineOr n20) (λ x. _>>=_ (placeOr24 (qualified qs (part script from to)) (x .0) (x .1)) (k x))) (state e c) t)
   unfolding PlaceIs
   place-stops m q k e c t w =
@@ -178,7 +178,7 @@ module _ {table j : List ℕ} {st : State} (qs : Qualifiers) (script : List ℕ)
 
   -- it is at place i
   module _ (i : ℕ) (q : o ≡ At i) where
-    string-long : length (stringIn (qualified qs (part script from to))) ≡ to - from
+    pub string-long : length (stringIn (qualified qs (part script from to))) ≡ to - from
     unfolding stringIn
     string-long = part-length script from to room
 
@@ -186,13 +186,13 @@ module _ {table j : List ℕ} {st : State} (qs : Qualifiers) (script : List ℕ)
     unfolding PlaceIs
     here k e c t w = place-on (lent j) c (qualified qs (part script from to)) k t e i (rw q at (finds e c t w))
 
-    place-goes : (k : Line × ℕ → ℕ → Program Did) (e : Ed) (c : Carried) (t : Tape) → Ready table j st e t
+    pub place-goes : (k : Line × ℕ → ℕ → Program Did) (e : Ed) (c : Carried) (t : Tape) → Ready table j st e t
         → perform (lent j) (_>>=_ (lineOr n20) (λ x. _>>=_ (placeOr24 (qualified qs (part script from to)) (x .0) (x .1)) (k x))) (state e c) t
         ≡ perform (lent j) (k (currentLine e, pointOf e) i) (state e c) t
     place-goes k e c t w =
         perform-as (lent j) c (_>>=_ (lineOr n20) (λ x. _>>=_ (placeOr24 (qualified qs (part script from to)) (x .0) (x .1)) (k x))) (k (currentLine e, pointOf e) i) e e t t (here k e c t w .same)
 
-    at-place : (e : Ed) (t : Tape) → Ready table j st e t → AtLine table j st (i + (to - from)) e t
+    pub at-place : (e : Ed) (t : Tape) → Ready table j st e t → AtLine table j st (i + (to - from)) e t
     at-place e t w =
         let f : PlaceOn (lent j) carried (qualified qs (part script from to)) (λ x n. goesOn) e t i = here (λ x n. goesOn) e carried t w in
         record { text = record { shows = w .shows; old = w .old }; more = f .more j st (w .shows); long = omega (arith, f .inside (w .point), string-long) }

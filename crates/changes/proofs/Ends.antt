@@ -8,12 +8,17 @@ use lib.Seq.{drop-drop, take-at}
 use Rattle.definitions.specs.Bytes.{Line}
 use Rattle.definitions.specs.Journal.{Record, kept, changed, deleted, inserted}
 use Rattle.definitions.specs.Editor.{current}
-use Rattle.editor.specs.Records.{enc, encAll}
+use Rattle.editor.specs.Records.{enc, encAll, Good}
 use Rattle.editor.specs.Shows.{Holds, TextAt}
 use Rattle.editor.specs.declared.State.{State}
-use Rattle.editor.proofs.Held.{held-drop, held-mark}
+use Rattle.editor.proofs.Held.{held-drop, held-bytes, held-mark}
 use Rattle.editor.proofs.Texts.{text-size}
 use Rattle.changes.specs.Current.{firstLine, EndsAt}
+
+-- the text of the current record, as `text_at` gives it
+pub text-of : {j : List ℕ} {st : State} {from n : ℕ} {b a : List Record} {r : Record} → ((x : Record) (z : List ℕ) → Good x → drop (st .back) j ≡ enc x ++ z → TextAt j (st .back) from n x)
+    → Holds j st b (r ∷ a) → TextAt j (st .back) from n r
+text-of {a = a} {r} texts h = texts r (encAll a) (h .good .0) (held-bytes h)
 
 module _ {j : List ℕ} (st : State) (from n : ℕ) where
   -- a record of one line

@@ -1,5 +1,5 @@
 -- The current record's bytes replaced, the gap growing or shrinking. Assumes nothing.
-use mathlib.Core.Path.{_≡_, refl, sym, ap, _∙_}
+use mathlib.Core.Path.{_≡_, sym, ap, _∙_}
 use Prim.Native.Nat.{ℕ, _+_, _-_, _≤_, _<_}
 use native.Mathlib.Omega.{arith}
 use mathlib.Core.List.{List, _∷_, _++_, reverseAux, append-assoc}
@@ -12,10 +12,9 @@ use Rattle.definitions.specs.Journal.{Record, oldOf, journalLength}
 use Rattle.editor.specs.Records.{enc, encAll, encBefore, Good}
 use Rattle.editor.specs.Shows.{Holds}
 use Rattle.editor.specs.declared.State.{State}
-use Rattle.editor.specs.declared.Moved.the-variants.{On, Stop}
 use Rattle.editor.proofs.Records.{all-length, before-all}
 use Rattle.editor.proofs.Held.{held-length, replaced-holds}
-use Rattle.changes.specs.Current.{Put}
+use Rattle.changes.specs.Current.{SetTo}
 
 zeros-split : (g m n : ℕ) → g ≡ m + n → zeros g ≡ zeros m ++ zeros n
 zeros-split g m n e = rw (e, replicate-append-replicate {A = ℕ} m n 0)
@@ -38,12 +37,12 @@ module _ {j : List ℕ} {st : State} {b : List Record} {r : Record} {a : List Re
   total : journalLength (reverseAux b (x ∷ a)) ≡ st .front + (n + length (encAll a))
   total = omega (arith, journal-length b x a, long, h .front)
 
-  module _ (good : Good x) (src : oldOf x ≡ oldOf r) (q : ℕ) where
-    pub put-stop : end - st .front < n → Put j j st b x a q (Stop 26 st)
-    unfolding Put
-    put-stop few = (refl, refl, refl, omega (arith, total, whole, h .order))
+  -- how long the journal is with the record in the place of the current one
+  pub put-total : journalLength (reverseAux b (x ∷ a)) + end ≡ st .front + n + length j
+  put-total = omega (arith, total, whole)
 
-    module _ (room : n ≤ end - st .front) (k : List ℕ) where
+  module _ (good : Good x) (src : oldOf x ≡ oldOf r) (q : ℕ) where
+    module _ (room : st .front + n ≤ end) (k : List ℕ) where
       put-holds : (s : State) → s .front ≡ st .front → s .back ≡ end - n → s .past ≡ st .past → s .lines ≡ st .lines → s .source ≡ st .source → s .size ≡ st .size
           → k ≡ encBefore b ++ (zeros ((end - n) - st .front) ++ (enc x ++ encAll a)) → Holds k s b (x ∷ a)
       unfolding encAll
@@ -66,10 +65,9 @@ module _ {j : List ℕ} {st : State} {b : List Record} {r : Record} {a : List Re
           ∙ rw is (append-assoc (encBefore b) (zeros g) (enc x ++ encAll a))
 
       pub put-grown : (s : State) → s .front ≡ st .front → s .back ≡ end - n → s .past ≡ st .past → s .lines ≡ st .lines → s .source ≡ st .source → s .size ≡ st .size → s .furthest ≡ st .furthest → s .p ≡ q
-          → end - n ≤ st .back → k ≡ paste j (end - n) rec n → Put j k st b x a q (On s)
-      unfolding Put
+          → end - n ≤ st .back → k ≡ paste j (end - n) rec n → SetTo st end n k s b (x ∷ a) q
       put-grown s f e p l o z far w le bytes =
-          (put-holds s f e p l o z (grown-bytes le bytes), far, l, w)
+          record { holds = put-holds s f e p l o z (grown-bytes le bytes); front = f; back = omega (arith, e); furthest = far; lines = l; p = w }
 
       -- the record is shorter: what it leaves is cleared
       shrunk-bytes : st .back < end - n → (i : List ℕ) → i ≡ paste j (end - n) rec n → k ≡ cleared (st .back) ((end - n) - st .back) i
@@ -93,7 +91,6 @@ module _ {j : List ℕ} {st : State} {b : List Record} {r : Record} {a : List Re
           ∙ rw (zeros-split ((end - n) - st .front) g m (omega (arith, h .order))) (simp append-assoc)
 
       pub put-shrunk : (s : State) → s .front ≡ st .front → s .back ≡ end - n → s .past ≡ st .past → s .lines ≡ st .lines → s .source ≡ st .source → s .size ≡ st .size → s .furthest ≡ st .furthest → s .p ≡ q
-          → st .back < end - n → (i : List ℕ) → i ≡ paste j (end - n) rec n → k ≡ cleared (st .back) ((end - n) - st .back) i → Put j k st b x a q (On s)
-      unfolding Put
+          → st .back < end - n → (i : List ℕ) → i ≡ paste j (end - n) rec n → k ≡ cleared (st .back) ((end - n) - st .back) i → SetTo st end n k s b (x ∷ a) q
       put-shrunk s f e p l o z far w lt i bytes clears =
-          (put-holds s f e p l o z (shrunk-bytes lt i bytes clears), far, l, w)
+          record { holds = put-holds s f e p l o z (shrunk-bytes lt i bytes clears); front = f; back = omega (arith, e); furthest = far; lines = l; p = w }

@@ -9,23 +9,23 @@ use lib.Seq.{length-take-le}
 use Rattle.definitions.specs.Bytes.{Line, eqLine, isLine}
 use Rattle.definitions.specs.Journal.{Record, kept, changed, deleted, inserted, change, rewrite, oldOf}
 use Rattle.definitions.specs.Tape.{Tape, restLines}
-use Rattle.definitions.specs.Given.{Carried}
-use Rattle.definitions.specs.Editor.{ed, beforeOf, afterOf, isLive, retext, edit, edits}
-use Rattle.definitions.specs.StepProgram.{gives, state, changes, perform}
+use Rattle.definitions.specs.Editor.{Ed, ed, beforeOf, afterOf, isLive, retext, edit, edits}
+use Rattle.definitions.specs.StepProgram.{gives, changes}
 use Rattle.editor.specs.Records.{enc, mark, Good}
-use Rattle.editor.specs.Shows.{Holds, Shows, ShowsText, lent, Answered}
+use Rattle.editor.specs.Shows.{Holds, Shows, ShowsText, Completes}
 use Rattle.editor.specs.declared.State.{State}
-use Rattle.editor.specs.declared.Moved.{Moved}
 use Rattle.editor.specs.declared.Moved.the-variants.{On, Stop}
 use Rattle.editor.proofs.Records.{line-short}
 use Rattle.editor.proofs.Held.{held-mark}
 use Rattle.editor.proofs.Reading.{journal-is}
 use Rattle.editor.proofs.Parts.{shown-record}
 use Rattle.editor.proofs.Changing.{changes-on, changes-full, retext-shows}
-use Rattle.changes.specs.Current.{part, written, firstLine, EndsAt, EndsOf, HasEnds, Builds, Replacing, Put, Replaces, Rewrites}
+use Rattle.changes.specs.Current.{part, written, firstLine, EndsAt, EndsOf, HasEnds, Builds, MakesAnew, Replacing, SetTo, Replaces}
 use Rattle.changes.specs.declared.rewrite.Ends.{Ends}
+use Rattle.changes.specs.declared.rewrite.Anew.{Anew}
 use Rattle.text.proofs.Lines.{equal-is}
 use Rattle.changes.proofs.Written.{first-written}
+use Rattle.changes.proofs.Putting.{put-total}
 
 -- ---- what becomes of a live record
 
@@ -132,7 +132,7 @@ room (b, r, a, w) = record {
 pub len-short : (line : List ℕ) (len : ℕ) → len ≤ length line → isLine (take len line) ≡ true → len ≤ 255
 len-short line len fits fine = omega (arith, line-short (take len line) fine, length-take-le len line fits)
 
--- ---- the record in the place of the current one
+-- ---- the record made anew
 
 -- the current record of a text that is shown, with its ends
 ends-of : {j : List ℕ} {st : State} {c : Ends} (b : List Record) (r : Record) (a : List Record) (p : ℕ) (t : Tape) → Shows j st (ed b (r ∷ a) p) t → EndsAt j (st .back) c r
@@ -140,44 +140,66 @@ ends-of : {j : List ℕ} {st : State} {c : Ends} (b : List Record) (r : Record) 
 unfolding beforeOf afterOf
 ends-of b r a p t h w = record { holds = h .holds; live = h .grounded; ends = w }
 
-module _ {j : List ℕ} {st : State} {c : Ends} (more : st .back < length j)
-    (ends : (b : List Record) (r : Record) (a : List Record) → Holds j st b (r ∷ a) → EndsAt j (st .back) c r) where
-  pub has-ends : ShowsText j st → HasEnds j st c
+module _ {j : List ℕ} {st : State} {c : Ends} (ends : (b : List Record) (r : Record) (a : List Record) → Holds j st b (r ∷ a) → EndsAt j (st .back) c r) where
+  pub has-ends : st .back < length j → ShowsText j st → HasEnds j st c
   unfolding beforeOf afterOf
-  has-ends (ed b [] p, t, h) = absurd (shown-record b p t h more)
-  has-ends (ed b (r ∷ a) p, t, h) = (b, r, a ++ map kept (restLines t), ends-of b r a p t h (ends b r (a ++ map kept (restLines t)) (h .holds)))
+  has-ends more (ed b [] p, t, h) = absurd (shown-record b p t h more)
+  has-ends more (ed b (r ∷ a) p, t, h) = (b, r, a ++ map kept (restLines t), ends-of b r a p t h (ends b r (a ++ map kept (restLines t)) (h .holds)))
 
-  module _ (l : Line) (fine : isLine l ≡ true) (d rec : List ℕ) (n : ℕ) (builds : Builds j st c l d rec n) where
-    replacing : (b : List Record) (r : Record) (a : List Record) → EndsOf j st c b r a → Replacing j st (c .end) rec n b r a (rewrite r l)
-    unfolding written
-    replacing b r a w =
-        let x : (rec ≡ written d (enc (rewrite r l))) × (n ≡ length (enc (rewrite r l))) = builds b r a w in
-        record {
-          holds = w .holds;
-          ends = w .ends .ends;
-          fits = omega (arith, x .1, ap length (x .0), length-append (enc (rewrite r l)) (drop (length (enc (rewrite r l))) d));
-          is = ap (take n) (x .0) ∙ first-written d (enc (rewrite r l)) n (sym (x .1));
-          good = rewrite-good l r fine (w .holds .good .0);
-          source = rewrite-source l r;
-        }
+  -- what `record_anew` does
+  pub makes-anew : (l : Line) (d k : List ℕ) (n : ℕ) → Builds j st c l d k n → MakesAnew j st l d k (record { n = n; end = c .end })
+  makes-anew l d k n builds b r a h v =
+      let w : EndsOf j st c b r a = record { holds = h; live = v; ends = ends b r a h } in
+      (builds b r a w .0, builds b r a w .1, w .ends .ends)
 
-    pub has-record : ShowsText j st → (b : List Record) × (r : Record) × (a : List Record) × (x : Record) × Replacing j st (c .end) rec n b r a x
-    has-record h =
-        let w : HasEnds j st c = has-ends h in
-        (w .0, w .1, w .2, rewrite (w .1) l, replacing (w .0) (w .1) (w .2) (w .3))
+-- ---- the record in the place of the current one
 
-    put-done : (k : List ℕ) (q : ℕ) (m : Moved) → length k ≡ length j → (x : Carried) (b : List Record) (r : Record) (a : List Record) (p : ℕ) (t : Tape) → Shows j st (ed b (r ∷ a) p) t
-        → Put j k st b (rewrite r l) (a ++ map kept (restLines t)) q m → Answered k m (perform (lent j) (gives (changes (retext l q ∷ []))) (state (ed b (r ∷ a) p) x) t)
-    unfolding Put edits edit
-    put-done k q (On s) same x b r a p t h w =
-        changes-on x (retext l q ∷ []) (ed b (r ∷ a) p) t j k s same (retext-shows l q b r a p t h (w .0) (w .1) (w .2) (w .3))
-    put-done k q (Stop m s) same x b r a p t h w =
-        rw (w .0, w .2) (changes-full x (retext l q ∷ []) (ed b (r ∷ a) p) t j k st (rw (← journal-is b (rewrite r l ∷ a) q t) (w .3)) (rw (w .1) h))
+module _ {j : List ℕ} {st : State} (l : Line) (fine : isLine l ≡ true) (d rec : List ℕ) (c : Anew) (made : MakesAnew j st l d rec c) where
+  pub replacing : (b : List Record) (r : Record) (a : List Record) → Holds j st b (r ∷ a) → isLive r ≡ true → Replacing j st (c .end) rec (c .n) b r a (rewrite r l)
+  unfolding written
+  replacing b r a h v =
+      let x : (rec ≡ written d (enc (rewrite r l))) × (c .n ≡ length (enc (rewrite r l))) × (c .end ≡ st .back + length (enc r)) = made b r a h v in
+      record {
+        holds = h;
+        ends = x .2;
+        fits = omega (arith, x .1, ap length (x .0), length-append (enc (rewrite r l)) (drop (length (enc (rewrite r l))) d));
+        is = ap (take (c .n)) (x .0) ∙ first-written d (enc (rewrite r l)) (c .n) (sym (x .1));
+        good = rewrite-good l r fine (h .good .0);
+        source = rewrite-source l r;
+      }
 
-    -- what `rewrite_current` does
-    pub rewrites : (k : List ℕ) (q : ℕ) (m : Moved) → length k ≡ length j → Replaces j st (c .end) rec n q k m → Rewrites j st l q k m
+  module _ (more : st .back < length j) where
+    pub has-record : ShowsText j st → (b : List Record) × (r : Record) × (a : List Record) × (x : Record) × Replacing j st (c .end) rec (c .n) b r a x
     unfolding beforeOf afterOf
-    rewrites k q m same puts (ed b [] p) x t h = absurd (shown-record b p t h more)
-    rewrites k q m same puts (ed b (r ∷ a) p) x t h =
+    has-record (ed b [] p, t, h) = absurd (shown-record b p t h more)
+    has-record (ed b (r ∷ a) p, t, h) =
+        (b, r, a ++ map kept (restLines t), rewrite r l, replacing b r (a ++ map kept (restLines t)) (h .holds) (h .grounded))
+
+    -- where the current record ends, and how long the new one is
+    pub anew-ends : ShowsText j st → (st .front ≤ c .end) × (c .n ≤ length rec)
+    anew-ends h =
+        let w = has-record h in
+        (omega (arith, w .4 .ends, w .4 .holds .order), w .4 .fits)
+
+    -- what `rewrite_current` does: there is no room
+    pub rewrites-full : (q : ℕ) → c .end < st .front + c .n → Completes j st (gives (changes (retext l q ∷ []))) j (Stop 26 st)
+    unfolding beforeOf afterOf edits edit
+    rewrites-full q few (ed b [] p) x t h = absurd (shown-record b p t h more)
+    rewrites-full q few (ed b (r ∷ a) p) x t h =
         let A : List Record = a ++ map kept (restLines t) in
-        put-done k q m same x b r a p t h (puts b r A (rewrite r l) (replacing b r A (ends-of b r a p t h (ends b r A (h .holds)))))
+        let w : Replacing j st (c .end) rec (c .n) b r A (rewrite r l) = replacing b r A (h .holds) (h .grounded) in
+        changes-full x (retext l q ∷ []) (ed b (r ∷ a) p) t j j st
+        (rw (← journal-is b (rewrite r l ∷ a) q t) (omega (arith, put-total (w .holds) (c .end) (c .n) rec (rewrite r l) (w .ends) (w .fits) (w .is), few))) h
+
+    -- the text is written: what the buffer then shows
+    pub rewritten-shows : (k : List ℕ) (q : ℕ) (s : State) → Replaces j st (c .end) rec (c .n) q k s → (e : Ed) (t : Tape) → Shows j st e t → Shows k s (edit (retext l q) e) t
+    unfolding beforeOf afterOf
+    rewritten-shows k q s puts (ed b [] p) t h = absurd (shown-record b p t h more)
+    rewritten-shows k q s puts (ed b (r ∷ a) p) t h =
+        let A : List Record = a ++ map kept (restLines t) in
+        let w : SetTo st (c .end) (c .n) k s b (rewrite r l ∷ A) q = puts b r A (rewrite r l) (replacing b r A (h .holds) (h .grounded)) in
+        retext-shows l q b r a p t h (w .holds) (w .furthest) (w .lines) (w .p)
+
+    pub rewrites-on : (k : List ℕ) (q : ℕ) (s : State) → length k ≡ length j → Replaces j st (c .end) rec (c .n) q k s → Completes j st (gives (changes (retext l q ∷ []))) k (On s)
+    unfolding edits
+    rewrites-on k q s same puts e x t h = changes-on x (retext l q ∷ []) e t j k s same (rewritten-shows k q s puts e t h)

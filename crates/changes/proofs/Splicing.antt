@@ -17,14 +17,14 @@ use Rattle.definitions.specs.Edit.{write, splice}
 use Rattle.theorems.specs.Programs.{runs-halt, runs-pass}
 use Rattle.theorems.specs.JournalBytes.{line-text, line-of}
 use Rattle.theorems.specs.GoodLines.{splice-text, splice-length}
-use Rattle.editor.specs.Shows.{Shows, lent, Answered}
+use Rattle.editor.specs.Shows.{Shows, lent, Answered, Completes}
 use Rattle.editor.specs.Current.{currentLine, TableOf}
 use Rattle.editor.specs.declared.State.{State}
 use Rattle.editor.specs.declared.Moved.{Moved}
 use Rattle.editor.specs.declared.Moved.the-variants.{Stop}
 use Rattle.editor.proofs.Parts.{perform-as, perform-stop, came-stop}
 use Rattle.editor.proofs.CurrentText.{shown-good, shown-short}
-use Rattle.changes.specs.Current.{written, AtLine, HasLine, Splices, Writes, Rewrites}
+use Rattle.changes.specs.Current.{written, AtLine, HasLine, Splices, Writes}
 use Rattle.changes.proofs.Written.{first-written}
 
 -- ---- the end of a step that writes a line
@@ -92,6 +92,6 @@ module _ (table j : List ℕ) (st : State) (i n : ℕ) (new d line : List ℕ) (
         rw (new-text e t w)
         (line-of (splice (currentLine e) i n new) (splice-text (currentLine e) i n new (shown-text e t (w .text .shows)) fine) (omega (arith, did e t w .0, short)))
 
-    pub writes-on : (k : List ℕ) (q : ℕ) (m : Moved) → Rewrites j st (take len line) q k m → Writes table j st (i + n) (λ l. splice l i n new) q k m
+    pub writes-on : (k : List ℕ) (q : ℕ) (m : Moved) → Completes j st (gives (changes (retext (take len line) q ∷ []))) k m → Writes table j st (i + n) (λ l. splice l i n new) q k m
     writes-on k q m puts e c t w =
         rw (write-on (lent j) c (splice (currentLine e) i n new) q e t (omega (arith, did e t w .0, short)), ← new-text e t w) (puts e c t (w .text .shows))

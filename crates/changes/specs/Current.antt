@@ -1,33 +1,33 @@
 -- What the functions promise that look at the current line, write its record anew, and do the commands. Assumes nothing.
 use mathlib.Core.Path.{_≡_}
 use mathlib.Core.Bool.{Bool, true, cond}
-use mathlib.Core.List.{List, [], _∷_, _++_, reverseAux}
+use mathlib.Core.List.{List, _∷_, _++_}
 use Prim.Native.Nat.{ℕ, zero, suc, _+_, _-_, _≤_, _<_}
 use lib.ListN.{length, take, drop, getD}
 use lib.Dec.{leb}
 use Rattle.definitions.specs.Bytes.{Line, allText}
-use Rattle.definitions.specs.Journal.{Record, kept, changed, deleted, inserted, oldOf, rewrite, journalLength}
+use Rattle.definitions.specs.Journal.{Record, kept, changed, deleted, inserted, oldOf, rewrite}
 use Rattle.definitions.specs.Tape.{Tape}
 use Rattle.definitions.specs.Given.{Carried}
-use Rattle.definitions.specs.Editor.{Ed, isLive, n20, stopNumber, retext}
+use Rattle.definitions.specs.Editor.{Ed, isLive, n20, stopNumber}
 use Rattle.definitions.specs.Editor.{Stop as StopNumber}
 use Rattle.definitions.specs.Reading.{Ran, gave, stopped}
-use Rattle.definitions.specs.StepProgram.{Program, gives, _>>=_, runs, state, changes, perform}
+use Rattle.definitions.specs.StepProgram.{Program, gives, _>>=_, runs, state, Did, perform}
 use Rattle.definitions.specs.Matching.{Qualified, qualified}
 use Rattle.definitions.specs.Edit.{Op, Change, afterIt, beforeIt, exchange, splice, altered, alteredPoint, lineOr, placeOr24, byteHere, write}
 use Rattle.matching.specs.Quals.{qualifiersOf}
 use Rattle.matching.specs.declared.Quals.{Quals}
 use Rattle.editor.specs.declared.State.{State}
 use Rattle.editor.specs.declared.Moved.{Moved}
-use Rattle.editor.specs.declared.Moved.the-variants.{On, Stop}
 use Rattle.editor.specs.Records.{enc, Good}
-use Rattle.editor.specs.Shows.{Holds, Shows, lent, Answered}
+use Rattle.editor.specs.Shows.{Holds, lent, Answered}
 use Rattle.editor.specs.Current.{currentLine, Ready, ShowsOf}
 use Rattle.changes.specs.declared.look.Byte.{Byte}
 use Rattle.changes.specs.declared.look.Byte.the-variants.{Here, Lacks}
 use Rattle.changes.specs.declared.look.Place.{Place}
 use Rattle.changes.specs.declared.look.Place.the-variants.{At, Nowhere}
 use Rattle.changes.specs.declared.rewrite.Ends.{Ends}
+use Rattle.changes.specs.declared.rewrite.Anew.{Anew}
 
 -- the bytes of s from `from` up to `to`
 abbrev pub part : List ℕ → ℕ → ℕ → List ℕ
@@ -116,19 +116,19 @@ Splices table j st i n new d k r =
     (e : Ed) (t : Tape) → AtLine table j st (i + n) e t → let l = splice (currentLine e) i n new in
     (r ≡ length l) × (k ≡ cond (leb (length l) 255) (written d l) d)
 
--- the current line's text becomes what f makes of it, and p becomes q: the end of a step
+-- with the buffer j and its numbers st before, and the buffer k after, the function that answered r did what is left of a command, which is told the current line
+abbrev pub CompletesAt : List ℕ → List ℕ → State → ℕ → (Line → Program Did) → List ℕ → Moved → Type 0
+CompletesAt table j st w m k r =
+    (e : Ed) (c : Carried) (t : Tape) → AtLine table j st w e t → Answered k r (perform (lent j) (m (currentLine e)) (state e c) t)
+
+-- the current line's text becomes what f makes of it, and p becomes q
 abbrev pub Writes : List ℕ → List ℕ → State → ℕ → (Line → Line) → ℕ → List ℕ → Moved → Type 0
-Writes table j st w f q k r =
-    (e : Ed) (c : Carried) (t : Tape) → AtLine table j st w e t → Answered k r (perform (lent j) (write (f (currentLine e)) q) (state e c) t)
+Writes table j st w f q k r = CompletesAt table j st w (λ l. write (f l) q) k r
 
 -- A, B, E, AP, BP, EP where the string of n bytes is found at place i
 abbrev pub Alters : List ℕ → List ℕ → State → ℕ → Bool → ℕ → ℕ → Line → List ℕ → Moved → Type 0
 Alters table j st kind pointing i n new k r =
     Writes table j st (i + n) (λ l. altered (changeOf kind) l i n new) (alteredPoint (changeOf kind) pointing (st .p) i n (length new)) k r
-
--- the current line's text becomes `l`, which is no longer than a line can be, and p becomes q
-abbrev pub Rewrites : List ℕ → State → Line → ℕ → List ℕ → Moved → Type 0
-Rewrites j st l q k r = (e : Ed) (c : Carried) (t : Tape) → Shows j st e t → Answered k r (perform (lent j) (gives (changes (retext l q ∷ []))) (state e c) t)
 
 -- ---- the record that is written anew
 
@@ -162,6 +162,12 @@ abbrev pub Builds : List ℕ → State → Ends → Line → List ℕ → List �
 Builds j st c l d k n =
     (b : List Record) (r : Record) (a : List Record) → EndsOf j st c b r a → (k ≡ written d (enc (rewrite r l))) × (n ≡ length (enc (rewrite r l)))
 
+-- the record that the live current one becomes with the text `l` stands at the start of k, with its length; and where the current one ends
+abbrev pub MakesAnew : List ℕ → State → Line → List ℕ → List ℕ → Anew → Type 0
+MakesAnew j st l d k c =
+    (b : List Record) (r : Record) (a : List Record) → Holds j st b (r ∷ a) → isLive r ≡ true
+    → (k ≡ written d (enc (rewrite r l))) × (c .n ≡ length (enc (rewrite r l))) × (c .end ≡ st .back + length (enc r))
+
 -- the first n bytes of rec are a record x that can stand for the current one r, which ends at `end`
 pub record Replacing (j : List ℕ) (st : State) (end : ℕ) (rec : List ℕ) (n : ℕ) (b : List Record) (r : Record) (a : List Record) (x : Record) : Type 0 where
   pub holds : Holds j st b (r ∷ a)
@@ -171,14 +177,16 @@ pub record Replacing (j : List ℕ) (st : State) (end : ℕ) (rec : List ℕ) (n
   pub good : Good x
   pub source : oldOf x ≡ oldOf r
 
--- The record x stands in the place of the current one, p is q; or the journal would exceed its buffer (26), and nothing is changed.
-unfoldable pub Put : List ℕ → List ℕ → State → List Record → Record → List Record → ℕ → Moved → Type 0
-Put j k st before x after q (On s) =
-    Holds k s before (x ∷ after) × (s .furthest ≡ st .furthest) × (s .lines ≡ st .lines) × (s .p ≡ q)
-Put j k st before x after q (Stop m s) =
-    (m ≡ 26) × (k ≡ j) × (s ≡ st) × (length j < journalLength (reverseAux before (x ∷ after)))
+-- the records are `before` and `rest`, of which the first ends at `end` and has n bytes, and p is q; all else is as it was
+pub record SetTo (st : State) (end n : ℕ) (k : List ℕ) (s : State) (before rest : List Record) (q : ℕ) : Type 0 where
+  pub holds : Holds k s before rest
+  pub front : s .front ≡ st .front
+  pub back : s .back + n ≡ end
+  pub furthest : s .furthest ≡ st .furthest
+  pub lines : s .lines ≡ st .lines
+  pub p : s .p ≡ q
 
 -- the first n bytes of rec stand for the current record, and p becomes q
-abbrev pub Replaces : List ℕ → State → ℕ → List ℕ → ℕ → ℕ → List ℕ → Moved → Type 0
-Replaces j st end rec n q k m =
-    (b : List Record) (r : Record) (a : List Record) (x : Record) → Replacing j st end rec n b r a x → Put j k st b x a q m
+abbrev pub Replaces : List ℕ → State → ℕ → List ℕ → ℕ → ℕ → List ℕ → State → Type 0
+Replaces j st end rec n q k s =
+    (b : List Record) (r : Record) (a : List Record) (x : Record) → Replacing j st end rec n b r a x → SetTo st end n k s b (x ∷ a) q

@@ -1,6 +1,6 @@
 // The commands that change the current line's text, or p, on the journal buffer.
-mod look;
-mod rewrite;
+pub mod look;
+pub mod rewrite;
 
 ghost use mathlib.Core.Path.{_≡_};
 ghost use mathlib.Core.Bool.{true};
@@ -66,7 +66,7 @@ pub fn right<'a>(table: &'a [u8], j: &'a [u8], st: State) -> Moved
 }
 
 // Where p stands after a string of n bytes at place i, or before it.
-fn point_by(after: bool, i: usize, n: usize) -> usize
+pub fn point_by(after: bool, i: usize, n: usize) -> usize
     requires { ⌜ i + n ≤ 255 ⌝ }
     ensures { λ r. ⌜ r ≡ «point-by» after i n ⌝ }
 {

@@ -7,8 +7,10 @@ ghost use lib.ListN.{length, take, drop, set};
 ghost use Rattle.definitions.specs.Bytes.{eqLine, isLine, allText};
 ghost use Rattle.definitions.specs.Journal.{Record};
 ghost use Rattle.definitions.specs.Edit.{splice};
-ghost use Rattle.editor.specs.Shows.{Holds, ShowsText};
-ghost use Rattle.changes.specs.Current.{part, written, EndsAt, HasEnds, Builds, Replaces, Replacing, Rewrites, HasLine, Writes};
+ghost use Rattle.definitions.specs.Editor.{retext};
+ghost use Rattle.definitions.specs.StepProgram.{gives, changes};
+ghost use Rattle.editor.specs.Shows.{Holds, ShowsText, Completes};
+ghost use Rattle.changes.specs.Current.{part, written, EndsAt, HasEnds, Builds, MakesAnew, Replaces, Replacing, HasLine, Writes};
 use editor::Moved;
 use editor::State;
 
@@ -24,7 +26,7 @@ fn record_ends(j: &[u8], st: State) -> Ends
     ensures { λ c. ⌜ ((b : List Record) (r : Record) (a : List Record) → Holds (now (j .entry)) st b (r ∷ a) → EndsAt (now (j .entry)) (st .back) c r) ⌝ }
 {
     let at = st.back;
-    let x = editor::walk::line_text(j, st);
+    let x = editor::walk::text_at(j, at);
     let end = x.from + x.n;
     if j[at] == 60 {
         return Ends {
@@ -99,16 +101,28 @@ fn build_record(rec: &mut [u8], j: &[u8], st: State, c: Ends, line: &[u8], len: 
     n + len + 4
 }
 
-// The first n bytes of rec stand for the current record, which ends at `end`; p becomes q. 26: the journal would exceed its buffer.
-fn put_record(j: &mut [u8], st: State, end: usize, rec: &[u8], n: usize, q: usize) -> Moved
-    requires { ⌜ ((b : List Record) × (r : Record) × (a : List Record) × (x : Record) × Replacing (now j) st end (now rec) n b r a x) ⌝ }
-    ensures { λ m. ⌜ Replaces (now (j .entry)) st end (now (rec .entry)) n q (now (j .exit)) m ⌝ }
+// The record that the current one becomes: its length; and where the current one ends.
+pub struct Anew {
+    pub n: usize,
+    pub end: usize,
+}
+
+// The record that the current one becomes with the first len bytes of line for its text, at the start of rec.
+pub fn record_anew(rec: &mut [u8], j: &[u8], st: State, line: &[u8], len: usize) -> Anew
+    requires { ⌜ ShowsText (now j) st × (st .back < length (now j)) × (514 ≤ length (now rec)) × (len ≤ length (now line)) × (isLine (take len (now line)) ≡ true) ⌝ }
+    ensures { λ c. ⌜ MakesAnew (now (j .entry)) st (take len (now (line .entry))) (now (rec .entry)) (now (rec .exit)) c ⌝ }
 {
-    let front = st.front;
+    let c = record_ends(j, st);
+    let n = build_record(rec, j, st, c, line, len);
+    Anew { n, end: c.end }
+}
+
+// The first n bytes of rec stand for the current record, which ends at `end`; p becomes q. There is room.
+pub fn put_record(j: &mut [u8], st: State, end: usize, rec: &[u8], n: usize, q: usize) -> State
+    requires { ⌜ ((b : List Record) × (r : Record) × (a : List Record) × (x : Record) × Replacing (now j) st end (now rec) n b r a x) × (st .front + n ≤ end) ⌝ }
+    ensures { λ s. ⌜ Replaces (now (j .entry)) st end (now (rec .entry)) n q (now (j .exit)) s ⌝ }
+{
     let at = st.back;
-    if end - front < n {
-        return Moved::Stop(26, st);
-    }
     let to = end - n;
     text::copies::copy_in(j, to, rec, 0, n);
     let mut s = st;
@@ -116,21 +130,25 @@ fn put_record(j: &mut [u8], st: State, end: usize, rec: &[u8], n: usize, q: usiz
     s.p = q;
     if at < to {
         gap::clear(j, at, to - at);
-        return Moved::On(s);
+        return s;
     }
-    Moved::On(s)
+    s
 }
 
-// The current line's text becomes the first len bytes of line, and p becomes q.
+// The current line's text becomes the first len bytes of line, and p becomes q. 26: the journal would exceed its buffer.
 fn rewrite_current(j: &mut [u8], st: State, line: &[u8], len: usize, q: usize) -> Moved
     requires { ⌜ ShowsText (now j) st × (st .back < length (now j)) × (len ≤ length (now line)) × (isLine (take len (now line)) ≡ true) ⌝ }
-    ensures { λ r. ⌜ Rewrites (now (j .entry)) st (take len (now (line .entry))) q (now (j .exit)) r ⌝ }
+    ensures { λ r. ⌜ Completes (now (j .entry)) st (gives (changes (retext (take len (now (line .entry))) q ∷ []))) (now (j .exit)) r ⌝ }
 {
-    let c = record_ends(j, st);
-    let end = c.end;
     let mut rec = [0u8; 514];
-    let n = build_record(&mut rec, j, st, c, line, len);
-    put_record(j, st, end, &rec, n, q)
+    let c = record_anew(&mut rec, j, st, line, len);
+    let end = c.end;
+    let n = c.n;
+    let front = st.front;
+    if end - front < n {
+        return Moved::Stop(26, st);
+    }
+    Moved::On(put_record(j, st, end, &rec, n, q))
 }
 
 // The first m bytes of `new` come for the n bytes of the current line from place i on, and p becomes q. 25: the line is over 255.

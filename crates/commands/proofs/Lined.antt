@@ -1,7 +1,7 @@
--- M, D, IS, R and I: what their words are read as. Assumes nothing.
+-- M, D, IS, CL, R and I: what their words are read as. Assumes nothing.
 use mathlib.Core.Path.{_≡_, refl, ap, _∙_}
 use mathlib.Core.Bool.{Bool, true, false}
-use mathlib.Core.Option.{Option, none}
+use mathlib.Core.Option.{none}
 use mathlib.Core.List.{List, [], _∷_}
 use Prim.Native.Nat.{ℕ, _+_, _≤_, _<_}
 use native.Mathlib.Omega.{arith}
@@ -9,29 +9,28 @@ use lib.ListN.{length, take, drop, getD}
 use lib.Dec.{eqb}
 use borrow.Author.Tests.{eqb-true, eqb-false}
 use Rattle.definitions.specs.Bytes.{Line, isLine, linesOf}
-use Rattle.definitions.specs.Tape.{Tape}
-use Rattle.definitions.specs.Given.{Carried}
-use Rattle.definitions.specs.Editor.{Ed, Target, Through, alone, upTo, toEof}
+use Rattle.definitions.specs.Editor.{Target, Through, alone, upTo, toEof}
 use Rattle.definitions.specs.StepProgram.{state}
 use Rattle.definitions.specs.Edit.{Op, step}
 use Rattle.theorems.specs.GoodItems.{goodThrough}
 use Rattle.strings.proofs.Lines.{script-short}
-use Rattle.items.specs.Kinds.{pairShape, fourShape, shapeOf, moveKind, deleteKind, replaceKind}
-use Rattle.items.specs.Words.{kindAt, numberAt, partOf}
+use Rattle.items.specs.Kinds.{pairShape, fourShape, shapeOf, moveKind, deleteKind, joinKind, replaceKind}
+use Rattle.items.specs.Words.{kindAt, numberAt, partOf, StringIn}
 use Rattle.items.specs.Arguments.{stringStart, stringLength, spanFrom, spanThrough}
 use Rattle.items.specs.Simple.{CommandAt}
-use Rattle.items.proofs.Meaning.{SpanRead, throughCode, moving, deleting, stringing, replacing, lining, formOf, Means, pair-left, four-left, meant, meant-as}
+use Rattle.items.proofs.Meaning.{SpanRead, throughCode, moving, deleting, stringing, replacing, lining, formOf, Means, pair-left, four-left, is-insert, is-join, meant, meant-as}
 use Rattle.items.proofs.Strings.{string-inside, string-is}
 use Rattle.editor.specs.declared.State.{State}
 use Rattle.editor.specs.declared.Moved.{Moved}
 use Rattle.editor.specs.Records.{LineIn}
 use Rattle.editor.specs.Shows.{lent, Answered, Performs, targetNumbered}
+use Rattle.editor.specs.Current.{PerformsOf}
 use Rattle.inserts.specs.Lines.{Insertable, spotOf}
 use Rattle.inserts.proofs.Codes.{target-code, spot-code}
 use Rattle.inserts.proofs.Script.{insertable}
 use Rattle.spans.specs.Spans.{throughOf}
 use Rattle.spans.proofs.Ends.{through-alone, through-all, through-number}
-use Rattle.commands.specs.Performing.{SomeCommand, PerformsLines}
+use Rattle.commands.specs.Performing.{SomeCommand, PerformsAt, PerformsLines}
 
 -- the number of a script's `through` stands for it
 through-code : (b : Through) → goodThrough b ≡ true → throughOf (throughCode b) ≡ b
@@ -43,14 +42,14 @@ through-code toEof good = through-all 65536 refl
 module _ (s w : List ℕ) (k kind : ℕ) (is : kind ≡ kindAt w k) where
   -- ---- what the functions ask
 
-  -- the string of IS
+  -- the string of IS or CL
   pub string-in : shapeOf kind ≡ pairShape → (kind ≡ moveKind → ⊥) → (kind ≡ deleteKind → ⊥) → (word : ℕ) → word ≡ getD w (k + 1) 0 → (from : ℕ) → from ≡ stringStart word → (n : ℕ) → n ≡ stringLength word
       → SomeCommand s w k → LineIn s from n
   unfolding Means
   string-in shape a b word word-is from from-is n n-is (op, h) = on (pair-left s w k (h .end) kind op shape a b (meant s w k kind is op h))
     where
       on : Means s w k (h .end) kind stringing op → (from + n ≤ length s) × (isLine (take n (drop from s)) ≡ true)
-      on (l, e, ends, x, good) =
+      on (l, ends, x, good, which) =
           let short = script-short s (h .form) in
           rw (from-is, n-is, word-is) (string-inside x short, ap isLine (string-is x short) ∙ good)
 
@@ -81,16 +80,24 @@ module _ (s w : List ℕ) (k kind : ℕ) (is : kind ≡ kindAt w k) where
             let stands : targetNumbered (getD w (k + 1) 0) ≡ a = ap targetNumbered code ∙ target-code a good in
             rw q (rw stands at (does e c t shows))
 
-    pub string-as : shapeOf kind ≡ pairShape → (kind ≡ moveKind → ⊥) → (kind ≡ deleteKind → ⊥) → (from : ℕ) → from ≡ stringStart (getD w (k + 1) 0) → (n : ℕ) → n ≡ stringLength (getD w (k + 1) 0)
-        → Performs j st (Op.insert none (take n (drop from s) ∷ [])) b r → PerformsLines s w k j st b r
-    unfolding Means
-    string-as shape no-move no-delete from from-is n n-is does op e c t h shows = on (pair-left s w k (h .end) kind op shape no-move no-delete (meant s w k kind is op h))
-      where
-        line-is : (l : Line) → take (stringLength (getD w (k + 1) 0)) (drop (stringStart (getD w (k + 1) 0)) s) ≡ l → take n (drop from s) ≡ l
-        line-is l x = rw (from-is, n-is) x
+    module _ (from : ℕ) (from-is : from ≡ stringStart (getD w (k + 1) 0)) (n : ℕ) (n-is : n ≡ stringLength (getD w (k + 1) 0)) where
+      line-is : {op : Op} (h : CommandAt s w k op) (l : Line) → StringIn s (getD w (k + 1) 0) l → take n (drop from s) ≡ l
+      line-is h l x = rw (from-is, n-is) (string-is x (script-short s (h .form)))
 
-        on : Means s w k (h .end) kind stringing op → Answered b r (step (lent j) op (state e c) t)
-        on (l, q, ends, x, good) = rw (q, ← line-is l (string-is x (script-short s (h .form)))) (does e c t shows)
+      pub string-as : shapeOf kind ≡ pairShape → (kind ≡ moveKind → ⊥) → (kind ≡ deleteKind → ⊥) → (kind ≡ joinKind → ⊥)
+          → Performs j st (Op.insert none (take n (drop from s) ∷ [])) b r → PerformsLines s w k j st b r
+      string-as shape no-move no-delete no-join does op e c t h shows =
+          on (is-insert s w k (h .end) kind op no-join (pair-left s w k (h .end) kind op shape no-move no-delete (meant s w k kind is op h)))
+        where
+          on : (l : Line) × (op ≡ Op.insert none (l ∷ [])) × StringIn s (getD w (k + 1) 0) l → Answered b r (step (lent j) op (state e c) t)
+          on (l, q, x) = rw (q, ← line-is h l x) (does e c t shows)
+
+      pub joins-as : (table : List ℕ) → kind ≡ joinKind → PerformsOf table j st (Op.join (take n (drop from s))) b r → PerformsAt s table w k j st b r
+      unfolding formOf
+      joins-as table sole does op e c t h ready = on (is-join s w k (h .end) kind op sole (meant-as s w k kind is stringing (ap formOf sole) op h))
+        where
+          on : (l : Line) × (op ≡ Op.join l) × StringIn s (getD w (k + 1) 0) l → Answered b r (step (lent j) op (state e c) t)
+          on (l, q, x) = rw (q, ← line-is h l x) (does e c t (record { shows = ready .shows; old = ready .old }))
 
     module _ (from through n : ℕ) (from-is : from ≡ spanFrom (getD w (k + 1) 0)) (n-is : n ≡ numberAt w k) (through-is : through ≡ spanThrough n (getD w (k + 1) 0)) where
       starts-as : (a : Target) (b′ : Through) → SpanRead w k a b′ → targetNumbered from ≡ a

@@ -14,7 +14,7 @@ use Rattle.editor.specs.declared.Moved.{Moved}
 use Rattle.editor.specs.declared.Moved.the-variants.{Stop}
 use Rattle.editor.specs.Shows.{lent, ShowsText, Answers, Answered, Performs}
 use Rattle.editor.specs.Current.{ShownOf, PerformsOf, IsReady}
-use Rattle.commands.specs.Performing.{SomeCommand, PerformsAt}
+use Rattle.commands.specs.Performing.{SomeCommand, PerformsAt, PerformsLines}
 
 -- W
 pub quits : (table j : List ℕ) (st : State) → PerformsOf table j st quit j (Stop 0 st)
@@ -28,6 +28,9 @@ performs-as b r q does = rw q does
 -- a command that does not read the table
 pub tableless : {table j : List ℕ} {st : State} (b : List ℕ) (r : Moved) {op other : Op} → op ≡ other → Performs j st other b r → PerformsOf table j st op b r
 tableless b r q does = rw q (λ e c t h. does e c t (h .shows))
+
+pub without-table : {s table w : List ℕ} {k : ℕ} {j : List ℕ} {st : State} (b : List ℕ) (r : Moved) → PerformsLines s w k j st b r → PerformsAt s table w k j st b r
+without-table b r does op e c t h ready = does op e c t h (ready .shows)
 
 -- some text is shown
 pub shown-text : {table j : List ℕ} {st : State} → ShownOf table j st → ShowsText j st

@@ -1,6 +1,7 @@
 -- The commands with a qualified string: what their words are read as. Assumes nothing.
-use mathlib.Core.Path.{_≡_, refl, _∙_}
-use mathlib.Core.Bool.{Bool, true, false}
+use mathlib.Core.Path.{_≡_, refl, sym, _∙_}
+use mathlib.Core.Logic.{inl, inr}
+use mathlib.Core.Bool.{Bool, true, false, false≢true}
 use mathlib.Core.List.{List}
 use Prim.Native.Nat.{ℕ, _+_, _-_, _≤_, _<_}
 use native.Mathlib.Omega.{arith}
@@ -16,18 +17,18 @@ use Rattle.matching.specs.declared.Quals.{Quals}
 use Rattle.matching.specs.Quals.{qualifiersOf}
 use Rattle.matching.specs.Words.{Readable, startAt, lengthAt, endAt, qualsAt, stringAt}
 use Rattle.matching.proofs.Reading.{ReadsAs}
-use Rattle.items.specs.Kinds.{stringShape, changeShape, shapeOf, pointAfterKind, changeKind, pointKind}
+use Rattle.items.specs.Kinds.{stringShape, changeShape, shapeOf, pointAfterKind, splitAfterKind, changeKind, pointKind, splitKind}
 use Rattle.items.specs.Words.{kindAt, StringIn}
 use Rattle.items.specs.Arguments.{stringStart, stringLength}
 use Rattle.items.specs.Simple.{CommandAt}
-use Rattle.items.proofs.Meaning.{changing, pointing, formOf, Means, meant-as}
+use Rattle.items.proofs.Meaning.{changing, aiming, formOf, Means, meant-as}
 use Rattle.items.proofs.Strings.{string-inside, string-is}
 use Rattle.editor.specs.declared.State.{State}
 use Rattle.editor.specs.declared.Moved.{Moved}
 use Rattle.editor.specs.Shows.{lent, Answered}
 use Rattle.editor.specs.Current.{PerformsOn}
 use Rattle.changes.specs.Current.{part, changeOf, sought, StringsIn}
-use Rattle.commands.specs.Performing.{changeBy, pointingBy, SomeCommand, PerformsAt}
+use Rattle.commands.specs.Performing.{splitBy, changeBy, pointingBy, SomeCommand, PerformsAt}
 
 less : (a b : ℕ) → (a + b) - a ≡ b
 less a b = omega arith
@@ -73,11 +74,16 @@ change-back kind beforeIt true e = rw e (refl, refl)
 change-back kind exchange false e = rw e (refl, refl)
 change-back kind exchange true e = rw e (refl, refl)
 
--- PA, PB
-point-back : (kind : ℕ) (after : Bool) → kind ≡ pointKind after → eqb kind pointAfterKind ≡ after
-unfolding pointKind
-point-back kind true e = rw e
-point-back kind false e = rw e
+-- PA, PB; SA, SB
+point-back : (kind : ℕ) (after : Bool) → kind ≡ pointKind after → (splitBy kind ≡ false) × (eqb kind pointAfterKind ≡ after)
+unfolding pointKind splitBy
+point-back kind true e = rw e (refl, refl)
+point-back kind false e = rw e (refl, refl)
+
+split-back : (kind : ℕ) (after : Bool) → kind ≡ splitKind after → (splitBy kind ≡ true) × (eqb kind splitAfterKind ≡ after)
+unfolding splitKind splitBy
+split-back kind true e = rw e (refl, refl)
+split-back kind false e = rw e (refl, refl)
 
 -- ---- a qualified string
 
@@ -89,20 +95,20 @@ string-read s w k n q h qs from len e f g = rw (e, f, g, less (startAt w k) (len
 -- ---- commands with strings
 
 module _ (s w : List ℕ) (k kind : ℕ) (is : kind ≡ kindAt w k) where
-  points-mean : shapeOf kind ≡ stringShape → (op : Op) (h : CommandAt s w k op) → Means s w k (h .end) kind pointing op
+  aims-mean : shapeOf kind ≡ stringShape → (op : Op) (h : CommandAt s w k op) → Means s w k (h .end) kind aiming op
   unfolding formOf
-  points-mean shape op h = meant-as s w k kind is pointing (rw shape) op h
+  aims-mean shape op h = meant-as s w k kind is aiming (rw shape) op h
 
   alters-mean : shapeOf kind ≡ changeShape → (op : Op) (h : CommandAt s w k op) → Means s w k (h .end) kind changing op
   unfolding formOf
   alters-mean shape op h = meant-as s w k kind is changing (rw shape) op h
 
-  pub points-read : shapeOf kind ≡ stringShape → SomeCommand s w k → Readable s w (k + 1)
+  pub aims-read : shapeOf kind ≡ stringShape → SomeCommand s w k → Readable s w (k + 1)
   unfolding Means
-  points-read shape (op, h) = on (points-mean shape op h)
+  aims-read shape (op, h) = on (aims-mean shape op h)
     where
-      on : Means s w k (h .end) kind pointing op → Readable s w (k + 1)
-      on (after, q, e, kinds, reads) = reads .fits
+      on : Means s w k (h .end) kind aiming op → Readable s w (k + 1)
+      on (after, q, reads, which) = reads .fits
 
   pub alters-read : shapeOf kind ≡ changeShape → SomeCommand s w k → Readable s w (k + 1)
   unfolding Means
@@ -128,12 +134,23 @@ module _ (s w : List ℕ) (k kind : ℕ) (is : kind ≡ kindAt w k) where
         on (c, p, q, new, n, e, kinds, ends, reads, x, good) = rw (start-is, len-is, at-is ∙ reads .ends) (second s (getD w n 0) new (script-short s (h .form)) x good)
 
   module _ (table j : List ℕ) (st : State) (b : List ℕ) (r : Moved) (qs : Quals) (from len : ℕ) (q-is : qs ≡ qualsAt w (k + 1)) (from-is : from ≡ startAt w (k + 1)) (len-is : len ≡ lengthAt w (k + 1)) where
-    pub points-as : shapeOf kind ≡ stringShape → PerformsOn table j st (Op.point (eqb kind pointAfterKind) (sought qs s from (from + len))) b r → PerformsAt s table w k j st b r
+    pub points-as : shapeOf kind ≡ stringShape → splitBy kind ≡ false → PerformsOn table j st (Op.point (eqb kind pointAfterKind) (sought qs s from (from + len))) b r
+        → PerformsAt s table w k j st b r
     unfolding Means
-    points-as shape does op e c t h ready = on (points-mean shape op h)
+    points-as shape other does op e c t h ready = on (aims-mean shape op h)
       where
-        on : Means s w k (h .end) kind pointing op → Answered b r (step (lent j) op (state e c) t)
-        on (after, q, o, kinds, reads) = rw o (rw (point-back kind after kinds, string-read s w (k + 1) (h .end) q reads qs from len q-is from-is len-is) at (does e c t ready))
+        on : Means s w k (h .end) kind aiming op → Answered b r (step (lent j) op (state e c) t)
+        on (after, q, reads, inl (o, kinds)) = rw o (rw (point-back kind after kinds .1, string-read s w (k + 1) (h .end) q reads qs from len q-is from-is len-is) at (does e c t ready))
+        on (after, q, reads, inr (o, kinds)) = absurd (false≢true (sym other ∙ split-back kind after kinds .0))
+
+    pub splits-as : shapeOf kind ≡ stringShape → splitBy kind ≡ true → PerformsOn table j st (Op.split (eqb kind splitAfterKind) (sought qs s from (from + len))) b r
+        → PerformsAt s table w k j st b r
+    unfolding Means
+    splits-as shape this does op e c t h ready = on (aims-mean shape op h)
+      where
+        on : Means s w k (h .end) kind aiming op → Answered b r (step (lent j) op (state e c) t)
+        on (after, q, reads, inl (o, kinds)) = absurd (false≢true (sym (point-back kind after kinds .0) ∙ this))
+        on (after, q, reads, inr (o, kinds)) = rw o (rw (split-back kind after kinds .1, string-read s w (k + 1) (h .end) q reads qs from len q-is from-is len-is) at (does e c t ready))
 
     pub alters-as : shapeOf kind ≡ changeShape → (at : ℕ) → at ≡ endAt w (k + 1) → (start : ℕ) → start ≡ stringStart (getD w at 0) → (more : ℕ) → more ≡ stringLength (getD w at 0)
         → (change : ℕ) → change ≡ changeBy kind → (points : Bool) → points ≡ pointingBy kind

@@ -1,4 +1,4 @@
--- What a change is by its kind; what the functions are handed that perform a simple command of the script, and what they answer.
+-- What a command with a qualified string is by its kind; what the functions are handed that perform a simple command of the script, and what they answer.
 use mathlib.Core.Bool.{Bool, cond, _||_}
 use mathlib.Core.List.{List}
 use Prim.Native.Nat.{ℕ}
@@ -8,12 +8,16 @@ use Rattle.definitions.specs.Given.{Carried}
 use Rattle.definitions.specs.Editor.{Ed}
 use Rattle.definitions.specs.StepProgram.{state}
 use Rattle.definitions.specs.Edit.{Op, step}
-use Rattle.items.specs.Kinds.{afterKind, afterPointingKind, beforeKind, beforePointingKind, exchangePointingKind}
+use Rattle.items.specs.Kinds.{splitAfterKind, splitBeforeKind, afterKind, afterPointingKind, beforeKind, beforePointingKind, exchangePointingKind}
 use Rattle.items.specs.Simple.{CommandAt}
 use Rattle.editor.specs.declared.State.{State}
 use Rattle.editor.specs.declared.Moved.{Moved}
 use Rattle.editor.specs.Shows.{Shows, lent, Answered}
 use Rattle.editor.specs.Current.{Ready}
+
+-- SA and SB, among the commands with one qualified string
+unfoldable pub splitBy : ℕ → Bool
+splitBy kind = eqb kind splitAfterKind || eqb kind splitBeforeKind
 
 -- what a change does, as the number that stands for it: 0 for A, 1 for B, 2 for E
 unfoldable pub changeBy : ℕ → ℕ

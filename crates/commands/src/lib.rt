@@ -22,9 +22,9 @@ pub fn perform(script: &[u8], table: &[u8], w: &[u32], k: usize, j: &mut [u8], s
     let kind = kind_of(w, k);
     match shape_of(kind) {
         WORDS => one_word::on_lines(kind, table, j, st),
-        PAIRS => lines::of_two_words(script, w, k, kind, j, st),
+        PAIRS => lines::of_two_words(script, table, w, k, kind, j, st),
         FOURS => lines::of_four_words(script, w, k, kind, j, st),
-        STRINGS => qualified::points(script, table, w, k, kind, j, st),
+        STRINGS => qualified::aims(script, table, w, k, kind, j, st),
         _ => qualified::alters(script, table, w, k, kind, j, st),
     }
 }

@@ -1,9 +1,10 @@
-// The commands with lines: M, D, IS; R, I.
+// The commands with lines, or a string: M, D, IS, CL; R, I.
 ghost use mathlib.Core.Path.{_≡_};
 ghost use Rattle.items.specs.Kinds.{pairShape, fourShape, shapeOf};
 ghost use Rattle.items.specs.Words.{kindAt};
 ghost use Rattle.editor.specs.Shows.{ShowsText};
-ghost use Rattle.commands.specs.Performing.{SomeCommand, PerformsLines};
+ghost use Rattle.editor.specs.Current.{IsReady};
+ghost use Rattle.commands.specs.Performing.{SomeCommand, PerformsAt, PerformsLines};
 use editor::Moved;
 use editor::State;
 use editor::edits::insert_line;
@@ -15,15 +16,24 @@ use items::arguments::string_length;
 use items::arguments::string_start;
 use items::heads::number_of;
 use items::kinds::DELETE;
+use items::kinds::JOIN;
 use items::kinds::MOVE;
 use items::kinds::REPLACE;
 use replacing::replace_span;
 use spans::deleting::delete_span;
 
-// M, D, IS.
-pub fn of_two_words(script: &[u8], w: &[u32], k: usize, kind: u32, j: &mut [u8], st: State) -> Moved
-    requires { ⌜ SomeCommand (now script) (now w) k × ShowsText (now j) st × (kind ≡ kindAt (now w) k) × (shapeOf kind ≡ pairShape) ⌝ }
-    ensures { λ r. ⌜ PerformsLines (now (script .entry)) (now (w .entry)) k (now (j .entry)) st (now (j .exit)) r ⌝ }
+// M, D, IS, CL.
+pub fn of_two_words(
+    script: &[u8],
+    table: &[u8],
+    w: &[u32],
+    k: usize,
+    kind: u32,
+    j: &mut [u8],
+    st: State,
+) -> Moved
+    requires { ⌜ SomeCommand (now script) (now w) k × IsReady (now table) (now j) st × (kind ≡ kindAt (now w) k) × (shapeOf kind ≡ pairShape) ⌝ }
+    ensures { λ r. ⌜ PerformsAt (now (script .entry)) (now (table .entry)) (now (w .entry)) k (now (j .entry)) st (now (j .exit)) r ⌝ }
 {
     let word = w[k + 1];
     if kind == MOVE {
@@ -33,7 +43,12 @@ pub fn of_two_words(script: &[u8], w: &[u32], k: usize, kind: u32, j: &mut [u8],
         let through = span_through(number_of(w, k), word);
         return delete_span(j, st, span_from(word), through);
     }
-    insert_line(j, st, script, string_start(word), string_length(word))
+    let from = string_start(word);
+    let n = string_length(word);
+    if kind == JOIN {
+        return joins::join(table, j, st, script, from, n);
+    }
+    insert_line(j, st, script, from, n)
 }
 
 // R, I.

@@ -1,9 +1,9 @@
-// The commands with a qualified string: PA, PB; A, B, E, AP, BP, EP.
+// The commands with a qualified string: PA, PB, SA, SB; A, B, E, AP, BP, EP.
 ghost use mathlib.Core.Path.{_≡_};
 ghost use Rattle.items.specs.Kinds.{stringShape, changeShape, shapeOf};
 ghost use Rattle.items.specs.Words.{kindAt};
 ghost use Rattle.editor.specs.Current.{IsReady};
-ghost use Rattle.commands.specs.Performing.{changeBy, pointingBy, SomeCommand, PerformsAt};
+ghost use Rattle.commands.specs.Performing.{splitBy, changeBy, pointingBy, SomeCommand, PerformsAt};
 use editor::Moved;
 use editor::State;
 use items::arguments::string_length;
@@ -14,13 +14,26 @@ use items::kinds::BEFORE;
 use items::kinds::BEFORE_POINTING;
 use items::kinds::EXCHANGE_POINTING;
 use items::kinds::POINT_AFTER;
+use items::kinds::SPLIT_AFTER;
+use items::kinds::SPLIT_BEFORE;
 use matching::search::end_at;
 use matching::search::length_at;
 use matching::search::quals_at;
 use matching::search::start_at;
 
-// PA, PB.
-pub fn points(
+// SA and SB, among the commands with one qualified string.
+fn is_split(kind: u32) -> bool
+    ensures { λ r. ⌜ r ≡ splitBy kind ⌝ }
+{
+    match kind {
+        SPLIT_AFTER => true,
+        SPLIT_BEFORE => true,
+        _ => false,
+    }
+}
+
+// PA, PB, SA, SB.
+pub fn aims(
     script: &[u8],
     table: &[u8],
     w: &[u32],
@@ -36,6 +49,9 @@ pub fn points(
     let q = quals_at(w, at);
     let from = start_at(w, at);
     let to = from + length_at(w, at);
+    if is_split(kind) {
+        return splits::split(table, j, st, kind == SPLIT_AFTER, q, script, from, to);
+    }
     changes::point(table, j, st, kind == POINT_AFTER, q, script, from, to)
 }
 

@@ -1,4 +1,4 @@
--- Marked cases K1 to K12 of document 01, and some more, computed from the bytes of tables and scripts.
+-- Marked cases K1 to K12 of document 01, some more, and cases of document 02's wishes, computed from the bytes of tables and scripts.
 use mathlib.Core.Path.{_≡_, refl}
 use mathlib.Core.List.{List, [], _∷_, map}
 use Prim.Native.Nat.{ℕ}
@@ -105,3 +105,31 @@ moreCases =
 pub more-cases : map computed moreCases ≡ map stated moreCases
 unfolding everything printed programPrints computed stated largest same moreCases
 more-cases = refl
+
+-- ---- document 02, wish 1: SA, SB, CL
+
+unfoldable pub wishOneCases : List Case
+wishOneCases =
+    -- the left part is inserted before, the rest is the current line's text; where that is the old text, the record is kept (W1.2, W1.3)
+    case largest "ab12\n" "SA/ab/\n" (answer 0 1 1 0 (inserted (bytes "ab") ∷ changed (bytes "ab12") (bytes "12") ∷ []))
+    ∷ case largest "ab12\n" "SB/ab/\n" (answer 0 1 1 0 (inserted (bytes "") ∷ same "ab12" ∷ []))
+    -- the bytes before p belong to the left part, and p is 0 afterwards
+    ∷ case largest "ab12\n" "PA/ab/; SB/12/; A//x/\n" (answer 0 3 1 0 (inserted (bytes "ab") ∷ changed (bytes "ab12") (bytes "x12") ∷ []))
+    -- CL leaves p (W1.9)
+    ∷ case largest "ab\ncd\n" "PA/ab/; CL/-/; A//!/\n" (answer 0 3 2 0 (changed (bytes "ab") (bytes "ab!-cd") ∷ deleted (bytes "cd") ∷ []))
+    -- it passes over deleted lines, and stops on the last live one, having read EOF (W1.8)
+    ∷ case largest "a\nb\nc\n" "D 2; BF/a/; CL//\n" (answer 0 5 3 0 (changed (bytes "a") (bytes "ac") ∷ deleted (bytes "b") ∷ deleted (bytes "c") ∷ []))
+    ∷ case largest "ab\ncd\n" "N; D; BF/a/; CL//\n" (answer 30 5 3 13 (same "ab" ∷ deleted (bytes "cd") ∷ []))
+    -- a changed line is deleted with its old text, an inserted one leaves no record (W1.6)
+    ∷ case largest "a\nb\n" "N; E/b/c/; P; CL//\n" (answer 0 4 2 0 (changed (bytes "a") (bytes "ac") ∷ deleted (bytes "b") ∷ []))
+    ∷ case largest "a\n" "N; IS/b/; P; P; CL//\n" (answer 0 5 2 0 (changed (bytes "a") (bytes "ab") ∷ []))
+    -- the joined text is the old one again
+    ∷ case largest "ab\nb\n" "E/b//; CL//\n" (answer 0 2 2 0 (same "ab" ∷ deleted (bytes "b") ∷ []))
+    -- at EOF: 20, and nothing is read; a qualifier is 3 at it (W0.5)
+    ∷ case largest "a\n" "N; CL//\n" (answer 20 2 2 3 (same "a" ∷ []))
+    ∷ case largest "a\n" "CL B/x/\n" (refusal 3 3)
+    ∷ []
+
+pub wish-one : map computed wishOneCases ≡ map stated wishOneCases
+unfolding everything printed programPrints computed stated largest same wishOneCases
+wish-one = refl

@@ -1,5 +1,5 @@
--- What one step reads, tests and does, a program for each command (document 01, "Commands"; numbers 20 to 28 of "Who causes which number"). The lines of a
--- program stand in document 01's order of tests.
+-- What one step reads, tests and does, a program for each command (document 01, "Commands"; numbers 20 to 28 of "Who causes which number"; document 02, wish 1:
+-- SA, SB, CL, number 30). The lines of a program stand in document 01's order of tests.
 use mathlib.Core.Bool.{Bool, true, false, not}
 use mathlib.Core.Option.{Option, none, some}
 use mathlib.Core.List.{List, [], _∷_, _++_}
@@ -12,8 +12,8 @@ use Rattle.definitions.specs.Matching.{Qualified, placeOf, stringIn}
 use Rattle.definitions.specs.Search.{Search, holds, holdsAtEof}
 use Rattle.definitions.specs.Tape.{Reads}
 use Rattle.definitions.specs.Given.{Given}
-use Rattle.definitions.specs.Editor.{Ed, ed, records, sources, beforeOf, afterOf, current, hasLive, Stop, n20, n21, n22, n23, n24, n25, n27, n28}
-use Rattle.definitions.specs.Editor.{Target, here, line, eof, Through, alone, upTo, toEof, Move, ahead, back, to, pointTo, strike, strikeBack, put, retext}
+use Rattle.definitions.specs.Editor.{Ed, ed, records, sources, beforeOf, afterOf, current, hasLive, firstLive, Stop, n20, n21, n22, n23, n24, n25, n27, n28, n30}
+use Rattle.definitions.specs.Editor.{Target, line, eof, Through, alone, upTo, toEof, Move, ahead, back, to, pointTo, strike, strikeBack, strikeNext, put, retext}
 use Rattle.definitions.specs.StepProgram.{Program, gives, stops, looks, reads, moves, _>>=_, _>>_, RunState, Did, answers, changes, quits, Out, perform}
 
 -- A, B and E: insert after, before, or exchange
@@ -46,6 +46,9 @@ pub data Op : Type 0 where
   copy : Op
   -- A, B, E; true: AP, BP, EP
   alter : Change → Bool → Qualified → Line → Op
+  -- SA (true), SB; CL (document 02, wish 1)
+  split : Bool → Qualified → Op
+  join : Line → Op
   -- PA (true), PB; PR; > and <
   point : Bool → Qualified → Op
   pointStart right left : Op
@@ -185,6 +188,25 @@ write l q = do
   stopIf n25 (ltb 255 (length l))
   gives (changes (retext l q ∷ []))
 
+-- ---- a line cut in two, two lines made one (document 02, wish 1)
+
+-- the line is cut after k bytes: "the left part is inserted before, the rest becomes the current line's text"; SA and SB leave p at 0 (W1.2, W1.3)
+unfoldable pub cutAfter : Line → ℕ → Program Did
+cutAfter l k = gives (changes (put (take k l ∷ []) ∷ retext (drop k l) 0 ∷ []))
+
+-- the next live line's text, which is read; "30: CL with no next line" (W1.6, W1.8)
+unfoldable pub nextOr30 : Program Line
+nextOr30 = do
+  readPast 1
+  after ← see afterOf
+  orStop n30 (firstLive (drop 1 after))
+
+-- the current line's text becomes `l`, p becomes q, and the next live line is deleted; 25 as in `write`
+unfoldable pub writeJoined : Line → ℕ → Program Did
+writeJoined l q = do
+  stopIf n25 (ltb 255 (length l))
+  gives (changes (retext l q ∷ strikeNext ∷ []))
+
 -- ---- D
 
 -- how many records there are through the one after `k` source records of `rs`, n standing before `rs`; 21 and 23 as in a move
@@ -279,6 +301,16 @@ program (alter c pointing q new) = do
   (l, p) ← lineOr n20
   i ← placeOr24 q l p
   write (altered c l i (length (stringIn q)) new) (alteredPoint c pointing p i (length (stringIn q)) (length new))
+-- "SA and SB test as E does": 20, 24, 26 (W1.4)
+program (split after q) = do
+  (l, p) ← lineOr n20
+  i ← placeOr24 q l p
+  cutAfter l (pointBy after i (length (stringIn q)))
+-- "CL has read the next live line before 25 is tested"; "CL leaves [p] unmoved" (W1.7, W1.9)
+program (join s) = do
+  (l, p) ← lineOr n20
+  next ← nextOr30
+  writeJoined (l ++ (s ++ next)) p
 -- PA, PB, PR, >, <
 program (point after q) = do
   (l, p) ← lineOr n20

@@ -1,6 +1,7 @@
 -- The text of a run: the records as far as read, the current line, the window (document 01, "Tables and the journal"); moves among the records, and
 -- changes of them.
 use mathlib.Core.Bool.{Bool, true, false, _||_}
+use mathlib.Core.Option.{Option, none, some}
 use mathlib.Core.List.{List, [], _∷_, _++_, map, reverseAux}
 use Prim.Native.Nat.{ℕ, zero, suc, _-_}
 use lib.ListN.{length}
@@ -54,11 +55,19 @@ unfoldable pub hasLive : List Record → Bool
 hasLive [] = false
 hasLive (r ∷ rs) = isLive r || hasLive rs
 
+-- the text of the first live line among records
+unfoldable pub firstLive : List Record → Option Line
+firstLive [] = none
+firstLive (kept l ∷ rs) = some l
+firstLive (changed o n ∷ rs) = some n
+firstLive (deleted l ∷ rs) = firstLive rs
+firstLive (inserted l ∷ rs) = some l
+
 -- ---- numbers
 
--- the numbers with which a command stops before its end ("The run: 20 ..")
+-- the numbers with which a command stops before its end ("The run: 20 .."; 30 of document 02, wish 1)
 pub data Stop : Type 0 where
-  n20 n21 n22 n23 n24 n25 n26 n27 n28 : Stop
+  n20 n21 n22 n23 n24 n25 n26 n27 n28 n30 : Stop
 
 unfoldable pub stopNumber : Stop → ℕ
 stopNumber n20 = 20
@@ -70,6 +79,7 @@ stopNumber n25 = 25
 stopNumber n26 = 26
 stopNumber n27 = 27
 stopNumber n28 = 28
+stopNumber n30 = 30
 
 -- an answer, or the number to stop with
 pub data Got (A : Type 0) : Type 0 where
@@ -141,6 +151,8 @@ pub data Edit : Type 0 where
   strike : ℕ → Edit
   -- the nearest k live lines before the current one are deleted
   strikeBack : ℕ → Edit
+  -- the next live line after the current one is deleted
+  strikeNext : Edit
   -- "An insertion goes directly before the current line's record, or at the end if EOF is current"
   put : List Line → Edit
   -- the current line's text, and p
@@ -160,6 +172,14 @@ struckBack (suc k) (changed o n ∷ before) passed = struckBack k before (delete
 struckBack (suc k) (deleted l ∷ before) passed = struckBack (suc k) before (deleted l ∷ passed)
 struckBack (suc k) (inserted l ∷ before) passed = struckBack k before passed
 
+-- the first live line among records is deleted, a source line with its old text (W1.6)
+unfoldable pub struckNext : List Record → List Record
+struckNext [] = []
+struckNext (kept l ∷ rs) = deleted l ∷ rs
+struckNext (changed o n ∷ rs) = deleted o ∷ rs
+struckNext (deleted l ∷ rs) = deleted l ∷ struckNext rs
+struckNext (inserted l ∷ rs) = rs
+
 unfoldable pub putBefore : List Line → List Record → List Record
 putBefore [] before = before
 putBefore (l ∷ ls) before = putBefore ls (inserted l ∷ before)
@@ -167,6 +187,8 @@ putBefore (l ∷ ls) before = putBefore ls (inserted l ∷ before)
 unfoldable pub edit : Edit → Ed → Ed
 edit (strike k) (ed before after p) = struck k before after
 edit (strikeBack k) (ed before after p) = ed (struckBack k before []) after p
+edit strikeNext (ed before [] p) = ed before [] p
+edit strikeNext (ed before (r ∷ after) p) = ed before (r ∷ struckNext after) p
 edit (put ls) (ed before after p) = ed (putBefore ls before) after p
 edit (retext l q) (ed before [] p) = ed before [] p
 edit (retext l q) (ed before (r ∷ after) p) = ed before (rewrite r l ∷ after) q

@@ -17,8 +17,8 @@ use Rattle.definitions.specs.Edit.{Op, program, step}
 use Rattle.theorems.specs.RecordLaws.{reverse-append, old-append}
 use Rattle.theorems.specs.JournalBytes.{table-reads-back}
 use Rattle.text.specs.Feeds.{placeOf}
-use Rattle.editor.specs.Records.{oldBytes, LineIn}
-use Rattle.editor.specs.Shows.{Holds, Shows, TextAt, lent, Performs}
+use Rattle.editor.specs.Records.{enc, Good, oldBytes, LineIn}
+use Rattle.editor.specs.Shows.{Shows, TextAt, lent, Performs}
 use Rattle.editor.specs.Current.{currentLine, PointIn, TableOf, ShowsOf, ShownOf, CopiesLine, PerformsOf}
 use Rattle.editor.specs.declared.State.{State}
 use Rattle.editor.specs.declared.Moved.{Moved}
@@ -87,7 +87,7 @@ module _ {j : List ℕ} {st : State} (more : st .back < length j) (table : List 
 -- ---- a line in the journal
 
 module _ {j : List ℕ} {st : State} (from n : ℕ) (more : st .back < length j)
-    (texts : (b : List Record) (x : Record) (a : List Record) → Holds j st b (x ∷ a) → TextAt j (st .back) from n x) where
+    (texts : (r : Record) (z : List ℕ) → Good r → drop (st .back) j ≡ enc r ++ z → TextAt j (st .back) from n r) where
   pub other-room : (e : Ed) (t : Tape) → Shows j st e t → from + n ≤ length j
   other-room e t h = omega (arith, text-here e t h more texts .within)
 
@@ -135,7 +135,7 @@ copy-eof {j = j} end e c t h = perform-no-line (lent j) c n20 (λ x. gives (chan
 
 -- IC elsewhere: the insertion of the current line's text, which is copied to the start of `line`
 module _ {table j : List ℕ} {st : State} (d line : List ℕ) (n : ℕ) (copied : CopiesLine table j st d line n) where
-  copied-text : (e : Ed) (t : Tape) → ShowsOf table j st e t → take n (drop 0 line) ≡ currentLine e
+  pub copied-text : (e : Ed) (t : Tape) → ShowsOf table j st e t → take n (drop 0 line) ≡ currentLine e
   copied-text e t h = let w = copied e t h in ap (take n) (w .1) ∙ take-at (currentLine e) (drop n d) n (sym (w .0))
 
   pub copied-good : ShownOf table j st → LineIn line 0 n

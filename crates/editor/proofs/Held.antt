@@ -53,6 +53,10 @@ module _ {j : List ℕ} {st : State} {b : List Record} {r : Record} {a : List Re
       h .bytes ∙ rw (marked r) (sym (append-assoc (encBefore b) (zeros (st .back - st .front)) (mark r ∷ (unmarked r ++ encAll a)))) in
       rw q (getD-at B (mark r) (unmarked r ++ encAll a) 0 (st .back) (front-part h))
 
+  pub held-bytes : drop (st .back) j ≡ enc r ++ encAll a
+  unfolding encAll
+  held-bytes = held-drop h
+
   pub held-record : lineLength (drop (st .back) j) ≡ length (enc r)
   unfolding encAll
   held-record = rw (held-drop h) (record-line r (encAll a) (h .good .0))

@@ -5,20 +5,20 @@ use mathlib.Core.Option.{Option, none, some}
 use Prim.Native.Nat.{ℕ, zero, suc, _+_, _-_, _≤_, _<_}
 use native.Mathlib.Omega.{arith}
 use mathlib.Core.List.{List, [], _∷_, _++_, reverseAux}
-use lib.ListN.{length, drop, getD}
+use lib.ListN.{length, drop, getD, length-append}
 use lib.Dec.{leb, eqb}
 use borrow.Author.Tests.{leb-false}
 use Rattle.definitions.specs.Bytes.{Line, eqLine}
 use Rattle.definitions.specs.Journal.{Record, kept, changed, deleted, inserted, change, rewrite, erase}
 use Rattle.definitions.specs.Tape.{Tape, unread, ended, restLines, bind}
 use Rattle.definitions.specs.Given.{Given, Carried}
-use Rattle.definitions.specs.Editor.{Ed, ed, beforeOf, afterOf, records, sources, current, isLive, hasLive, Stop, n20, n21, n22, n23, n24, n25, n27, n28, Got, stop, land, goBack, locate}
-use Rattle.definitions.specs.Editor.{Target, here, line, eof, Through, alone, upTo, toEof, Move, ahead, back, to, pointTo, moved, strike, strikeBack, put, retext, struck, struckBack, putBefore, edit, edits}
+use Rattle.definitions.specs.Editor.{Ed, ed, beforeOf, afterOf, records, sources, current, isLive, hasLive, firstLive, Stop, n20, n21, n22, n23, n24, n25, n27, n28, n30, Got, stop, land, goBack, locate}
+use Rattle.definitions.specs.Editor.{Target, here, line, eof, Through, alone, upTo, toEof, Move, ahead, back, to, pointTo, moved, strike, strikeBack, strikeNext, put, retext, struck, struckBack, putBefore, edit, edits}
 use Rattle.definitions.specs.Reading.{Ran, gave, stopped, readTo, onceRead}
 use Rattle.definitions.specs.StepProgram.{Program, gives, stops, _>>=_, _>>_, runs, state, textOf, Did, answers, changes, quits, Out, finish, perform}
 use Rattle.definitions.specs.Matching.{Qualified, placeOf, stringIn}
 use Rattle.definitions.specs.Search.{Search, holds}
-use Rattle.definitions.specs.Edit.{Op, Change, afterIt, beforeIt, exchange, stopIf, orStop, either, see, go, goesOn, readUpTo, readPast, goAhead, goTo, lineIn, lineOr, isAtEof, lookOn, lookBack, splice, altered, alteredPoint, pointBy, cased, recased, placeOr24, write, countThrough, reach, span, program, step}
+use Rattle.definitions.specs.Edit.{Op, Change, afterIt, beforeIt, exchange, stopIf, orStop, either, see, go, goesOn, readUpTo, readPast, goAhead, goTo, lineIn, lineOr, isAtEof, lookOn, lookBack, splice, altered, alteredPoint, pointBy, cased, recased, placeOr24, write, cutAfter, nextOr30, writeJoined, countThrough, reach, span, program, step}
 use Rattle.theorems.specs.Reading.{At}
 use Rattle.theorems.specs.ReadLines.{readNext, lacking, seenAll, read-line, read-eof, read-past}
 use Rattle.theorems.specs.ComesTo.{Ended, OnGot, ComesTo, then-comes, and-comes, either-comes, test-comes, line-comes, byte-comes, go-comes, within-comes}
@@ -207,6 +207,15 @@ module _ (g : Given) (c : Carried) where
       (λ n. test-part n28 (leb b n) _ (and-part (readUpTo (line b)) _ (read-part (line b)) (then-part (see afterOf) _ (see-part afterOf) (λ after. count-part 0 (b - suc n) after))))
   reach-part toEof = and-part (readUpTo eof) _ (read-part eof) (see-part (λ e. length (afterOf e)))
 
+  or-part : {A : Type 0} (n : Stop) (o : Option A) → Part (orStop n o)
+  unfolding orStop
+  or-part n none = stops-part n (stops n) refl
+  or-part n (some a) = gives-part a
+
+  next-part : Part nextOr30
+  unfolding nextOr30
+  next-part = and-part (readPast 1) _ (past-part 1) (then-part (see afterOf) _ (see-part afterOf) (λ after. or-part n30 (firstLive (drop 1 after))))
+
   span-part : (a : Target) (b : Through) → Part (span a b)
   unfolding span
   span-part a b =
@@ -347,6 +356,10 @@ module _ (g : Given) (c : Carried) where
     write-step l q i =
         test-comes g c Done Any n25 _ (gives (changes (retext l q ∷ []))) (ed b (r ∷ a) p) t (λ x. tt) (λ x. unfold runs edits edit in (rw (rewrite-text r l (h .0)) i))
 
+    cut-step : (k : ℕ) → ComesTo g c Done Any (cutAfter (current r) k) (ed b (r ∷ a) p) t
+    unfolding cutAfter runs edits edit
+    cut-step k = omega arith
+
     some-step : (o : Option ℕ) (k : ℕ → Program Did) → ((i : ℕ) → o ≡ some i → ComesTo g c Done Any (k i) (ed b (r ∷ a) p) t) → ComesTo g c Done Any (_>>=_ (orStop n24 o) k) (ed b (r ∷ a) p) t
     unfolding orStop _>>=_ runs
     some-step none k f = tt
@@ -356,6 +369,15 @@ module _ (g : Given) (c : Carried) where
         → ComesTo g c Done Any (_>>=_ (placeOr24 q (current r) p) k) (ed b (r ∷ a) p) t
     unfolding placeOr24
     place-step q k f = some-step (placeOf q p (current r)) k (λ i is. f i (place-inside q p (current r) i (h .1) is .0) (place-inside q p (current r) i (h .1) is .1))
+
+  -- CL: the joined text is no shorter than the current line was
+  joined-step : (l : Line) (q : ℕ) → q ≤ length l → Step (writeJoined l q)
+  unfolding writeJoined
+  joined-step l q i e t h = test-comes g c Done Any n25 _ (gives (changes (retext l q ∷ strikeNext ∷ []))) e t (λ x. tt) (λ x. by e h)
+    where
+      by : (e : Ed) → PointAt e t → ComesTo g c Done Any (gives (changes (retext l q ∷ strikeNext ∷ []))) e t
+      by (ed b [] p) h = unfold runs edits edit in tt
+      by (ed b (r ∷ a) p) h = unfold runs edits edit in (rw (rewrite-text r l (h .0)) i)
 
   start-step : Step (_>>_ (lineOr n20) (_>>_ (go (pointTo 0)) goesOn))
   unfolding _>>_
@@ -388,6 +410,13 @@ module _ (g : Given) (c : Carried) where
   program-in (Op.alter d pointing q new) (ed b (r ∷ a) p) t h =
       line-comes g c Done Any n20 _ (ed b (r ∷ a) p) t
       (place-step b r a p t h q _ (λ i x y. write-step b r a p t h _ _ (altered-in d pointing (current r) p i (length (stringIn q)) new x y)))
+  program-in (Op.split after q) (ed b [] p) t h = line-comes g c Done Any n20 _ (ed b [] p) t tt
+  program-in (Op.split after q) (ed b (r ∷ a) p) t h =
+      line-comes g c Done Any n20 _ (ed b (r ∷ a) p) t (place-step b r a p t h q _ (λ i x y. cut-step b r a p t h _))
+  program-in (Op.join s) (ed b [] p) t h = line-comes g c Done Any n20 _ (ed b [] p) t tt
+  program-in (Op.join s) (ed b (r ∷ a) p) t h =
+      line-comes g c Done Any n20 _ (ed b (r ∷ a) p) t
+      (part-then nextOr30 _ (next-part g c) (λ m. joined-step (current r ++ (s ++ m)) p (omega (arith, length-append (current r) (s ++ m), h .1))) (ed b (r ∷ a) p) t h)
   program-in (Op.point after q) (ed b [] p) t h = line-comes g c Done Any n20 _ (ed b [] p) t tt
   program-in (Op.point after q) (ed b (r ∷ a) p) t h =
       line-comes g c Done Any n20 _ (ed b (r ∷ a) p) t

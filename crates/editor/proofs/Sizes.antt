@@ -6,19 +6,26 @@ use mathlib.Core.List.{List, [], _∷_, _++_, append-assoc}
 use lib.ListN.{length, drop, getD, length-append, length-drop}
 use lib.Seq.{getD-drop}
 use Rattle.definitions.specs.Journal.{Record, kept, changed, deleted, inserted}
-use Rattle.text.specs.Feeds.{placeOf}
+use Rattle.text.specs.Feeds.{placeOf, lineLength}
 use Rattle.editor.specs.Records.{enc, mark, Good, oldBytes, zeroPlace}
-use Rattle.editor.proofs.Records.{text-place, marked, three-bytes, old-bytes-one, line-text}
+use Rattle.editor.proofs.Records.{text-place, marked, three-bytes, old-bytes-one, line-text, record-line}
 
 module _ (j : List ℕ) (at : ℕ) where
   -- the record's bytes are in the buffer
   pub stands-inside : (r : Record) (z : List ℕ) → drop at j ≡ enc r ++ z → at + 3 ≤ length j
   stands-inside r z is = omega (arith, length-drop at j, ap length is, length-append (enc r) z, three-bytes r)
 
-  first-byte : (r : Record) (z : List ℕ) → drop at j ≡ enc r ++ z → getD j at 0 ≡ mark r
+  pub first-byte : (r : Record) (z : List ℕ) → drop at j ≡ enc r ++ z → getD j at 0 ≡ mark r
   first-byte r z is =
       let none : at + 0 ≡ at = omega arith in
       rw none at (sym (getD-drop at j 0 0)) ∙ rw (is, marked r)
+
+  pub whole-inside : (r : Record) (z : List ℕ) → drop at j ≡ enc r ++ z → at + length (enc r) ≤ length j
+  whole-inside r z is = omega (arith, length-drop at j, ap length is, length-append (enc r) z, three-bytes r)
+
+  -- its line feed ends it
+  pub line-whole : (r : Record) (z : List ℕ) → Good r → drop at j ≡ enc r ++ z → lineLength (drop at j) ≡ length (enc r)
+  line-whole r z good is = rw is (record-line r z good)
 
   -- the place of the 0 after the old text
   pub zero-place : (o n z : List ℕ) → Good (changed o n) → drop at j ≡ enc (changed o n) ++ z → zeroPlace (drop at j) ≡ 2 + length o

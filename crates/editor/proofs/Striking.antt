@@ -74,7 +74,7 @@ module _ {j : List ℕ} {st : State} {f : ℕ} {o n : List ℕ} {b a : List Reco
 -- ---- the mark
 
 -- both bytes of a mark
-mark-set : (B X Z : List ℕ) (f x y : ℕ) → length B ≡ f → set (set ((B ++ (x ∷ y ∷ X)) ++ Z) f 45) (f + 1) 45 ≡ (B ++ (45 ∷ 45 ∷ X)) ++ Z
+pub mark-set : (B X Z : List ℕ) (f x y : ℕ) → length B ≡ f → set (set ((B ++ (x ∷ y ∷ X)) ++ Z) f 45) (f + 1) 45 ≡ (B ++ (45 ∷ 45 ∷ X)) ++ Z
 mark-set B X Z f x y at =
     let one : length (B ++ (45 ∷ [])) ≡ f + 1 = length-append B (45 ∷ []) ∙ ap (λ (i : ℕ). i + 1) at in
     rw (append-assoc B (x ∷ y ∷ X) Z, set-at B x (y ∷ (X ++ Z)) 45 f at, ← append-assoc B (45 ∷ []) (y ∷ (X ++ Z)), set-at (B ++ (45 ∷ [])) y (X ++ Z) 45 (f + 1) one)

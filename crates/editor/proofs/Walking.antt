@@ -10,11 +10,11 @@ use Rattle.definitions.specs.Journal.{Record}
 use Rattle.definitions.specs.Editor.{ed, beforeOf, afterOf, sources, land}
 use Rattle.gap.specs.Gap.{zeros, ZeroGap, movedDown, movedUp}
 use Rattle.gap.proofs.Laws.{down-parts, up-parts}
-use Rattle.editor.specs.Records.{encAll, encBefore, mark}
+use Rattle.editor.specs.Records.{enc, encAll, encBefore, mark, Good}
 use Rattle.editor.specs.Shows.{Holds, Placed, PassesOver, PassesBack, Walks, backTo, onTo, toSource, Away, raised, lineAt}
 use Rattle.editor.specs.declared.State.{State}
 use Rattle.editor.proofs.Records.{sourced, new-line, old-line, some-bytes, sources-cons, sources-nil, before-all}
-use Rattle.editor.proofs.Held.{stays-on, holds-as, holds-lists, placed-by, held-length, held-gap, held-first, held-none, held-nearest, held-less, held-mark, held-more}
+use Rattle.editor.proofs.Held.{stays-on, holds-as, holds-lists, placed-by, held-length, held-gap, held-first, held-none, held-nearest, held-less, held-mark, held-bytes, held-more}
 use Rattle.editor.proofs.Reaching.{land-over, land-live, land-eof, back-here, back-more, back-on, on-over, on-here, on-eof, source-same}
 
 -- ---- where a walk has come to
@@ -40,6 +40,12 @@ pub passable : {j : List ℕ} {s : State} {b a : List Record} → Holds j s b a 
 passable {j} {s} {b} {a} h more =
     let f : (r : Record) × (d : List Record) × (a ≡ r ∷ d) = held-first h more in
     (b, f .0, f .1, holds-lists refl (f .2) h)
+
+-- its bytes
+pub standing : {j : List ℕ} {s : State} {b a : List Record} → Holds j s b a → s .back < length j → (r : Record) × (z : List ℕ) × Good r × (drop (s .back) j ≡ enc r ++ z)
+standing h more =
+    let w = passable h more in
+    (w .1, encAll (w .2), w .3 .good .0, held-bytes (w .3))
 
 -- and at its start
 pub unpassable : {j : List ℕ} {s : State} {b a : List Record} → Holds j s b a → 0 < s .front → (r : Record) × (c : List Record) × (d : List Record) × Holds j s (r ∷ c) d

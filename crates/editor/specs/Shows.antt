@@ -11,7 +11,7 @@ use Rattle.definitions.specs.Tape.{Tape, unread, ended, restLines}
 use Rattle.definitions.specs.Given.{Given, given, Room, Carried}
 use Rattle.definitions.specs.Editor.{Ed, ed, beforeOf, afterOf, sources, furthest, current, isLive, stopNumber, land, putBefore, Target, here, line, eof}
 use Rattle.definitions.specs.Reading.{Ran, gave, stopped}
-use Rattle.definitions.specs.StepProgram.{Program, runs, state, Out, on, edited, halt}
+use Rattle.definitions.specs.StepProgram.{Program, runs, state, Did, Out, on, edited, halt, perform}
 use Rattle.definitions.specs.Edit.{Op, step}
 use Rattle.gap.specs.Gap.{zeros}
 use Rattle.editor.specs.declared.State.{State}
@@ -137,6 +137,10 @@ DoesPart j st m k r = (e : Ed) (c : Carried) (t : Tape) → Shows j st e t → C
 -- the same of a whole command
 abbrev pub Performs : List ℕ → State → Op → List ℕ → Moved → Type 0
 Performs j st op k r = (e : Ed) (c : Carried) (t : Tape) → Shows j st e t → Answered k r (step (lent j) op (state e c) t)
+
+-- the same of what is left of one
+abbrev pub Completes : List ℕ → State → Program Did → List ℕ → Moved → Type 0
+Completes j st m k r = (e : Ed) (c : Carried) (t : Tape) → Shows j st e t → Answered k r (perform (lent j) m (state e c) t)
 
 -- ---- moves of the gap
 

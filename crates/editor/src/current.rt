@@ -19,7 +19,7 @@ pub fn current_line<'a>(table: &'a [u8], j: &'a [u8], st: State) -> &'a [u8]
         let to = text::feeds::place_after(table, from, 10);
         return &table[from..to];
     }
-    let x = crate::walk::line_text(j, st);
+    let x = crate::walk::text_at(j, at);
     let from = x.from;
     let to = from + x.n;
     &j[from..to]

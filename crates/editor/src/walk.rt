@@ -25,27 +25,26 @@ pub fn zero_after(j: &[u8], at: usize) -> usize
     text::feeds::place_after(j, at, 0)
 }
 
-// Where the text of the current line stands.
+// Where the text of a line stands.
 pub struct Text {
     pub from: usize,
     pub n: usize,
 }
 
-// The text of the current line: the new one of a changed line.
-pub fn line_text(j: &[u8], st: State) -> Text
-    requires { ⌜ ((b : List Record) × (x : Record) × (a : List Record) × Holds (now j) st b (x ∷ a)) ⌝ }
-    ensures { λ r. ⌜ ((b : List Record) (x : Record) (a : List Record) → Holds (now (j .entry)) st b (x ∷ a) → TextAt (now (j .entry)) (st .back) (r .from) (r .n) x) ⌝ }
+// The text of the line whose record starts at `at`: the new one of a changed line.
+pub fn text_at(j: &[u8], at: usize) -> Text
+    requires { ⌜ ((r : Record) × (z : List ℕ) × Good r × (drop at (now j) ≡ enc r ++ z)) ⌝ }
+    ensures { λ x. ⌜ ((r : Record) (z : List ℕ) → Good r → drop at (now (j .entry)) ≡ enc r ++ z → TextAt (now (j .entry)) at (x .from) (x .n) r) ⌝ }
 {
-    let b = st.back;
-    let end = record_end(j, b) - 1;
-    if j[b] == 60 {
-        let from = zero_after(j, b) + 1;
+    let end = record_end(j, at) - 1;
+    if j[at] == 60 {
+        let from = zero_after(j, at) + 1;
         return Text {
             from,
             n: end - from,
         };
     }
-    let from = b + 2;
+    let from = at + 2;
     Text {
         from,
         n: end - from,

@@ -5,9 +5,10 @@ use mathlib.Core.List.{List, [], _∷_}
 use Prim.Native.Nat.{ℕ, _+_, _≤_, _<_}
 use native.Mathlib.Omega.{arith}
 use lib.ListN.{length, getD}
+use Rattle.definitions.specs.Matching.{Qualified}
 use Rattle.definitions.specs.Search.{Search, one}
 use Rattle.definitions.specs.Editor.{Target, Through}
-use Rattle.definitions.specs.Edit.{is, isNot, isEof, Op, onlyStep, quit, test, begin, beginBack, find, findBack, findDelete, move, nextLine, previousLine, delete, replace, insert, copy, alter, point, pointStart, right, left, cutByte, recase}
+use Rattle.definitions.specs.Edit.{is, isNot, isEof, Op, onlyStep, quit, test, begin, beginBack, find, findBack, findDelete, move, nextLine, previousLine, delete, replace, insert, copy, alter, split, join, point, pointStart, right, left, cutByte, recase}
 use Rattle.definitions.specs.Control.{Opener, times, forever, bare, branch, loop, Item, simple, seek, opens, bracket, close, otherwise, leave, lineEnd}
 use Rattle.matching.specs.Words.{Encodes}
 use Rattle.matching.proofs.Running.{forward}
@@ -28,6 +29,12 @@ module _ (s w w′ : List ℕ) (n : ℕ) (same : (j : ℕ) → j < n → getD w�
 
   pub encodes-kept : (k m : ℕ) (se : Search) → m ≤ n → Encodes s w k m se → Encodes s w′ k m se
   encodes-kept k m se le h = kept s w w′ k m se (λ i lo hi. same i (omega arith)) (omega arith) h
+
+  -- a first word and a qualified string
+  string-kept : (k m a : ℕ) (q : Qualified) → m ≤ n → (getD w k 0 ≡ a) × Encodes s w (k + 1) m (one q) → (getD w′ k 0 ≡ a) × Encodes s w′ (k + 1) m (one q)
+  string-kept k m a q le h =
+      let f = forward s w (k + 1) m (one q) (h .1) .0 in
+      (same k (omega (arith, f)) ∙ h .0, encodes-kept (k + 1) m (one q) le (h .1))
 
   pub op-kept : (k m place : ℕ) (op : Op) → m ≤ n → OpAt s w k m place op → OpAt s w′ k m place op
   unfolding OpAt
@@ -56,9 +63,9 @@ module _ (s w w′ : List ℕ) (n : ℕ) (same : (j : ℕ) → j < n → getD w�
   op-kept k m place (alter c pointing q new) le h =
       let f = forward s w (k + 1) (h .0) (one q) (h .3) .0 in
       (h .0, h .1, same k (omega (arith, f, h .1)) ∙ h .2, encodes-kept (k + 1) (h .0) (one q) (omega (arith, h .1)) (h .3), rw (same (h .0) (omega (arith, h .1))) (h .4))
-  op-kept k m place (point after q) le h =
-      let f = forward s w (k + 1) m (one q) (h .1) .0 in
-      (same k (omega (arith, f)) ∙ h .0, encodes-kept (k + 1) m (one q) le (h .1))
+  op-kept k m place (split after q) le h = string-kept k m _ q le h
+  op-kept k m place (join l) le h = (h .0, same k (omega (arith, h .0)) ∙ h .1, rw (same (k + 1) (omega (arith, h .0))) (h .2))
+  op-kept k m place (point after q) le h = string-kept k m _ q le h
   op-kept k m place onlyStep le h = h
   op-kept k m place (test c) le h = h
   op-kept k m place begin le h = h

@@ -1,7 +1,7 @@
 -- What the words of a simple command say, by its kind. Assumes nothing.
 use mathlib.Core.Path.{_≡_, refl, ap, sym, _∙_, subst}
-use mathlib.Core.Logic.{inl, inr}
-use mathlib.Core.Bool.{Bool, true, false, cond, _&&_}
+use mathlib.Core.Logic.{_⊎_, inl, inr}
+use mathlib.Core.Bool.{Bool, true, false, cond, _&&_, _||_, false≢true}
 use mathlib.Core.Option.{Option, none}
 use mathlib.Core.List.{List, [], _∷_}
 use Prim.Native.Nat.{ℕ, _+_, _*_, _/_, _%_, _<_}
@@ -11,18 +11,20 @@ use lib.Dec.{eqb}
 use borrow.Author.Tests.{ne-eqb, eqb-true}
 use Rattle.definitions.specs.Bytes.{Line, isLine, allLines}
 use Rattle.definitions.specs.Matching.{Qualified}
+use Rattle.definitions.specs.Search.{one}
 use Rattle.definitions.specs.Editor.{Target, Through, alone, upTo, toEof}
-use Rattle.definitions.specs.Edit.{Change, Op, onlyStep, quit, test, begin, beginBack, find, findBack, findDelete, move, nextLine, previousLine, delete, replace, insert, copy, alter, point, pointStart, right, left, cutByte, recase}
+use Rattle.definitions.specs.Edit.{Change, Op, onlyStep, quit, test, begin, beginBack, find, findBack, findDelete, move, nextLine, previousLine, delete, replace, insert, copy, alter, split, join, point, pointStart, right, left, cutByte, recase}
 use Rattle.theorems.specs.Lines.{and-left, and-right}
 use Rattle.theorems.specs.GoodItems.{goodTarget, goodThrough, goodOption, goodQualified, goodOp}
+use Rattle.matching.specs.Words.{Encodes}
 use Rattle.matching.proofs.Reading.{ReadsAs, one-reads}
-use Rattle.items.specs.Kinds.{wordShape, pairShape, fourShape, stringShape, changeShape, shapeOf, quitKind, nextKind, previousKind, copyKind, pointStartKind, rightKind, leftKind, cutByteKind, moveKind, deleteKind, insertStringKind, replaceKind, insertLinesKind, caseKind, pointKind, changeKind}
+use Rattle.items.specs.Kinds.{wordShape, pairShape, fourShape, stringShape, changeShape, shapeOf, quitKind, nextKind, previousKind, copyKind, pointStartKind, rightKind, leftKind, cutByteKind, moveKind, deleteKind, insertStringKind, joinKind, replaceKind, insertLinesKind, caseKind, pointKind, splitKind, changeKind}
 use Rattle.items.specs.Words.{head, kindAt, numberAt, targetCode, spotCode, endBit, lastCode, StringIn, LinesIn, SpanAt, OpAt}
 use Rattle.items.specs.Ends.{isOneWord}
 use Rattle.items.specs.Arguments.{spanFrom, spanThrough}
 use Rattle.items.specs.Simple.{byteOp, wordOp, CommandAt}
 use Rattle.items.proofs.FirstWords.{head-kind, head-number}
-use Rattle.items.proofs.Reading.{case-shape, point-shape, change-shape, op-reads}
+use Rattle.items.proofs.Reading.{case-shape, point-shape, split-shape, change-shape, op-reads}
 
 -- how far D and R go, as it is read
 unfoldable pub throughCode : Through → ℕ
@@ -41,16 +43,20 @@ pub record SpanRead (w : List ℕ) (k : ℕ) (a : Target) (b : Through) : Type 0
 -- ---- the forms of simple commands
 
 pub data Form : Type 0 where
-  words moving deleting stringing replacing lining changing pointing unknown : Form
+  words moving deleting stringing replacing lining changing aiming unknown : Form
+
+-- IS and CL
+abbrev pub takesString : ℕ → Bool
+takesString kind = eqb kind insertStringKind || eqb kind joinKind
 
 unfoldable pub formOf : ℕ → Form
 formOf kind =
     cond (eqb (shapeOf kind) wordShape) words
     (cond (eqb (shapeOf kind) changeShape) changing
-    (cond (eqb (shapeOf kind) stringShape) pointing
+    (cond (eqb (shapeOf kind) stringShape) aiming
     (cond (eqb kind moveKind) moving
     (cond (eqb kind deleteKind) deleting
-    (cond (eqb kind insertStringKind) stringing
+    (cond (takesString kind) stringing
     (cond (eqb kind replaceKind) replacing
     (cond (eqb kind insertLinesKind) lining unknown)))))))
 
@@ -59,7 +65,9 @@ unfoldable pub Means : (s w : List ℕ) (k m kind : ℕ) → Form → Op → Typ
 Means s w k m kind words op = (m ≡ k + 1) × (op ≡ wordOp kind)
 Means s w k m kind moving op = (a : Target) × (op ≡ move a) × (m ≡ k + 2) × (getD w (k + 1) 0 ≡ targetCode a) × (goodTarget a ≡ true)
 Means s w k m kind deleting op = (a : Target) × (b : Through) × (op ≡ delete a b) × (m ≡ k + 2) × SpanRead w k a b
-Means s w k m kind stringing op = (l : Line) × (op ≡ insert none (l ∷ [])) × (m ≡ k + 2) × StringIn s (getD w (k + 1) 0) l × (isLine l ≡ true)
+Means s w k m kind stringing op =
+    (l : Line) × (m ≡ k + 2) × StringIn s (getD w (k + 1) 0) l × (isLine l ≡ true)
+    × (((op ≡ insert none (l ∷ [])) × (kind ≡ insertStringKind)) ⊎ ((op ≡ join l) × (kind ≡ joinKind)))
 Means s w k m kind replacing op =
     (a : Target) × (b : Through) × (ls : List Line) × (op ≡ replace a b ls) × (m ≡ k + 4) × SpanRead w k a b × LinesIn s (getD w (k + 2) 0) (getD w (k + 3) 0) ls × (allLines ls ≡ true)
 Means s w k m kind lining op =
@@ -68,7 +76,8 @@ Means s w k m kind lining op =
 Means s w k m kind changing op =
     (c : Change) × (pointed : Bool) × (q : Qualified) × (new : Line) × (n : ℕ) × (op ≡ alter c pointed q new) × (kind ≡ changeKind c pointed) × (m ≡ n + 1)
     × ReadsAs s w (k + 1) n q × StringIn s (getD w n 0) new × (isLine new ≡ true)
-Means s w k m kind pointing op = (after : Bool) × (q : Qualified) × (op ≡ point after q) × (kind ≡ pointKind after) × ReadsAs s w (k + 1) m q
+Means s w k m kind aiming op =
+    (after : Bool) × (q : Qualified) × ReadsAs s w (k + 1) m q × (((op ≡ point after q) × (kind ≡ pointKind after)) ⊎ ((op ≡ split after q) × (kind ≡ splitKind after)))
 Means s w k m kind unknown op = ⊥
 
 -- ---- a span
@@ -135,9 +144,11 @@ module _ (s w : List ℕ) (k m place : ℕ) where
   unfolding formOf Means
   changed c pointed q new n e shape ends reads x good = rw (e, shape) (c, pointed, q, new, n, refl, refl, ends, reads, x, good)
 
-  pointed-at : (after : Bool) (q : Qualified) → kindAt w k ≡ pointKind after → shapeOf (pointKind after) ≡ stringShape → ReadsAs s w (k + 1) m q → Says (point after q)
+  aimed-at : (kind : ℕ) (after : Bool) (q : Qualified) (op : Op) → kind < 256 → shapeOf kind ≡ stringShape
+      → ((op ≡ point after q) × (kind ≡ pointKind after)) ⊎ ((op ≡ split after q) × (kind ≡ splitKind after))
+      → (getD w k 0 ≡ head kind place) × Encodes s w (k + 1) m (one q) → Says op
   unfolding formOf Means
-  pointed-at after q e shape reads = rw (e, shape) (after, q, refl, refl, reads)
+  aimed-at kind after q op small shape which h = rw (kinds kind small (h .0), shape) (after, q, one-reads s w (k + 1) m q (h .1), which)
 
   -- THE LAW: the kind says which command it is
   pub means : (op : Op) → OpAt s w k m place op → goodOp op ≡ true → Means s w k m (kindAt w k) (formOf (kindAt w k)) op
@@ -161,15 +172,15 @@ module _ (s w : List ℕ) (k m place : ℕ) where
       replaced a b ls (h .0) (x .0) (x .1) (h .2) (and-right (goodTarget a && goodThrough b) (allLines ls) good)
   means (insert a ls) (inl h) good =
       let x = string-line a ls (h .3 .0) (h .2) (h .3 .2) (and-right (goodOption a) (allLines ls) good) in
-      rw (kinds insertStringKind (omega arith) (h .1)) (h .3 .0, x .0, h .0, h .3 .1, x .1)
+      rw (kinds insertStringKind (omega arith) (h .1)) (h .3 .0, h .0, h .3 .1, x .1, inl (x .0, refl))
   means (insert a ls) (inr h) good =
       rw (kinds insertLinesKind (omega arith) (h .1)) (a, ls, refl, h .0, h .2, and-left (goodOption a) (allLines ls) good, h .3, and-right (goodOption a) (allLines ls) good)
   means (alter c pointed q new) h good =
       let x = change-shape c pointed in
       changed c pointed q new (h .0) (kinds (changeKind c pointed) (x .0) (h .2)) (x .1) (h .1) (one-reads s w (k + 1) (h .0) q (h .3)) (h .4) (and-right (goodQualified q) (isLine new) good)
-  means (point after q) h good =
-      let x = point-shape after in
-      pointed-at after q (kinds (pointKind after) (x .0) (h .0)) (x .1) (one-reads s w (k + 1) m q (h .1))
+  means (split after q) h good = aimed-at (splitKind after) after q (split after q) (split-shape after .0) (split-shape after .1) (inr (refl, refl)) h
+  means (join l) h good = rw (kinds joinKind (omega arith) (h .1)) (l, h .0, h .2, good, inr (refl, refl))
+  means (point after q) h good = aimed-at (pointKind after) after q (point after q) (point-shape after .0) (point-shape after .1) (inl (refl, refl)) h
   means onlyStep h good = absurd h
   means (test c) h good = absurd h
   means begin h good = absurd h
@@ -180,6 +191,14 @@ module _ (s w : List ℕ) (k m place : ℕ) where
 
 -- ---- which form it is
 
+string-pair : (kind : ℕ) → takesString kind ≡ true → shapeOf kind ≡ pairShape
+string-pair kind e = by (eqb kind insertStringKind) (eqb kind joinKind) refl refl e
+  where
+    by : (t u : Bool) → eqb kind insertStringKind ≡ t → eqb kind joinKind ≡ u → t || u ≡ true → shapeOf kind ≡ pairShape
+    by true u f g h = ap shapeOf (eqb-true kind insertStringKind f)
+    by false true f g h = ap shapeOf (eqb-true kind joinKind g)
+    by false false f g h = absurd (false≢true h)
+
 module _ (s w : List ℕ) (k m kind : ℕ) (op : Op) where
   abbrev Meant : Form → Type 0
   Meant f = Means s w k m kind f op
@@ -187,7 +206,7 @@ module _ (s w : List ℕ) (k m kind : ℕ) (op : Op) where
   -- what is left of two words
   pub pair-left : shapeOf kind ≡ pairShape → (kind ≡ moveKind → ⊥) → (kind ≡ deleteKind → ⊥) → Means s w k m kind (formOf kind) op → Means s w k m kind stringing op
   unfolding formOf Means
-  pair-left shape a b h = go (eqb kind insertStringKind) (eqb kind replaceKind) (eqb kind insertLinesKind) refl refl (rw (shape, ne-eqb kind moveKind a, ne-eqb kind deleteKind b) at h)
+  pair-left shape a b h = go (takesString kind) (eqb kind replaceKind) (eqb kind insertLinesKind) refl refl (rw (shape, ne-eqb kind moveKind a, ne-eqb kind deleteKind b) at h)
     where
       go : (t u v : Bool) → eqb kind replaceKind ≡ u → eqb kind insertLinesKind ≡ v → Meant (cond t stringing (cond u replacing (cond v lining unknown))) → Meant stringing
       go true u v e f x = x
@@ -199,30 +218,41 @@ module _ (s w : List ℕ) (k m kind : ℕ) (op : Op) where
   pub four-left : shapeOf kind ≡ fourShape → (kind ≡ replaceKind → ⊥) → Means s w k m kind (formOf kind) op → Means s w k m kind lining op
   unfolding formOf Means
   four-left shape a h =
-      go (eqb kind moveKind) (eqb kind deleteKind) (eqb kind insertStringKind) (eqb kind insertLinesKind) refl refl refl (rw (shape, ne-eqb kind replaceKind a) at h)
+      go (eqb kind moveKind) (eqb kind deleteKind) (takesString kind) (eqb kind insertLinesKind) refl refl refl (rw (shape, ne-eqb kind replaceKind a) at h)
     where
-      go : (t u v z : Bool) → eqb kind moveKind ≡ t → eqb kind deleteKind ≡ u → eqb kind insertStringKind ≡ v
+      go : (t u v z : Bool) → eqb kind moveKind ≡ t → eqb kind deleteKind ≡ u → takesString kind ≡ v
           → Meant (cond t moving (cond u deleting (cond v stringing (cond z lining unknown)))) → Meant lining
       go true u v z e f g x = absurd (omega (arith, shape, eqb-true kind moveKind e))
       go false true v z e f g x = absurd (omega (arith, shape, eqb-true kind deleteKind f))
-      go false false true z e f g x = absurd (omega (arith, shape, eqb-true kind insertStringKind g))
+      go false false true z e f g x = absurd (omega (arith, shape, string-pair kind g))
       go false false false true e f g x = x
       go false false false false e f g x = absurd x
+
+  -- IS or CL
+  pub is-insert : (kind ≡ joinKind → ⊥) → Means s w k m kind stringing op → (l : Line) × (op ≡ insert none (l ∷ [])) × StringIn s (getD w (k + 1) 0) l
+  unfolding Means
+  is-insert other (l, ends, x, good, inl which) = (l, which .0, x)
+  is-insert other (l, ends, x, good, inr which) = absurd (other (which .1))
+
+  pub is-join : kind ≡ joinKind → Means s w k m kind stringing op → (l : Line) × (op ≡ join l) × StringIn s (getD w (k + 1) 0) l
+  unfolding Means
+  is-join this (l, ends, x, good, inl which) = absurd (omega (arith, this, which .1))
+  is-join this (l, ends, x, good, inr which) = (l, which .0, x)
 
   -- of all simple commands
   pub shape-left : (shapeOf kind ≡ wordShape → ⊥) → (shapeOf kind ≡ pairShape → ⊥) → (shapeOf kind ≡ fourShape → ⊥) → (shapeOf kind ≡ stringShape → ⊥)
       → Means s w k m kind (formOf kind) op → shapeOf kind ≡ changeShape
   unfolding formOf Means
   shape-left a b c d h =
-      go (eqb (shapeOf kind) changeShape) (eqb kind moveKind) (eqb kind deleteKind) (eqb kind insertStringKind) (eqb kind replaceKind) (eqb kind insertLinesKind) refl refl refl refl refl refl
+      go (eqb (shapeOf kind) changeShape) (eqb kind moveKind) (eqb kind deleteKind) (takesString kind) (eqb kind replaceKind) (eqb kind insertLinesKind) refl refl refl refl refl refl
       (rw (ne-eqb (shapeOf kind) wordShape a, ne-eqb (shapeOf kind) stringShape d) at h)
     where
-      go : (z t u v x y : Bool) → eqb (shapeOf kind) changeShape ≡ z → eqb kind moveKind ≡ t → eqb kind deleteKind ≡ u → eqb kind insertStringKind ≡ v → eqb kind replaceKind ≡ x → eqb kind insertLinesKind ≡ y
+      go : (z t u v x y : Bool) → eqb (shapeOf kind) changeShape ≡ z → eqb kind moveKind ≡ t → eqb kind deleteKind ≡ u → takesString kind ≡ v → eqb kind replaceKind ≡ x → eqb kind insertLinesKind ≡ y
           → Meant (cond z changing (cond t moving (cond u deleting (cond v stringing (cond x replacing (cond y lining unknown)))))) → shapeOf kind ≡ changeShape
       go true t u v x y e e₁ e₂ e₃ e₄ e₅ p = eqb-true (shapeOf kind) changeShape e
       go false true u v x y e e₁ e₂ e₃ e₄ e₅ p = absurd (b (ap shapeOf (eqb-true kind moveKind e₁)))
       go false false true v x y e e₁ e₂ e₃ e₄ e₅ p = absurd (b (ap shapeOf (eqb-true kind deleteKind e₂)))
-      go false false false true x y e e₁ e₂ e₃ e₄ e₅ p = absurd (b (ap shapeOf (eqb-true kind insertStringKind e₃)))
+      go false false false true x y e e₁ e₂ e₃ e₄ e₅ p = absurd (b (string-pair kind e₃))
       go false false false false true y e e₁ e₂ e₃ e₄ e₅ p = absurd (c (ap shapeOf (eqb-true kind replaceKind e₄)))
       go false false false false false true e e₁ e₂ e₃ e₄ e₅ p = absurd (c (ap shapeOf (eqb-true kind insertLinesKind e₅)))
       go false false false false false false e e₁ e₂ e₃ e₄ e₅ p = absurd p

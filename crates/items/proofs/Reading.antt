@@ -7,13 +7,14 @@ use Prim.Native.Nat.{ℕ, _+_, _≤_, _<_}
 use native.Mathlib.Omega.{arith}
 use lib.ListN.{length, getD}
 use lib.Dec.{ltb}
+use Rattle.definitions.specs.Matching.{Qualified}
 use Rattle.definitions.specs.Search.{Search, one}
-use Rattle.definitions.specs.Edit.{Change, afterIt, beforeIt, exchange, is, isNot, isEof, Op, onlyStep, quit, test, begin, beginBack, find, findBack, findDelete, move, nextLine, previousLine, delete, replace, insert, copy, alter, point, pointStart, right, left, cutByte, recase}
+use Rattle.definitions.specs.Edit.{Change, afterIt, beforeIt, exchange, is, isNot, isEof, Op, onlyStep, quit, test, begin, beginBack, find, findBack, findDelete, move, nextLine, previousLine, delete, replace, insert, copy, alter, split, join, point, pointStart, right, left, cutByte, recase}
 use Rattle.definitions.specs.Control.{Seek, forward, backward, deleting, Opener, times, forever, bare, branch, loop, Item, simple, seek, opens, bracket, close, otherwise, leave, lineEnd}
-use Rattle.matching.specs.Words.{endAt, flagsAt}
+use Rattle.matching.specs.Words.{endAt, flagsAt, Encodes}
 use Rattle.matching.proofs.Reading.{one-reads}
 use Rattle.matching.proofs.Running.{forward as ahead}
-use Rattle.items.specs.Kinds.{wordShape, pairShape, fourShape, stringShape, changeShape, searchShape, testShape, openerShape, longOpenerShape, shapeOf, lineEndKind, bracketKind, closeKind, elseKind, leaveKind, quitKind, nextKind, previousKind, copyKind, pointStartKind, rightKind, leftKind, cutByteKind, moveKind, deleteKind, insertStringKind, replaceKind, insertLinesKind, ifKind, unlessKind, whileKind, untilKind, countKind, repeatKind, bareKind, ifEofKind, longCountKind, caseKind, pointKind, changeKind, seekKind}
+use Rattle.items.specs.Kinds.{wordShape, pairShape, fourShape, stringShape, changeShape, searchShape, testShape, openerShape, longOpenerShape, shapeOf, lineEndKind, bracketKind, closeKind, elseKind, leaveKind, quitKind, nextKind, previousKind, copyKind, pointStartKind, rightKind, leftKind, cutByteKind, moveKind, deleteKind, insertStringKind, joinKind, replaceKind, insertLinesKind, ifKind, unlessKind, whileKind, untilKind, countKind, repeatKind, bareKind, ifEofKind, longCountKind, caseKind, pointKind, splitKind, changeKind, seekKind}
 use Rattle.items.specs.Words.{head, headWith, kindAt, placeAt, endBit, OpAt, SearchAt, TimesAt, OpenerAt, ItemAt, ItemsAt}
 use Rattle.items.specs.Ends.{classOf, classIn, classBy, placeOf, isOneWord, endIn, endBy, seenAt}
 use Rattle.items.specs.declared.ends.Seen.{Seen}
@@ -62,6 +63,11 @@ unfolding pointKind
 point-shape true = (omega arith, refl)
 point-shape false = (omega arith, refl)
 
+pub split-shape : (after : Bool) → (splitKind after < 256) × (shapeOf (splitKind after) ≡ stringShape)
+unfolding splitKind
+split-shape true = (omega arith, refl)
+split-shape false = (omega arith, refl)
+
 pub change-shape : (c : Change) (pointing : Bool) → (changeKind c pointing < 256) × (shapeOf (changeKind c pointing) ≡ changeShape)
 unfolding changeKind
 change-shape afterIt false = (omega arith, refl)
@@ -98,6 +104,13 @@ module _ (s w : List ℕ) (k m : ℕ) where
     unfolding classIn endIn isOneWord classOf placeOf
     four-reads op kind n small shaped ends word = reads-more w k m (simple place op) kind place n small word refl fourShape shaped refl (sym ends) (omega (arith, ends))
 
+    string-reads : (op : Op) (kind : ℕ) (q : Qualified) → kind < 256 → shapeOf kind ≡ stringShape → (getD w k 0 ≡ head kind place) × Encodes s w (k + 1) m (one q)
+        → ReadsBack w k m (simple place op)
+    unfolding classIn endIn isOneWord classOf placeOf
+    string-reads op kind q small shaped h =
+        reads-more w k m (simple place op) kind place 0 small (h .0 ∙ omega arith) refl stringShape shaped refl
+        (one-reads s w (k + 1) m q (h .1) .ends) (omega (arith, ahead s w (k + 1) m (one q) (h .1)))
+
     pub op-reads : (op : Op) → OpAt s w k m place op → ReadsBack w k m (simple place op)
     unfolding OpAt classIn endIn isOneWord classOf placeOf
     op-reads quit h = plain-reads quit quitKind (omega arith) refl h
@@ -118,10 +131,9 @@ module _ (s w : List ℕ) (k m : ℕ) where
         let x = change-shape c pointing in
         reads-more w k m (simple place (alter c pointing q new)) (changeKind c pointing) place 0 (x .0) (h .2 ∙ omega arith) refl changeShape (x .1) refl
         (ap (λ (e : ℕ). e + 1) (one-reads s w (k + 1) (h .0) q (h .3) .ends) ∙ sym (h .1)) (omega (arith, h .1, ahead s w (k + 1) (h .0) (one q) (h .3)))
-    op-reads (point after q) h =
-        let x = point-shape after in
-        reads-more w k m (simple place (point after q)) (pointKind after) place 0 (x .0) (h .0 ∙ omega arith) refl stringShape (x .1) refl
-        (one-reads s w (k + 1) m q (h .1) .ends) (omega (arith, ahead s w (k + 1) m (one q) (h .1)))
+    op-reads (split after q) h = string-reads (split after q) (splitKind after) q (split-shape after .0) (split-shape after .1) h
+    op-reads (join l) h = pair-reads (join l) joinKind 0 (omega arith) refl (h .0) (h .1 ∙ omega arith)
+    op-reads (point after q) h = string-reads (point after q) (pointKind after) q (point-shape after .0) (point-shape after .1) h
     op-reads onlyStep h = absurd h
     op-reads (test c) h = absurd h
     op-reads begin h = absurd h

@@ -104,6 +104,9 @@ deleteKind = 16 * pairShape + 1
 abbrev pub insertStringKind : ℕ
 insertStringKind = 16 * pairShape + 2
 
+abbrev pub joinKind : ℕ
+joinKind = 16 * pairShape + 3
+
 abbrev pub replaceKind : ℕ
 replaceKind = 16 * fourShape + 0
 
@@ -115,6 +118,12 @@ pointAfterKind = 16 * stringShape + 0
 
 abbrev pub pointBeforeKind : ℕ
 pointBeforeKind = 16 * stringShape + 1
+
+abbrev pub splitAfterKind : ℕ
+splitAfterKind = 16 * stringShape + 2
+
+abbrev pub splitBeforeKind : ℕ
+splitBeforeKind = 16 * stringShape + 3
 
 abbrev pub afterKind : ℕ
 afterKind = 16 * changeShape + 0
@@ -184,6 +193,11 @@ caseKind true = upperKind
 unfoldable pub pointKind : Bool → ℕ
 pointKind true = pointAfterKind
 pointKind false = pointBeforeKind
+
+-- SA (true), SB
+unfoldable pub splitKind : Bool → ℕ
+splitKind true = splitAfterKind
+splitKind false = splitBeforeKind
 
 -- A, AP, B, BP, E, EP
 unfoldable pub changeKind : Change → Bool → ℕ

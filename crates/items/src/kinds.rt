@@ -57,22 +57,28 @@ pub const LOWER: u32 = 16 * WORDS + 8;
 
 pub const UPPER: u32 = 16 * WORDS + 9;
 
-// M, D, IS.
+// M, D, IS, CL.
 pub const MOVE: u32 = 16 * PAIRS;
 
 pub const DELETE: u32 = 16 * PAIRS + 1;
 
 pub const INSERT_STRING: u32 = 16 * PAIRS + 2;
 
+pub const JOIN: u32 = 16 * PAIRS + 3;
+
 // R, I.
 pub const REPLACE: u32 = 16 * FOURS;
 
 pub const INSERT_LINES: u32 = 16 * FOURS + 1;
 
-// PA, PB.
+// PA, PB, SA, SB.
 pub const POINT_AFTER: u32 = 16 * STRINGS;
 
 pub const POINT_BEFORE: u32 = 16 * STRINGS + 1;
+
+pub const SPLIT_AFTER: u32 = 16 * STRINGS + 2;
+
+pub const SPLIT_BEFORE: u32 = 16 * STRINGS + 3;
 
 // A, AP, B, BP, E, EP.
 pub const AFTER: u32 = 16 * CHANGES;

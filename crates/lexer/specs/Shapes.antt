@@ -2,7 +2,7 @@
 use mathlib.Core.Bool.{true, false}
 use Rattle.definitions.specs.Edit.{Change, afterIt, beforeIt, exchange, Op, quit, nextLine, previousLine, copy, pointStart, right, left, cutByte, recase}
 use Rattle.definitions.specs.Control.{Seek, forward, backward, deleting}
-use Rattle.definitions.specs.Commands.{Shape, plain, leaves, seeks, moves, deletes, insertsString, insertsLines, replaces, alters, points, repeats, branches, branchesEof, loops, unknown}
+use Rattle.definitions.specs.Commands.{Shape, plain, leaves, seeks, moves, deletes, insertsString, insertsLines, replaces, alters, points, splits, joins, repeats, branches, branchesEof, loops, unknown}
 use Rattle.lexer.specs.declared.shapes.Plain.{Plain as PlainHere}
 use Rattle.lexer.specs.declared.shapes.Plain.the-variants.{Next, Previous, Copy, PointStart, Right, Left, CutByte, Lower, Upper, Quit}
 use Rattle.lexer.specs.declared.shapes.Seek.{Seek as SeekHere}
@@ -10,7 +10,7 @@ use Rattle.lexer.specs.declared.shapes.Seek.the-variants.{Forward, Backw
 use Rattle.lexer.specs.declared.shapes.Change.{Change as ChangeHere}
 use Rattle.lexer.specs.declared.shapes.Change.the-variants.{After, Before, Exchange}
 use Rattle.lexer.specs.declared.shapes.Shape.{Shape as ShapeHere}
-use Rattle.lexer.specs.declared.shapes.Shape.the-variants.{Plain, Leaves, Seeks, Moves, Deletes, InsertsString, InsertsLines, Replaces, Alters, Points, Repeats, Branches, BranchesEof, Loops, Unknown}
+use Rattle.lexer.specs.declared.shapes.Shape.the-variants.{Plain, Leaves, Seeks, Moves, Deletes, InsertsString, InsertsLines, Replaces, Alters, Points, Splits, Joins, Repeats, Branches, BranchesEof, Loops, Unknown}
 
 unfoldable pub plainOf : PlainHere → Op
 plainOf Next = nextLine
@@ -45,6 +45,8 @@ shapeIn InsertsLines = insertsLines
 shapeIn Replaces = replaces
 shapeIn (Alters c pointing) = alters (changeOf c) pointing
 shapeIn (Points after) = points after
+shapeIn (Splits after) = splits after
+shapeIn Joins = joins
 shapeIn Repeats = repeats
 shapeIn (Branches b) = branches b
 shapeIn BranchesEof = branchesEof

@@ -49,6 +49,10 @@ pub enum Shape {
     Alters(Change, bool),
     // PA (true), PB: a qualified string
     Points(bool),
+    // SA (true), SB: a qualified string
+    Splits(bool),
+    // CL: a string
+    Joins,
     // RPT: a command or group
     Repeats,
     // IF (true), UL: a search expression, a command or group
@@ -105,6 +109,12 @@ pub fn command(letters: u32) -> Shape
         20546 => Shape::Points(false),
         // PR
         20562 => Shape::Plain(Plain::PointStart),
+        // SA
+        21313 => Shape::Splits(true),
+        // SB
+        21314 => Shape::Splits(false),
+        // CL
+        17228 => Shape::Joins,
         // >
         62 => Shape::Plain(Plain::Right),
         // <

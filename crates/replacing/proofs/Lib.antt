@@ -1,4 +1,3 @@
--- `Freed` has the laws of the bytes that deletion frees, `Past` those of the line that is read without a move, `Whole` those of R.
+-- `Freed` has the laws of the bytes that deletion frees, and of sums over the records up to a place, `Whole` those of R.
 pub mod Freed
-pub mod Past
 pub mod Whole

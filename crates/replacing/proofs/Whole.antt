@@ -9,7 +9,7 @@ use Rattle.definitions.specs.Bytes.{Line}
 use Rattle.definitions.specs.Journal.{Record, kept, inserted, journalLength}
 use Rattle.definitions.specs.Tape.{Tape, restLines}
 use Rattle.definitions.specs.Given.{Given, Carried}
-use Rattle.definitions.specs.Editor.{Ed, ed, beforeOf, afterOf, records, journal, hasLive, land, struck, Target, Through, putBefore, strike, put, edit, edits}
+use Rattle.definitions.specs.Editor.{Ed, ed, beforeOf, afterOf, records, journal, sources, hasLive, land, struck, Target, Through, putBefore, strike, put, edit, edits}
 use Rattle.definitions.specs.Reading.{Ran, gave}
 use Rattle.definitions.specs.StepProgram.{gives, _>>=_, _>>_, runs, state, changes, perform}
 use Rattle.definitions.specs.Edit.{readPast, span, Op, program, step}
@@ -20,15 +20,16 @@ use Rattle.editor.specs.declared.State.{State}
 use Rattle.editor.specs.declared.Moved.{Moved}
 use Rattle.editor.specs.declared.Moved.the-variants.{On, Stop}
 use Rattle.editor.proofs.Reading.{next-rest, journal-is}
-use Rattle.editor.proofs.Parts.{Went, went, perform-as}
+use Rattle.editor.proofs.Parts.{perform-as}
 use Rattle.editor.proofs.Inserting.{held-journal, put-length}
 use Rattle.editor.proofs.Changing.{changes-on, changes-full, put-shows, strike-lands}
-use Rattle.spans.specs.Spans.{reachHere, changeHere, EndsAt, StrikesSpan}
+use Rattle.spans.specs.Spans.{reachHere, changeHere, EndsAt, StrikesSpan, ReadsFrom}
+use Rattle.spans.specs.declared.Next.{Next}
 use Rattle.spans.proofs.Struck.{span-held, span-place}
+use Rattle.spans.proofs.Nexts.{land-same, NextRead, next-read}
 use Rattle.spans.proofs.Wholes.{Reached, here-by, struck-text}
-use Rattle.replacing.specs.Freed.{freed, Frees, ReadsPast, replacing, replaceMany, Replaces}
+use Rattle.replacing.specs.Freed.{freed, Frees, Counts, replacing, replaceMany, Replaces}
 use Rattle.replacing.proofs.Freed.{length-both, strike-length}
-use Rattle.replacing.proofs.Past.{land-same}
 
 -- ---- the journal's length
 
@@ -94,6 +95,11 @@ pub freed-is : {j : List ℕ} {st : State} {end r : ℕ} (e : Ed) (t : Tape) (n 
 unfolding afterOf
 freed-is (ed b a p) t n h w counts = counts b (take n a) (drop n a ++ map kept (restLines t)) (span-held b a p t h w) (span-place b a p t h w)
 
+-- and the source lines before that place
+past-is : {j : List ℕ} {st : State} {end r : ℕ} (e : Ed) (t : Tape) (n : ℕ) → Shows j st e t → EndsAt j end n e t → Counts end j st r → r ≡ sources (beforeOf e) + sources (take n (afterOf e))
+unfolding beforeOf afterOf
+past-is (ed b a p) t n h w counts = counts b (take n a) (drop n a ++ map kept (restLines t)) (span-held b a p t h w) (span-place b a p t h w)
+
 -- ---- R of n records
 
 module _ {j : List ℕ} {st : State} {end : ℕ} (ls : List Line) (e : Ed) (c : Carried) (t : Tape) (n : ℕ) (h : Shows j st e t) (w : EndsAt j end n e t) where
@@ -106,13 +112,13 @@ module _ {j : List ℕ} {st : State} {end : ℕ} (ls : List Line) (e : Ed) (c : 
       (runs-on (lent j) c (λ u. gives (changes (replacing ls n))) (readPast n) e t q)
 
   -- there is no room
-  pub replace-full : (k : List ℕ) (u : State) (r room : ℕ) → Frees end j st r → room ≡ journalLength (map inserted ls) → (st .back - st .front) + r < room
-      → ReadsPast end j st k u → Answered k (Stop 26 u) (perform (lent j) (replaceMany ls n) (state e c) t)
+  pub replace-full : (x : Next) (r past room : ℕ) → Frees end j st r → room ≡ journalLength (map inserted ls) → (st .back - st .front) + r < room
+      → Counts end j st past → ReadsFrom end past j st x → Answered j (Stop 26 (x .st)) (perform (lent j) (replaceMany ls n) (state e c) t)
   unfolding edits
-  replace-full k u r room counts is full reads =
-      let z : Went k u (runs (lent j) c (readPast n) e t) = went (runs (lent j) c (readPast n) e t) (reads e c t n h w) in
+  replace-full x r past room counts is full passes reads =
+      let z : NextRead j n x (runs (lent j) c (readPast n) e t) = next-read (runs (lent j) c (readPast n) e t) (reads e c t n h w (past-is e t n h w passes)) in
       rw (many-is (z .text) (z .tape) (z .is))
-      (changes-full c (replacing ls n) (z .text) (z .tape) j k u
+      (changes-full c (replacing ls n) (z .text) (z .tape) j j (x .st)
       (omega (
         arith,
         put-more ls (edit (strike n) (z .text)) (z .tape),

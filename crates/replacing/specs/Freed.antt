@@ -1,29 +1,21 @@
 -- R of records: the bytes of the journal that deleted lines leave, and what R does once its records are found. Assumes nothing.
 use mathlib.Core.Path.{_≡_}
 use mathlib.Core.List.{List, [], _∷_, _++_}
-use Prim.Native.Nat.{ℕ, suc, _+_}
+use Prim.Native.Nat.{ℕ, _+_}
 use lib.ListN.{length}
 use Rattle.definitions.specs.Bytes.{Line}
-use Rattle.definitions.specs.Journal.{Record, kept, changed, deleted, inserted}
+use Rattle.definitions.specs.Journal.{Record}
 use Rattle.definitions.specs.Tape.{Tape}
 use Rattle.definitions.specs.Given.{Carried}
-use Rattle.definitions.specs.Editor.{Ed, strike, put}
+use Rattle.definitions.specs.Editor.{Ed, sources, strike, put}
 use Rattle.definitions.specs.Editor.{Edit as Editing}
-use Rattle.definitions.specs.StepProgram.{Program, gives, _>>=_, _>>_, runs, state, Did, changes, perform}
+use Rattle.definitions.specs.StepProgram.{Program, gives, _>>=_, _>>_, state, Did, changes, perform}
 use Rattle.definitions.specs.Edit.{readPast}
 use Rattle.editor.specs.Records.{encAll}
-use Rattle.editor.specs.Shows.{Holds, Shows, lent, Came, Answered}
+use Rattle.editor.specs.Shows.{Holds, Shows, lent, Answered}
 use Rattle.editor.specs.declared.State.{State}
 use Rattle.editor.specs.declared.Moved.{Moved}
-use Rattle.editor.specs.declared.Moved.the-variants.{On}
-use Rattle.spans.specs.Spans.{EndsAt}
-
--- how many bytes fewer a record takes once its line is deleted: an inserted line's record goes, a changed line's new text
-unfoldable pub freedBy : Record → ℕ
-freedBy (kept l) = 0
-freedBy (changed o n) = suc (length n)
-freedBy (deleted l) = 0
-freedBy (inserted l) = 3 + length l
+use Rattle.spans.specs.Spans.{freedBy, EndsAt}
 
 unfoldable pub freed : List Record → ℕ
 freed [] = 0
@@ -34,10 +26,10 @@ abbrev pub Frees : ℕ → List ℕ → State → ℕ → Type 0
 Frees end j st r =
     (c : List Record) (m : List Record) (d : List Record) → Holds j st c (m ++ d) → end + length (encAll d) ≡ length j → r ≡ freed m
 
--- the next live line after the records up to the place `end` is read
-abbrev pub ReadsPast : ℕ → List ℕ → State → List ℕ → State → Type 0
-ReadsPast end j st k r =
-    (e : Ed) (c : Carried) (t : Tape) (n : ℕ) → Shows j st e t → EndsAt j end n e t → Came k (On r) (runs (lent j) c (readPast n) e t)
+-- r source lines stand before the place `end`
+abbrev pub Counts : ℕ → List ℕ → State → ℕ → Type 0
+Counts end j st r =
+    (c : List Record) (m : List Record) (d : List Record) → Holds j st c (m ++ d) → end + length (encAll d) ≡ length j → r ≡ sources c + sources m
 
 -- ---- R
 

@@ -7,9 +7,9 @@ use spans::Found;
 ghost use Rattle.definitions.specs.Bytes.{linesOf};
 ghost use Rattle.definitions.specs.Edit.{Op};
 ghost use Rattle.items.specs.Words.{partOf};
-ghost use Rattle.editor.specs.Shows.{ShowsText, Performs, targetNumbered};
+ghost use Rattle.editor.specs.Shows.{ShowsText, Performs, Completes, targetNumbered};
 ghost use Rattle.inserts.specs.Lines.{Insertable};
-ghost use Rattle.spans.specs.Spans.{throughOf, changeHere, Finishes, Spanned};
+ghost use Rattle.spans.specs.Spans.{throughOf, changeHere, Spanned};
 ghost use Rattle.replacing.specs.Freed.{replacing, Replaces};
 
 // R of the records up to the place `to`. The room is tested for the whole command before a record changes.
@@ -23,7 +23,10 @@ fn replace_to(j: &mut [u8], st: State, to: usize, s: &[u8], start: usize, end: u
     if gap < room {
         let freed = crate::room::freed_to(j, st, to);
         if gap + freed < room {
-            return Moved::Stop(26, crate::room::read_past(j, st, to));
+            let past = crate::room::past_to(j, st, to);
+            let next = spans::finding::next_from(j, st, to, past);
+            let u = next.st;
+            return Moved::Stop(26, u);
         }
     }
     let l = spans::striking::strike_span(j, st, to);
@@ -40,7 +43,7 @@ fn replace_here(
     end: usize,
 ) -> Moved
     requires { ⌜ ShowsText (now j) st × Insertable (now s) start end ⌝ }
-    ensures { λ r. ⌜ Finishes (now (j .entry)) st (changeHere (replacing (linesOf (partOf (now (s .entry)) start end))) (throughOf through)) (now (j .exit)) r ⌝ }
+    ensures { λ r. ⌜ Completes (now (j .entry)) st (changeHere (replacing (linesOf (partOf (now (s .entry)) start end))) (throughOf through)) (now (j .exit)) r ⌝ }
 {
     let found = spans::finding::span_end(j, st, through);
     match found {

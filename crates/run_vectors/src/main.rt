@@ -1,6 +1,7 @@
-// Runs the cases of the file run.txt through the editor.
+// Runs the cases of the files run.txt and wish-01.txt through the editor.
 use vectors::For;
 
 fn main() {
     vectors::run_file(b"run.txt", For::Editor);
+    vectors::run_file(b"wish-01.txt", For::Editor);
 }

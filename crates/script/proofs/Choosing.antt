@@ -10,7 +10,7 @@ use borrow.Author.Tests.{ne-eqb}
 use Rattle.definitions.specs.Edit.{isEof}
 use Rattle.definitions.specs.Control.{Item, simple, opens, leave, forever, branch}
 use Rattle.definitions.specs.Reader.{Cursor, got, refused, Token, token}
-use Rattle.definitions.specs.Commands.{prefix, moves, deletes, seeks, insertsString, insertsLines, replaces, alters, points, branches, loops, skipThen, shapeOf, decode}
+use Rattle.definitions.specs.Commands.{prefix, moves, deletes, seeks, insertsString, insertsLines, replaces, alters, points, splits, joins, branches, loops, skipThen, shapeOf, decode}
 use Rattle.definitions.specs.Script.{Due, Group, isInGroup, decoded, named, countRead}
 use Rattle.answers.specs.declared.Answer.{Answer}
 use Rattle.answers.specs.declared.Follow.{Follow}
@@ -21,7 +21,7 @@ use Rattle.lexer.specs.declared.shapes.Plain.{Plain as PlainHere}
 use Rattle.lexer.specs.declared.shapes.Seek.{Seek as SeekHere}
 use Rattle.lexer.specs.declared.shapes.Change.{Change as ChangeHere}
 use Rattle.lexer.specs.declared.shapes.Shape.{Shape as ShapeHere}
-use Rattle.lexer.specs.declared.shapes.Shape.the-variants.{Plain, Leaves, Seeks, Moves, Deletes, InsertsString, InsertsLines, Replaces, Alters, Points, Repeats, Branches, BranchesEof, Loops, Unknown}
+use Rattle.lexer.specs.declared.shapes.Shape.the-variants.{Plain, Leaves, Seeks, Moves, Deletes, InsertsString, InsertsLines, Replaces, Alters, Points, Splits, Joins, Repeats, Branches, BranchesEof, Loops, Unknown}
 use Rattle.items.specs.Kinds.{leaveKind, repeatKind, ifEofKind}
 use Rattle.items.specs.Words.{head, OpenerAt, ItemAt}
 use Rattle.items.specs.Depth.{openAfter}
@@ -67,6 +67,14 @@ module _ (g : Bool) (place : ℕ) (c : Cursor) (shape : ShapeHere) where
   pub is-points : (a : Bool) → shape ≡ Points a → decode g place (shapeIn shape) c ≡ decode false place (points a) c
   unfolding decode shapeIn
   is-points a e = rw e
+
+  pub is-splits : (a : Bool) → shape ≡ Splits a → decode g place (shapeIn shape) c ≡ decode false place (splits a) c
+  unfolding decode shapeIn
+  is-splits a e = rw e
+
+  pub is-joins : shape ≡ Joins → decode g place (shapeIn shape) c ≡ decode false place joins c
+  unfolding decode shapeIn
+  is-joins e = rw e
 
   pub is-branches : (b : Bool) → shape ≡ Branches b → decode g place (shapeIn shape) c ≡ decode false place (branches b) c
   unfolding decode shapeIn

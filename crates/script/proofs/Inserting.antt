@@ -1,4 +1,4 @@
--- IS, I and R in words: strings and lines as parts of the script. Assumes nothing.
+-- IS, CL, I and R in words: strings and lines as parts of the script. Assumes nothing.
 use mathlib.Core.Path.{_≡_, refl, sym, ap, _∙_}
 use mathlib.Core.Logic.{inl, inr}
 use mathlib.Core.Bool.{Bool, true, false, cond}
@@ -11,10 +11,10 @@ use lib.Seq.{getD-set-same, getD-set-other, length-take-le}
 use lib.Dec.{eqb}
 use borrow.Author.Tests.{eqb-false}
 use Rattle.definitions.specs.Bytes.{Line}
-use Rattle.definitions.specs.Edit.{insert, replace}
+use Rattle.definitions.specs.Edit.{Op, replace, insert, join}
 use Rattle.definitions.specs.Control.{Item, simple}
-use Rattle.definitions.specs.Reader.{Got, got, refused, andThen, skipSpaces, quoted}
-use Rattle.definitions.specs.Commands.{Decoded, whole, insertsString, insertsLines, replaces, lineSpan, optionalTarget, scriptLines, replaceOp, decode}
+use Rattle.definitions.specs.Reader.{Cursor, Got, got, refused, andThen, skipSpaces, quoted}
+use Rattle.definitions.specs.Commands.{Decoded, whole, Shape, insertsLines, replaces, lineSpan, optionalTarget, scriptLines, replaceOp, decode}
 use Rattle.answers.specs.declared.Answer.{Answer}
 use Rattle.answers.specs.declared.Follow.{Follow}
 use Rattle.answers.specs.Answers.{CommandOr}
@@ -23,10 +23,11 @@ use Rattle.lexer.specs.Answers.{TwoAt, QuotedRead}
 use Rattle.lexer.specs.Targets.{targetOf, throughOf, spanOf, optionOf}
 use Rattle.lexer.specs.Inserted.{linesTo}
 use Rattle.lexer.proofs.Given.{goes-on, passed-up}
-use Rattle.items.specs.Kinds.{insertStringKind, insertLinesKind, replaceKind}
+use Rattle.items.specs.Kinds.{insertLinesKind, replaceKind}
 use Rattle.items.specs.Words.{head, spotCode, partOf, StringIn, LinesIn, OpAt, ItemAt, headWith, stringWord}
 use Rattle.items.specs.Depth.{openAfter}
 use Rattle.script.specs.Reading.{CommandRoom, Unwritten, CommandIs, CommandRead}
+use Rattle.script.specs.Commands.{Quotes, of-inserts, of-joins}
 use Rattle.items.specs.Arguments.{spanNumber, spanWord, spotWord}
 use Rattle.script.proofs.Keeping.{kept-set}
 use Rattle.script.proofs.Items.{two-stay, first-is, second-is, whole-two, target-code}
@@ -50,6 +51,28 @@ string-in s word start end le to e =
 pub lines-in : (s : List ℕ) (a b start end : ℕ) → a ≡ start → b ≡ end → start ≤ end → end ≤ length s → LinesIn s a b (linesTo s start end)
 unfolding partOf linesTo
 lines-in s a b start end p q le to = rw (p, q) (record { ordered = le; inside = to; is = refl })
+
+-- ---- a command of one string: which it is, what it is read as, and its words
+
+unfoldable quoteOp : {kind : ℕ} {shape : Shape} → Quotes kind shape → Line → Op
+quoteOp (of-inserts e) l = insert none (l ∷ [])
+quoteOp (of-joins e) l = join l
+
+quotes-decode : {kind : ℕ} {shape : Shape} (q : Quotes kind shape) (place : ℕ) (c : Cursor)
+    → decode false place shape c ≡ andThen (quoted (skipSpaces c)) (λ l c₁. got (whole (simple place (quoteOp q l))) c₁)
+unfolding decode quoteOp
+quotes-decode (of-inserts e) place c = refl
+quotes-decode (of-joins e) place c = refl
+
+quotes-lies : {kind : ℕ} {shape : Shape} (q : Quotes kind shape) (s w : List ℕ) (k place : ℕ) (l : Line) → getD w k 0 ≡ head kind place → StringIn s (getD w (k + 1) 0) l
+    → OpAt s w k (k + 2) place (quoteOp q l)
+unfolding OpAt quoteOp
+quotes-lies (of-inserts e) s w k place l first there = inl (refl, rw e at first, refl, (l, there, refl))
+quotes-lies (of-joins e) s w k place l first there = (refl, rw e at first, there)
+
+pub quotes-small : {kind : ℕ} → (shape : Shape) × Quotes kind shape → kind < 256
+quotes-small (_, of-inserts e) = omega (arith, e)
+quotes-small (_, of-joins e) = omega (arith, e)
 
 -- ---- four words
 
@@ -86,30 +109,21 @@ module _ (s w : List ℕ) (place at k : ℕ) (r : CommandRoom s w place at k) wh
     (i, e, record { passed = omega arith; inside = to; forth = omega arith; two = omega arith; opening = quiet; item = it }),
   )
 
-  -- ---- IS
+  -- ---- IS and CL
 
-  module _ (i : ℕ) (spaces : skipSpaces (cursorAt s at) ≡ cursorAt s i) where
-    pub string-refused : (n p : ℕ) → quoted (cursorAt s i) ≡ refused n p → decode false place insertsString (cursorAt s at) ≡ refused n p
-    unfolding decode
-    string-refused n p e = passed-up (quoted (skipSpaces (cursorAt s at))) _ n p (ap quoted spaces ∙ e)
+  module _ {kind : ℕ} {shape : Shape} (q : Quotes kind shape) (i : ℕ) (spaces : skipSpaces (cursorAt s at) ≡ cursorAt s i) where
+    pub quotes-refused : (n p : ℕ) → quoted (cursorAt s i) ≡ refused n p → decode false place shape (cursorAt s at) ≡ refused n p
+    quotes-refused n p e = quotes-decode q place (cursorAt s at) ∙ passed-up (quoted (skipSpaces (cursorAt s at))) _ n p (ap quoted spaces ∙ e)
 
-    pub string-written : at ≤ i → (start end next v u : ℕ) → v ≡ head insertStringKind place → u ≡ stringWord start (end - start)
+    pub quotes-written : at ≤ i → (start end next v u : ℕ) → v ≡ head kind place → u ≡ stringWord start (end - start)
         → TwoAt s (λ a e. take (e - a) (drop a s)) (QuotedRead i) (quoted (cursorAt s i)) start end next
-        → CommandRead s w (set (set w k v) (k + 1) u) place k (decode false place insertsString (cursorAt s at)) (Answer.Command Follow.Nothing next (k + 2))
-    unfolding decode ItemAt OpAt openAfter
-    string-written after start end next v u hd wd (read, (one, le, from), to) =
-        whole-two s w place at k r (decode false place insertsString (cursorAt s at)) (simple place (insert none ((take (end - start) (drop start s)) ∷ []))) next (omega arith) to (λ n. omega arith) v u
-        (goes-on (quoted (skipSpaces (cursorAt s at))) _ (take (end - start) (drop start s)) (cursorAt s next) (ap quoted spaces ∙ read))
-        (inl (
-          refl,
-          first-is w k v u (omega (arith, far)) ∙ hd,
-          refl,
-          (
-            take (end - start) (drop start s),
-            rw (second-is w k v u (omega (arith, far))) (string-in s u start end le (omega arith) wd),
-            refl,
-          ),
-        ))
+        → CommandRead s w (set (set w k v) (k + 1) u) place k (decode false place shape (cursorAt s at)) (Answer.Command Follow.Nothing next (k + 2))
+    unfolding ItemAt openAfter
+    quotes-written after start end next v u hd wd (read, (one, le, from), to) =
+        let l : Line = take (end - start) (drop start s) in
+        whole-two s w place at k r (decode false place shape (cursorAt s at)) (simple place (quoteOp q l)) next (omega arith) to (λ n. omega arith) v u
+        (quotes-decode q place (cursorAt s at) ∙ goes-on (quoted (skipSpaces (cursorAt s at))) _ l (cursorAt s next) (ap quoted spaces ∙ read))
+        (quotes-lies q s _ k place l (first-is w k v u (omega (arith, far)) ∙ hd) (rw (second-is w k v u (omega (arith, far))) (string-in s u start end le (omega arith) wd)))
 
   -- ---- I and R: the lines of the script
 

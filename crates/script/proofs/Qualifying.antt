@@ -8,11 +8,11 @@ use lib.ListN.{length, take, drop, getD, set, length-set}
 use lib.Seq.{sets, length-sets, getD-set-same, getD-set-other}
 use Rattle.definitions.specs.Matching.{Qualified, qualified}
 use Rattle.definitions.specs.Search.{one}
-use Rattle.definitions.specs.Edit.{Change, alter, point}
+use Rattle.definitions.specs.Edit.{Change, Op, alter, split, point}
 use Rattle.definitions.specs.Control.{simple}
-use Rattle.definitions.specs.Reader.{refused}
+use Rattle.definitions.specs.Reader.{Cursor, got, refused, andThen}
 use Rattle.definitions.specs.Strings.{pair, startQualifiers, qualifiedString, twoStrings}
-use Rattle.definitions.specs.Commands.{alters, points, alterOp, decode}
+use Rattle.definitions.specs.Commands.{whole, Shape, alters, alterOp, decode}
 use Rattle.matching.specs.Quals.{qualifiersOf}
 use Rattle.matching.specs.Words.{stringWords, Encodes, Writable}
 use Rattle.matching.specs.declared.Quals.{Quals}
@@ -25,9 +25,11 @@ use Rattle.lexer.proofs.Given.{goes-on, passed-up}
 use Rattle.strings.specs.Answers.{StringAt, QuotedAt, PairedAt}
 use Rattle.strings.proofs.Callers.{string-few, string-writable}
 use Rattle.items.specs.Words.{head, OpAt, ItemAt, stringWord}
-use Rattle.items.specs.Kinds.{changeKind, pointKind}
+use Rattle.items.specs.Kinds.{changeKind}
 use Rattle.items.specs.Depth.{openAfter}
+use Rattle.items.proofs.Reading.{point-shape, split-shape}
 use Rattle.script.specs.Reading.{CommandRoom, Unwritten, CommandIs, CommandRead}
+use Rattle.script.specs.Commands.{Aims, of-points, of-splits}
 use Rattle.script.proofs.Keeping.{kept-set}
 use Rattle.script.proofs.Items.{one-stays, one-is}
 use Rattle.script.proofs.Inserting.{string-in}
@@ -41,6 +43,27 @@ sets-below (a ∷ vs) l i j h = sets-below vs (set l i a) (suc i) j (omega arith
 kept-sets : (vs : List ℕ) (k d i : ℕ) (w w' : List ℕ) → k ≤ i → i + length vs + d ≤ length w → Unwritten k d w w' → Unwritten k d w (sets w' i vs)
 kept-sets [] k d i w w' le room h = h
 kept-sets (a ∷ vs) k d i w w' le room h = kept-sets vs k d (suc i) w (set w' i a) (omega arith) (omega arith) (kept-set k d i a w w' le (omega arith) h)
+
+-- ---- a command of one qualified string: which it is, what it is read as, and its words
+
+unfoldable aimOp : {kind : ℕ} {shape : Shape} → Aims kind shape → Qualified → Op
+aimOp (of-points after e) = point after
+aimOp (of-splits after e) = split after
+
+aims-decode : {kind : ℕ} {shape : Shape} (a : Aims kind shape) (place : ℕ) (c : Cursor)
+    → decode false place shape c ≡ andThen (qualifiedString false c) (λ q c₁. got (whole (simple place (aimOp a q))) c₁)
+unfolding decode aimOp
+aims-decode (of-points after e) place c = refl
+aims-decode (of-splits after e) place c = refl
+
+aims-lies : {kind : ℕ} {shape : Shape} (a : Aims kind shape) (s w : List ℕ) (k m place : ℕ) (q : Qualified) → getD w k 0 ≡ head kind place → Encodes s w (k + 1) m (one q) → OpAt s w k m place (aimOp a q)
+unfolding OpAt aimOp
+aims-lies (of-points after e) s w k m place q first there = (rw e at first, there)
+aims-lies (of-splits after e) s w k m place q first there = (rw e at first, there)
+
+pub aims-small : {kind : ℕ} → (shape : Shape) × Aims kind shape → kind < 256
+aims-small (_, of-points after e) = omega (arith, e, point-shape after .0)
+aims-small (_, of-splits after e) = omega (arith, e, split-shape after .0)
 
 module _ (s w : List ℕ) (place at k : ℕ) (r : CommandRoom s w place at k) where
   -- ---- one string, from the second word on
@@ -76,33 +99,32 @@ module _ (s w : List ℕ) (place at k : ℕ) (r : CommandRoom s w place at k) wh
           string-encodes s (set w k v) (k + 1) q start (end - start) can-write (omega (arith, stands .ordered, stands .ends, stands .within))
           (rw (length-set w k v) (omega (arith, string-room)))
 
-  -- ---- PA and PB
+  -- ---- PA, PB, SA, SB
 
-  module _ (after : Bool) where
-    pub points-refused : (n p : ℕ) → qualifiedString false (cursorAt s at) ≡ refused n p → decode false place (points after) (cursorAt s at) ≡ refused n p
-    unfolding decode
-    points-refused n p e = passed-up (qualifiedString false (cursorAt s at)) _ n p e
+  module _ {kind : ℕ} {shape : Shape} (a : Aims kind shape) where
+    pub aims-refused : (n p : ℕ) → qualifiedString false (cursorAt s at) ≡ refused n p → decode false place shape (cursorAt s at) ≡ refused n p
+    aims-refused n p e = aims-decode a place (cursorAt s at) ∙ passed-up (qualifiedString false (cursorAt s at)) _ n p e
 
-    pub points-written : (q : Quals) (start end next : ℕ) → QuotedAt s at (startQualifiers false (cursorAt s at)) (qualifiedString false (cursorAt s at)) q start end next → (v m : ℕ) (w' : List ℕ)
-        → v ≡ head (pointKind after) place
+    pub aims-written : (q : Quals) (start end next : ℕ) → QuotedAt s at (startQualifiers false (cursorAt s at)) (qualifiedString false (cursorAt s at)) q start end next → (v m : ℕ) (w' : List ℕ)
+        → v ≡ head kind place
         → w' ≡ sets (set w k v) (k + 1) (stringWords (qualifiersOf q) start (end - start)) → m ≡ k + 1 + length (stringWords (qualifiersOf q) start (end - start))
-        → CommandRead s w w' place k (decode false place (points after) (cursorAt s at)) (Answer.Command Follow.Nothing next m)
-    unfolding decode ItemAt OpAt CommandIs openAfter
-    points-written q start end next (read, stands, opened) v m w' hd we me =
+        → CommandRead s w w' place k (decode false place shape (cursorAt s at)) (Answer.Command Follow.Nothing next m)
+    unfolding ItemAt CommandIs openAfter
+    aims-written q start end next (read, stands, opened) v m w' hd we me =
         let few = string-few s at q start end next stands in
         let l : Qualified = qualified (qualifiersOf q) (take (end - start) (drop start s)) in
         rw (we, me) (CommandOr.read Follow.Nothing next (k + 1 + length (stringWords (qualifiersOf q) start (end - start))) (
           string-stays q start end next stands v,
           (
-            simple place (point after l),
-            goes-on (qualifiedString false (cursorAt s at)) _ l (cursorAt s next) read,
+            simple place (aimOp a l),
+            aims-decode a place (cursorAt s at) ∙ goes-on (qualifiedString false (cursorAt s at)) _ l (cursorAt s next) read,
             record {
               passed = omega (arith, r .named, stands .after, stands .ordered, stands .ends);
               inside = stands .within;
               forth = omega arith;
               two = omega (arith, r .named, few, stands .after, stands .ordered, stands .ends, stands .within);
               opening = λ n. omega arith;
-              item = (string-head q start end next stands v ∙ hd, string-there q start end next stands v);
+              item = aims-lies a s _ k _ place l (string-head q start end next stands v ∙ hd) (string-there q start end next stands v);
             },
           ),
         ))

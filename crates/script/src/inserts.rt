@@ -1,8 +1,8 @@
-// Commands with strings or lines of the script: IS, I and R. Strings and lines stay in the script; their places are written.
+// Commands with strings or lines of the script: IS, CL, I and R. Strings and lines stay in the script; their places are written.
 ghost use mathlib.Core.Bool.{false};
-ghost use Rattle.definitions.specs.Commands.{insertsString, insertsLines, replaces as «replaces-shape»};
+ghost use Rattle.definitions.specs.Commands.{Shape, insertsLines, replaces as «replaces-shape»};
 ghost use Rattle.script.specs.Reading.{CommandRoom};
-ghost use Rattle.script.specs.Commands.{ShapeRead};
+ghost use Rattle.script.specs.Commands.{Quotes, ShapeRead};
 use answers::Answer;
 use answers::Follow;
 use items::arguments::span_head;
@@ -11,7 +11,6 @@ use items::arguments::spot_word;
 use items::arguments::string_word;
 use items::heads::head;
 use items::kinds::INSERT_LINES;
-use items::kinds::INSERT_STRING;
 use items::kinds::REPLACE;
 use items::puts::put_four;
 use items::puts::put_two;
@@ -21,16 +20,16 @@ use lexer::strings::quoted;
 use lexer::targets::line_span;
 use lexer::targets::optional_target;
 
-// IS: a string.
-pub fn inserts_string(s: &[u8], w: &mut [u32], k: usize, place: usize, at: usize) -> Answer
-    requires { ⌜ CommandRoom (now s) (now w) place at k ⌝ }
-    ensures { λ r. ⌜ ShapeRead (now (s .entry)) (now (w .entry)) (now (w .exit)) place at k false insertsString r ⌝ }
+// IS, CL: a string.
+pub fn quotes(s: &[u8], w: &mut [u32], k: usize, place: usize, at: usize, kind: u32) -> Answer
+    requires { ⌜ CommandRoom (now s) (now w) place at k × ((shape : Shape) × Quotes kind shape) ⌝ }
+    ensures { λ r. ⌜ ((shape : Shape) → Quotes kind shape → ShapeRead (now (s .entry)) (now (w .entry)) (now (w .exit)) place at k false shape r) ⌝ }
 {
     let string = quoted(s, skip_spaces(s, at));
     let Answer::Two(start, end, next) = string else {
         return string;
     };
-    put_two(w, k, head(INSERT_STRING, place), string_word(start, end));
+    put_two(w, k, head(kind, place), string_word(start, end));
     Answer::Command(Follow::Nothing, next, k + 2)
 }
 

@@ -14,10 +14,12 @@ use crate::commands::plain_kind;
 use crate::commands::prefix_word;
 use crate::commands::whole_word;
 use crate::inserts::inserts_lines;
-use crate::inserts::inserts_string;
+use crate::inserts::quotes;
 use crate::inserts::replaces;
+use crate::qualified::aims;
 use crate::qualified::alters;
-use crate::qualified::points;
+use crate::qualified::point_kind;
+use crate::qualified::split_kind;
 use crate::rounds::finish;
 use crate::searching::branches;
 use crate::searching::loops;
@@ -26,6 +28,8 @@ use answers::Answer;
 use answers::State;
 use items::kinds::AGP;
 use items::kinds::IF_EOF;
+use items::kinds::INSERT_STRING;
+use items::kinds::JOIN;
 use items::kinds::REPEAT;
 use lexer::shapes::Shape;
 use lexer::shapes::command;
@@ -50,11 +54,13 @@ fn decode(
         Shape::Seeks(f) => seeks(s, w, k, place, at, f),
         Shape::Moves => moves(s, w, k, place, at),
         Shape::Deletes => deletes(s, w, k, place, at),
-        Shape::InsertsString => inserts_string(s, w, k, place, at),
+        Shape::InsertsString => quotes(s, w, k, place, at, INSERT_STRING),
         Shape::InsertsLines => inserts_lines(s, w, k, place, at, grouped),
         Shape::Replaces => replaces(s, w, k, place, at, grouped),
         Shape::Alters(change, pointing) => alters(s, w, k, place, at, change, pointing),
-        Shape::Points(after) => points(s, w, k, place, at, after),
+        Shape::Points(after) => aims(s, w, k, place, at, point_kind(after)),
+        Shape::Splits(after) => aims(s, w, k, place, at, split_kind(after)),
+        Shape::Joins => quotes(s, w, k, place, at, JOIN),
         Shape::Repeats => prefix_word(w, k, REPEAT, place, at, false),
         Shape::Branches(holds) => branches(s, w, k, place, at, holds),
         Shape::BranchesEof => prefix_word(w, k, IF_EOF, place, skip_then(s, at), true),

@@ -1,12 +1,12 @@
-// Commands with qualified strings: A, B, E, AP, BP, EP, PA and PB.
+// Commands with qualified strings: A, B, E, AP, BP, EP, PA, PB, SA and SB.
 ghost use mathlib.Core.Path.{_≡_};
 ghost use mathlib.Core.Bool.{false};
 ghost use Prim.Native.Nat.{_<_};
-ghost use Rattle.definitions.specs.Commands.{alters as «alters-shape», points as «points-shape»};
+ghost use Rattle.definitions.specs.Commands.{Shape, alters as «alters-shape»};
 ghost use Rattle.lexer.specs.Shapes.{changeOf};
-ghost use Rattle.items.specs.Kinds.{changeKind, pointKind};
+ghost use Rattle.items.specs.Kinds.{changeKind, pointKind, splitKind};
 ghost use Rattle.script.specs.Reading.{CommandRoom};
-ghost use Rattle.script.specs.Commands.{ShapeRead};
+ghost use Rattle.script.specs.Commands.{Aims, ShapeRead};
 use answers::Answer;
 use answers::Follow;
 use items::arguments::string_word;
@@ -19,6 +19,8 @@ use items::kinds::EXCHANGE;
 use items::kinds::EXCHANGE_POINTING;
 use items::kinds::POINT_AFTER;
 use items::kinds::POINT_BEFORE;
+use items::kinds::SPLIT_AFTER;
+use items::kinds::SPLIT_BEFORE;
 use lexer::shapes::Change;
 use matching::search::put_string;
 use strings::qualified_string;
@@ -71,16 +73,22 @@ pub fn alters(
     Answer::Command(Follow::Nothing, next, m + 1)
 }
 
-fn point_kind(after: bool) -> u32
-    ensures { λ r. ⌜ (r ≡ pointKind after) × (r < 256) ⌝ }
+pub fn point_kind(after: bool) -> u32
+    ensures { λ r. ⌜ r ≡ pointKind after ⌝ }
 {
     if after { POINT_AFTER } else { POINT_BEFORE }
 }
 
-// PA (true), PB: a qualified string.
-pub fn points(s: &[u8], w: &mut [u32], k: usize, place: usize, at: usize, after: bool) -> Answer
-    requires { ⌜ CommandRoom (now s) (now w) place at k ⌝ }
-    ensures { λ r. ⌜ ShapeRead (now (s .entry)) (now (w .entry)) (now (w .exit)) place at k false («points-shape» after) r ⌝ }
+pub fn split_kind(after: bool) -> u32
+    ensures { λ r. ⌜ r ≡ splitKind after ⌝ }
+{
+    if after { SPLIT_AFTER } else { SPLIT_BEFORE }
+}
+
+// PA, PB, SA, SB: a qualified string.
+pub fn aims(s: &[u8], w: &mut [u32], k: usize, place: usize, at: usize, kind: u32) -> Answer
+    requires { ⌜ CommandRoom (now s) (now w) place at k × ((shape : Shape) × Aims kind shape) ⌝ }
+    ensures { λ r. ⌜ ((shape : Shape) → Aims kind shape → ShapeRead (now (s .entry)) (now (w .entry)) (now (w .exit)) place at k false shape r) ⌝ }
 {
     let string = qualified_string(s, at, false);
     let Answer::OneString {
@@ -92,7 +100,7 @@ pub fn points(s: &[u8], w: &mut [u32], k: usize, place: usize, at: usize, after:
     else {
         return string;
     };
-    w[k] = head(point_kind(after), place);
+    w[k] = head(kind, place);
     let m = put_string(w, k + 1, quals, start, end - start);
     Answer::Command(Follow::Nothing, next, m)
 }

@@ -87,7 +87,7 @@ alone-runs : (g : Given) (c : Carried) (e : Ed) (t : Tape) → runs g c (reach T
 unfolding reach runs
 alone-runs g c e t = refl
 
-alone-ends : {j : List ℕ} {st : State} (e : Ed) (t : Tape) → Shows j st e t → st .back < length j → (end : ℕ) → end ≡ st .back + lineLength (drop (st .back) j) → EndsAt j end 1 e t
+pub alone-ends : {j : List ℕ} {st : State} (e : Ed) (t : Tape) → Shows j st e t → st .back < length j → (end : ℕ) → end ≡ st .back + lineLength (drop (st .back) j) → EndsAt j end 1 e t
 unfolding beforeOf afterOf
 alone-ends (ed b [] p) t h more end is = absurd (shown-record b p t h more)
 alone-ends (ed b (r ∷ a) p) t h more end is = record {

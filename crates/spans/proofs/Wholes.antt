@@ -11,13 +11,13 @@ use Rattle.definitions.specs.Reading.{Ran, gave, stopped}
 use Rattle.definitions.specs.StepProgram.{gives, _>>=_, _>>_, runs, state, changes, perform}
 use Rattle.definitions.specs.Edit.{readPast, goTo, lineOr, reach, span, Op, program, step}
 use Rattle.theorems.specs.Programs.{runs-assoc, runs-on, runs-stop}
-use Rattle.editor.specs.Shows.{Shows, lent, Came, Answered}
+use Rattle.editor.specs.Shows.{Shows, lent, Came, Answered, Completes}
 use Rattle.editor.specs.declared.State.{State}
 use Rattle.editor.specs.declared.Moved.{Moved}
 use Rattle.editor.specs.declared.Moved.the-variants.{On, Stop}
 use Rattle.editor.proofs.Parts.{lent-same, Halted, came-stop, perform-as, perform-then, perform-halt}
 use Rattle.editor.proofs.Changing.{changes-on}
-use Rattle.spans.specs.Spans.{reachHere, spanHere, changeHere, Finishes, EndsAt, Spanned, FoundBy, StruckBy}
+use Rattle.spans.specs.Spans.{reachHere, spanHere, changeHere, EndsAt, Spanned, FoundBy, StruckBy}
 use Rattle.spans.specs.declared.Found.{Found}
 use Rattle.spans.specs.declared.Found.the-variants.{To}
 use Rattle.spans.specs.declared.Found.the-variants.{Stop as FoundStop}
@@ -107,7 +107,7 @@ module _ (c : Carried) (f : ℕ → List Editing) (a : Target) (b : Through) (e 
       perform-as (lent j) c (_>>=_ (span a b) (λ n. gives (changes (f n)))) (_>>=_ (goTo a) (λ u. changeHere f b)) e e t t
       (runs-assoc (lent j) c (λ u. spanHere b) (λ n. gives (changes (f n))) (goTo a) e t)
 
-  pub from-on : {i : List ℕ} {s : State} {m : Moved} (k : List ℕ) (r : Moved) → m ≡ On s → Came i m (runs (lent j) c (goTo a) e t) → length i ≡ length j → Finishes i s (changeHere f b) k r
+  pub from-on : {i : List ℕ} {s : State} {m : Moved} (k : List ℕ) (r : Moved) → m ≡ On s → Came i m (runs (lent j) c (goTo a) e t) → length i ≡ length j → Completes i s (changeHere f b) k r
       → Answered k r (perform (lent j) (_>>=_ (span a b) (λ n. gives (changes (f n)))) (state e c) t)
   from-on {i} k r q h long rest =
       rw from-then

@@ -1,24 +1,26 @@
 -- Several records at once: how far D and R go, where the records that they take end, and what is left of these. Assumes nothing.
 use mathlib.Core.Path.{_≡_}
-use mathlib.Core.Bool.{cond}
-use mathlib.Core.List.{List, [], _∷_, _++_, reverseAux}
-use Prim.Native.Nat.{ℕ, zero, suc, _+_, _≤_}
-use lib.ListN.{length, drop}
+use mathlib.Core.Bool.{false, cond}
+use mathlib.Core.List.{List, [], _∷_, _++_, map, reverseAux}
+use Prim.Native.Nat.{ℕ, zero, suc, _+_, _-_, _≤_}
+use lib.ListN.{length, take, drop}
 use lib.Dec.{eqb}
-use Rattle.definitions.specs.Journal.{Record, kept, changed, deleted, inserted}
-use Rattle.definitions.specs.Tape.{Tape}
+use Rattle.definitions.specs.Journal.{Record, kept, changed, deleted, inserted, erase}
+use Rattle.definitions.specs.Tape.{Tape, restLines}
 use Rattle.definitions.specs.Given.{Carried}
-use Rattle.definitions.specs.Editor.{Ed, afterOf, sources, n20, stopNumber, Through, alone, upTo, toEof, struckBack, strike, edit}
+use Rattle.definitions.specs.Editor.{Ed, beforeOf, afterOf, sources, hasLive, land, n20, stopNumber, Through, alone, upTo, toEof, struckBack, strike, edit}
 use Rattle.definitions.specs.Editor.{Edit as Editing}
 use Rattle.definitions.specs.Reading.{Ran, gave, stopped}
-use Rattle.definitions.specs.StepProgram.{Program, gives, _>>=_, _>>_, runs, state, Did, changes, perform}
+use Rattle.definitions.specs.StepProgram.{Program, gives, _>>=_, _>>_, runs, Did, changes}
 use Rattle.definitions.specs.Edit.{readPast, lineOr, reach}
+use Rattle.gap.specs.Gap.{movedUp, cleared}
 use Rattle.editor.specs.Records.{encAll, Goods, mark}
-use Rattle.editor.specs.Shows.{Holds, Stays, Shows, restOf, lent, Answered}
+use Rattle.editor.specs.Shows.{Holds, Stays, Shows, restOf, GroundedAt, lent}
 use Rattle.editor.specs.declared.State.{State}
-use Rattle.editor.specs.declared.Moved.{Moved}
 use Rattle.spans.specs.declared.Found.{Found}
 use Rattle.spans.specs.declared.Found.the-variants.{To, Stop}
+use Rattle.spans.specs.declared.finding.Live.{Live}
+use Rattle.spans.specs.declared.Next.{Next}
 
 -- ---- how far D and R go, as a number
 
@@ -47,10 +49,6 @@ unfoldable pub changeHere : (ℕ → List Editing) → Through → Program Did
 changeHere f b = do
   k ← spanHere b
   gives (changes (f k))
-
--- with the buffer j and its numbers st before, and the buffer k after, the function that answered r did what is left of a command
-abbrev pub Finishes : List ℕ → State → Program Did → List ℕ → Moved → Type 0
-Finishes j st m k r = (e : Ed) (c : Carried) (t : Tape) → Shows j st e t → Answered k r (perform (lent j) m (state e c) t)
 
 -- ---- the records that are taken
 
@@ -93,6 +91,42 @@ pub record SourceAt (j : List ℕ) (at k : ℕ) (rs : List Record) : Type 0 wher
 
 -- ---- deletion
 
+-- how many bytes fewer a record takes once its line is deleted: an inserted line's record goes, a changed line's new text
+unfoldable pub freedBy : Record → ℕ
+freedBy (kept l) = 0
+freedBy (changed o n) = suc (length n)
+freedBy (deleted l) = 0
+freedBy (inserted l) = 3 + length l
+
+-- some record stands at the place `at`, the current one or one after it
+abbrev pub StandsAt : List ℕ → State → ℕ → Type 0
+StandsAt j st at =
+    (b : List Record) × (m : List Record) × (x : Record) × (a : List Record) × Holds j st b (m ++ (x ∷ a)) × (at + length (encAll (x ∷ a)) ≡ length j)
+
+-- its line is deleted where it stands; the gap takes the bytes that this frees
+abbrev pub StrikesAt : ℕ → List ℕ → State → List ℕ → State → Type 0
+StrikesAt at j st k r =
+    ((b : List Record) (m : List Record) (x : Record) (a : List Record) → Holds j st b (m ++ (x ∷ a)) → at + length (encAll (x ∷ a)) ≡ length j
+    → Holds k r b (m ++ (erase x ++ a)) × (r .back ≡ st .back + freedBy x))
+    × Stays st r
+
+-- the gap ends n bytes later
+abbrev pub widened : State → ℕ → State
+widened st n = record {
+  front = st .front;
+  back = st .back + n;
+  past = st .past;
+  furthest = st .furthest;
+  lines = st .lines;
+  source = st .source;
+  size = st .size;
+  p = st .p;
+}
+
+-- the bytes from `from` up to `to` go; those between the gap and them move up
+abbrev pub ClosesHole : ℕ → ℕ → List ℕ → State → List ℕ → State → Type 0
+ClosesHole from to j st k r = (k ≡ movedUp (st .back) from to (cleared from (to - from) j)) × (r ≡ widened st (to - from))
+
 -- some records up to the place `end` stand from the current one on
 abbrev pub Until : List ℕ → State → ℕ → Type 0
 Until j st end = (c : List Record) × (m : List Record) × (d : List Record) × Holds j st c (m ++ d) × (end + length (encAll d) ≡ length j)
@@ -130,3 +164,41 @@ abbrev pub StrikesSpan : ℕ → List ℕ → State → List ℕ → State → T
 StrikesSpan end j st k r =
     (e : Ed) (c : Carried) (t : Tape) (n : ℕ) → Shows j st e t → EndsAt j end n e t → let x = runs (lent j) c (readPast n) e t in
     StruckBy k r n (x .0) (x .1)
+
+-- ---- the next live line
+
+-- r is where the first live record of `rest` stands, or EOF, and the source lines before it, `before` standing before `rest`
+abbrev pub LiveAt : List ℕ → Live → List Record → List Record → Type 0
+LiveAt j r before rest = Stands j (r .at) (afterOf (land before rest)) × (r .past ≡ sources (beforeOf (land before rest)))
+
+-- after the n records from the current one on, the next live record stands at the place `at`; or EOF does, and is read
+pub record NextAt (j : List ℕ) (at n : ℕ) (e : Ed) (t : Tape) : Type 0 where
+  pub passed : List Record
+  pub left : List Record
+  pub same : passed ++ left ≡ drop n (afterOf e)
+  pub dead : hasLive passed ≡ false
+  pub grounded : GroundedAt left t
+  pub place : at + length (encAll (left ++ map kept (restLines t))) ≡ length j
+
+-- what is answered, and what `readPast n` comes to
+unfoldable pub NextBy : List ℕ → ℕ → Next → Ran (Unit {0}) → Tape → Type 0
+NextBy j n r (gave u e) t = Shows j (r .st) e t × NextAt j (r .at) n e t
+NextBy j n r (stopped m e) t = ⊥
+
+-- some records up to the place `end` stand from the current one on, and `past` source lines before that place
+abbrev pub CountedTo : List ℕ → State → ℕ → ℕ → Type 0
+CountedTo j st end past =
+    (c : List Record) × (m : List Record) × (d : List Record) × Holds j st c (m ++ d) × (end + length (encAll d) ≡ length j) × (past ≡ sources c + sources m)
+
+-- the next live line after them is found and read
+abbrev pub ReadsFrom : ℕ → ℕ → List ℕ → State → Next → Type 0
+ReadsFrom end past j st r =
+    (e : Ed) (c : Carried) (t : Tape) (n : ℕ) → Shows j st e t → EndsAt j end n e t → past ≡ sources (beforeOf e) + sources (take n (afterOf e))
+    → let x = runs (lent j) c (readPast n) e t in
+    NextBy j n r (x .0) (x .1)
+
+-- the next live line after the current one is found and read
+abbrev pub ReadsNext : List ℕ → State → Next → Type 0
+ReadsNext j st r =
+    (e : Ed) (c : Carried) (t : Tape) → Shows j st e t → let x = runs (lent j) c (readPast 1) e t in
+    NextBy j 1 r (x .0) (x .1)

@@ -5,13 +5,13 @@ use editor::State;
 ghost use mathlib.Core.List.{[], _∷_};
 ghost use Rattle.definitions.specs.Editor.{strike};
 ghost use Rattle.definitions.specs.Edit.{Op};
-ghost use Rattle.editor.specs.Shows.{ShowsText, Performs, targetNumbered};
-ghost use Rattle.spans.specs.Spans.{throughOf, changeHere, Finishes};
+ghost use Rattle.editor.specs.Shows.{ShowsText, Performs, Completes, targetNumbered};
+ghost use Rattle.spans.specs.Spans.{throughOf, changeHere};
 
 // D from the current line on.
 fn delete_here(j: &mut [u8], st: State, through: usize) -> Moved
     requires { ⌜ ShowsText (now j) st ⌝ }
-    ensures { λ r. ⌜ Finishes (now (j .entry)) st (changeHere (λ n. strike n ∷ []) (throughOf through)) (now (j .exit)) r ⌝ }
+    ensures { λ r. ⌜ Completes (now (j .entry)) st (changeHere (λ n. strike n ∷ []) (throughOf through)) (now (j .exit)) r ⌝ }
 {
     let found = crate::finding::span_end(j, st, through);
     match found {

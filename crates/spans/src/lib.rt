@@ -10,3 +10,9 @@ pub enum Found {
     To(usize, State),
     Stop(usize, State),
 }
+
+// Where the record of the next live line stands, or the buffer's end where there is none; and the numbers once that line, or EOF, is read.
+pub struct Next {
+    pub at: usize,
+    pub st: State,
+}

@@ -114,7 +114,7 @@ InBudget total x = (endSteps x ≤ total) × (endNumber x ≡ 29 → endSteps x 
 -- a step's number is not 29
 not-29 : (n : ℕ) → StepNumber n → n ≡ 29 → ⊥
 not-29 n (inl q) e = omega (arith, q, e)
-not-29 n (inr (a, b)) e = omega (arith, b, e)
+not-29 n (inr h) e = h .2 e
 
 module _ (size total : ℕ) (go : Ctl → RunState → Reads End) (h : (c : Ctl) (s : RunState) (t : Tape) → InBudget total ((go c s t) .0)) where
   stepped-in-budget : (steps at : ℕ) (c₁ c₀ : Ctl) (o : Out) (t : Tape) → steps ≤ total → StepNumbered o t → InBudget total ((stepped go steps at c₁ c₀ o t) .0)

@@ -7,7 +7,7 @@ use Rattle.definitions.specs.Journal.{Record, kept, changed, deleted, inserted,
 use Rattle.definitions.specs.Tape.{Tape, unread, ended, bind}
 use Rattle.definitions.specs.Given.{Given, Carried}
 use Rattle.definitions.specs.Editor.{Ed, ed, records, current, Got, here, line, eof, Move, ahead, to, pointTo, land, goBack, locate, moved}
-use Rattle.definitions.specs.Editor.{Edit, strike, strikeBack, put, retext, struck, struckBack, putBefore, edit, edits}
+use Rattle.definitions.specs.Editor.{Edit, strike, strikeBack, strikeNext, put, retext, struck, struckBack, struckNext, putBefore, edit, edits}
 use Rattle.definitions.specs.Reading.{Ran, gave, stopped, seen, readLine, opening}
 use Rattle.definitions.specs.StepProgram.{Program, _>>=_, _>>_, runs, RunState, state, Did, answers, changes, quits, Out, finish, perform}
 use Rattle.definitions.specs.Edit.{Op, program, step}
@@ -53,6 +53,7 @@ module _ (L : Line → Type 0) (R : Line → Line → Type 0) where
   abbrev pub MayEdit : Edit → Ed → Type 0
   MayEdit (strike k) e = Unit {0}
   MayEdit (strikeBack k) e = Unit {0}
+  MayEdit strikeNext e = Unit {0}
   MayEdit (put ls) e = Each L ls
   MayEdit (retext l q) (ed before [] p) = Unit {0}
   MayEdit (retext l q) (ed before (r ∷ after) p) = R (current r) l
@@ -71,6 +72,7 @@ module _ (L : Line → Type 0) (R : Line → Line → Type 0) where
     edit-any : (x : Edit) (e : Ed) → MayEdit x e
     edit-any (strike k) e = tt
     edit-any (strikeBack k) e = tt
+    edit-any strikeNext e = tt
     edit-any (put ls) e = each-all L lines ls
     edit-any (retext l q) (ed before [] p) = tt
     edit-any (retext l q) (ed before (r ∷ after) p) = texts (current r) l
@@ -179,6 +181,16 @@ module _ (L : Line → Type 0) (R : Line → Line → Type 0) (K : Statement) (c
         struckBack-keeps (suc k) before (deleted l ∷ passed) after (closed .back before (deleted l) (passed ++ after) t h)
     struckBack-keeps (suc k) (inserted l ∷ before) passed after h = struckBack-keeps k before passed after (erases-back before (inserted l) (passed ++ after) h)
 
+    -- one record on, which stands before the current one until the others are done
+    struckNext-keeps : (before rs : List Record) → K before rs t → K before (struckNext rs) t
+    unfolding struckNext erase
+    struckNext-keeps before [] h = h
+    struckNext-keeps before (kept l ∷ rs) h = closed .back before (deleted l) rs t (closed .erases before (kept l) rs t h)
+    struckNext-keeps before (changed o n ∷ rs) h = closed .back before (deleted o) rs t (closed .erases before (changed o n) rs t h)
+    struckNext-keeps before (deleted l ∷ rs) h =
+        closed .back before (deleted l) (struckNext rs) t (struckNext-keeps (deleted l ∷ before) rs (closed .over before (deleted l) rs t h))
+    struckNext-keeps before (inserted l ∷ rs) h = closed .erases before (inserted l) rs t h
+
     putBefore-keeps : (ls : List Line) (before after : List Record) → Each L ls → K before after t → K (putBefore ls before) after t
     unfolding putBefore
     putBefore-keeps [] before after k h = h
@@ -188,6 +200,9 @@ module _ (L : Line → Type 0) (R : Line → Line → Type 0) (K : Statement) (c
     unfolding edit
     edit-keeps (strike k) (ed before after p) w h = struck-keeps k before after h
     edit-keeps (strikeBack k) (ed before after p) w h = struckBack-keeps k before [] after h
+    edit-keeps strikeNext (ed before [] p) w h = h
+    edit-keeps strikeNext (ed before (r ∷ after) p) w h =
+        closed .back before r (struckNext after) t (struckNext-keeps (r ∷ before) after (closed .over before r after t h))
     edit-keeps (put ls) (ed before after p) w h = putBefore-keeps ls before after w h
     edit-keeps (retext l q) (ed before [] p) w h = h
     edit-keeps (retext l q) (ed before (r ∷ after) p) w h = closed .rewrites before r after t l w h
@@ -200,7 +215,7 @@ module _ (L : Line → Type 0) (R : Line → Line → Type 0) (K : Statement) (c
   -- ---- programs
 
   -- every program program-keeps it, up to its end
-  program-keeps : {A : Type 0} (g : Given) (c : Carried) (m : Program A) (e : Ed) (t : Tape) → HoldsEd K e t → ComesTo g c {A = A} (λ a. HoldsEd K) (λ n. HoldsEd K) m e t
+  pub program-keeps : {A : Type 0} (g : Given) (c : Carried) (m : Program A) (e : Ed) (t : Tape) → HoldsEd K e t → ComesTo g c {A = A} (λ a. HoldsEd K) (λ n. HoldsEd K) m e t
   program-keeps g c m e t h = runs-keep g c (HoldsEd K) (line-keeps g c) (λ x e′ t′. move-keeps t′ x e′) m e t h
 
   -- whatever the first program gives

@@ -15,7 +15,7 @@ use Rattle.definitions.specs.Edit.{Change, Test, isEof, Op, insert}
 use Rattle.definitions.specs.Control.{Seek, Opener, forever, branch, loop, Item, simple, seek, opens, leave}
 use Rattle.definitions.specs.Reader.{Cursor, cursor, placeAt, bytesLeft, isNext, skipSpaces, skipComment, isDigitNext, number, name, packed, isToken}
 use Rattle.definitions.specs.Strings.{Pair, pair}
-use Rattle.definitions.specs.Commands.{Shape, plain, leaves, seeks, moves, deletes, insertsString, insertsLines, replaces, alters, points, repeats, branches, branchesEof, loops, unknown, Row, row, commandTable, lookUp, shapeOf, startsTarget, target, through, Span, span, lineSpan, optionalTarget, endOfLine, UpToZ, upToZ, noZ, linesUpToZ, linesAfter, bytesFrom, scriptLines, Decoded, whole, prefix, skipThen, testOf, deleteOp, replaceOp, alterOp, decode}
+use Rattle.definitions.specs.Commands.{Shape, plain, leaves, seeks, moves, deletes, insertsString, insertsLines, replaces, alters, points, splits, joins, repeats, branches, branchesEof, loops, unknown, Row, row, commandTable, lookUp, shapeOf, startsTarget, target, through, Span, span, lineSpan, optionalTarget, endOfLine, UpToZ, upToZ, noZ, linesUpToZ, linesAfter, bytesFrom, scriptLines, Decoded, whole, prefix, skipThen, testOf, deleteOp, replaceOp, alterOp, decode}
 use Rattle.theorems.specs.Lines.{and-both, and-left, and-right, TakenFrom, taken-from}
 use Rattle.theorems.specs.GoodItems.{goodTest, goodTarget, goodThrough, goodOption, goodOp, goodOpener, goodItem, placedIn}
 use Rattle.theorems.specs.Nesting.{isBranch, isBare}
@@ -102,6 +102,8 @@ goodShape insertsLines = true
 goodShape replaces = true
 goodShape (alters c pointing) = true
 goodShape (points after) = true
+goodShape (splits after) = true
+goodShape joins = true
 goodShape repeats = true
 goodShape (branches b) = true
 goodShape branchesEof = true
@@ -205,6 +207,8 @@ decode-reads {s} i at replaces c le g h =
     then (span-reads c h) (λ x c₁ h₁ f. then (script-lines-reads i c₁ h₁) (λ ls c₂ h₂ k. gets h₂ (simple-well at (replaceOp x ls) le (replace-good s x ls f k))))
 decode-reads {s} i at (alters ch pointing) c le g h = then (two-reads c h) (λ x c₁ h₁ f. gets h₁ (simple-well at (alterOp ch pointing x) le (alter-good s ch pointing x f)))
 decode-reads i at (points after) c le g h = then (qualified-reads false c h) (λ q c₁ h₁ f. gets h₁ (simple-well at _ le f))
+decode-reads i at (splits after) c le g h = then (qualified-reads false c h) (λ q c₁ h₁ f. gets h₁ (simple-well at _ le f))
+decode-reads i at joins c le g h = then (quoted-reads (skipSpaces c) (past-spaces c h)) (λ l c₁ h₁ f. gets h₁ (simple-well at _ le f))
 decode-reads i at repeats c le g h = gets h (forever-well at le)
 decode-reads {s} i at (branches b) c le g h = then (search-reads c h) (λ se c₁ h₁ f. gets (past-then c₁ h₁) (branch-well at (testOf b se) le (test-good s b se f)))
 decode-reads {s} i at branchesEof c le g h = gets (past-then c h) (branch-well at isEof le (eof-good s))

@@ -8,7 +8,7 @@ use Rattle.definitions.specs.Bytes.{isLine, allLines}
 use Rattle.definitions.specs.Matching.{Columns, allColumns, columns, Qualifiers, qualifiers, Qualified, qualified}
 use Rattle.definitions.specs.Search.{Search, one, both, either}
 use Rattle.definitions.specs.Editor.{Target, here, line, eof, Through, alone, upTo, toEof}
-use Rattle.definitions.specs.Edit.{Test, is, isNot, isEof, Op, onlyStep, quit, test, begin, beginBack, find, findBack, findDelete, move, nextLine, previousLine, delete, replace, insert, copy, alter, point, pointStart, right, left, cutByte, recase}
+use Rattle.definitions.specs.Edit.{Test, is, isNot, isEof, Op, onlyStep, quit, test, begin, beginBack, find, findBack, findDelete, move, nextLine, previousLine, delete, replace, insert, copy, alter, split, join, point, pointStart, right, left, cutByte, recase}
 use Rattle.definitions.specs.Control.{Opener, times, forever, bare, branch, loop, Item, simple, seek, opens, bracket, close, otherwise, leave, lineEnd}
 
 -- "Numbers are 1 to 65,535"
@@ -69,6 +69,8 @@ goodOp (replace a b ls) = goodTarget a && goodThrough b && allLines ls
 goodOp (insert a ls) = goodOption a && allLines ls
 goodOp copy = true
 goodOp (alter c pointing q new) = goodQualified q && isLine new
+goodOp (split after q) = goodQualified q
+goodOp (join s) = isLine s
 goodOp (point after q) = goodQualified q
 goodOp pointStart = true
 goodOp right = true

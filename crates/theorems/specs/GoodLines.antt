@@ -4,7 +4,7 @@ use mathlib.Core.Bool.{Bool, true, false, cond, and-eq-true-iff}
 use mathlib.Core.List.{[], _∷_, _++_}
 use Prim.Native.Nat.{ℕ, _+_, _-_, _≤_, _<_}
 use native.Mathlib.Omega.{arith}
-use lib.ListN.{length, getD, take, drop, length-append, length-drop}
+use lib.ListN.{length, getD, take, drop, length-append, length-take, length-drop}
 use lib.Seq.{length-take-le}
 use lib.Dec.{leb}
 use borrow.Author.Tests.{leb-true}
@@ -14,7 +14,7 @@ use Rattle.definitions.specs.Editor.{current}
 use Rattle.definitions.specs.Edit.{Change, afterIt, beforeIt, exchange, splice, altered, cased, recased}
 use Rattle.theorems.specs.Each.{Each, each-append, each-take, each-drop, each-getD}
 use Rattle.theorems.specs.Lines.{text-upTo, text-of}
-use Rattle.theorems.specs.JournalBytes.{IsLine, GoodRecord, line-text}
+use Rattle.theorems.specs.JournalBytes.{IsLine, GoodRecord, line-text, line-of, line-short}
 
 -- ---- text
 
@@ -78,6 +78,16 @@ unfolding altered
 altered-text afterIt l i n new h k = splice-text l (i + n) 0 new h k
 altered-text beforeIt l i n new h k = splice-text l i 0 new h k
 altered-text exchange l i n new h k = splice-text l i n new h k
+
+-- lines put together, and the parts of a line that is cut
+pub appended-text : (l m : Line) → allText l ≡ true → allText m ≡ true → allText (l ++ m) ≡ true
+appended-text l m h k = each-text (l ++ m) (each-append IsText l m (text-each l h) (text-each m k))
+
+pub taken-line : (k : ℕ) (l : Line) → IsLine l → IsLine (take k l)
+taken-line k l h = line-of (take k l) (each-text (take k l) (each-take IsText k l (text-each l (line-text l h)))) (omega (arith, line-short l h, length-take k l))
+
+pub dropped-line : (k : ℕ) (l : Line) → IsLine l → IsLine (drop k l)
+dropped-line k l h = line-of (drop k l) (each-text (drop k l) (each-drop IsText k l (text-each l (line-text l h)))) (omega (arith, line-short l h, length-drop k l))
 
 -- a byte of a line in the other case, as a text of its own
 pub cased-byte : (up : Bool) (l : Line) (p : ℕ) → p < length l → allText l ≡ true → allText (cased up (getD l p 0) ∷ []) ≡ true

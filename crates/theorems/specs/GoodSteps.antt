@@ -1,32 +1,32 @@
 -- Every step of a script writes lines: what it inserts is a line, and so is the text that it puts in place of another. So records stay good.
 use mathlib.Core.Path.{_≡_, refl}
 use mathlib.Core.Bool.{Bool, true, false, _&&_, false≢true}
-use mathlib.Core.Option.{none, some}
-use mathlib.Core.List.{List, [], _∷_}
+use mathlib.Core.Option.{Option, none, some}
+use mathlib.Core.List.{List, [], _∷_, _++_}
 use Prim.Native.Nat.{ℕ}
 use native.Mathlib.Omega.{arith}
-use lib.ListN.{length}
+use lib.ListN.{length, drop}
 use lib.Dec.{leb, ltb}
 use borrow.Author.Tests.{leb-false, ltb-false}
 use Rattle.definitions.specs.Bytes.{Line, allText, allLines, isLine}
-use Rattle.definitions.specs.Journal.{Record, kept, erase}
+use Rattle.definitions.specs.Journal.{Record, kept, changed, deleted, inserted, erase}
 use Rattle.definitions.specs.Matching.{placeOf, stringIn}
 use Rattle.definitions.specs.Search.{Search, holds}
 use Rattle.definitions.specs.Tape.{Tape, restLines}
 use Rattle.definitions.specs.Given.{Given, Carried}
-use Rattle.definitions.specs.Editor.{Ed, ed, current, Stop, n20, n21, n22, n24, n25, strike, strikeBack, put, retext}
+use Rattle.definitions.specs.Editor.{Ed, ed, afterOf, current, firstLive, Stop, n20, n21, n22, n24, n25, n30, strike, strikeBack, strikeNext, put, retext, edit}
 use Rattle.definitions.specs.StepProgram.{Program, gives, _>>=_, _>>_, runs, Did, answers, changes}
-use Rattle.definitions.specs.Edit.{Op, onlyStep, quit, test, begin, beginBack, find, findBack, findDelete, move, nextLine, previousLine, delete, replace, insert, copy, alter, point, pointStart, right, left, cutByte, recase}
-use Rattle.definitions.specs.Edit.{either, goesOn, lineOr, lookOn, lookBack, placeOr24, byteHere, write, span, program}
+use Rattle.definitions.specs.Edit.{Op, onlyStep, quit, test, begin, beginBack, find, findBack, findDelete, move, nextLine, previousLine, delete, replace, insert, copy, alter, split, join, point, pointStart, right, left, cutByte, recase}
+use Rattle.definitions.specs.Edit.{orStop, either, see, goesOn, readPast, lineOr, lookOn, lookBack, placeOr24, byteHere, write, cutAfter, nextOr30, writeJoined, span, program}
 use Rattle.definitions.specs.Control.{Item}
-use Rattle.theorems.specs.Each.{Each, each-append}
+use Rattle.theorems.specs.Each.{Each, each-append, each-drop}
 use Rattle.theorems.specs.Lines.{and-right}
-use Rattle.theorems.specs.ComesTo.{Gives, Stops, ComesTo, line-comes, byte-comes, test-comes, some-comes, either-comes}
+use Rattle.theorems.specs.ComesTo.{Gives, Stops, ComesTo, then-comes, and-comes, line-comes, byte-comes, test-comes, some-comes, either-comes}
 use Rattle.theorems.specs.Runs.{Inner, ItemsOf}
-use Rattle.theorems.specs.Changes.{Statement, Closed, HoldsEd, DoesWell, Keeps, then-keeps, and-keeps}
+use Rattle.theorems.specs.Changes.{Statement, Closed, HoldsEd, DoesWell, Keeps, program-keeps, then-keeps, and-keeps}
 use Rattle.theorems.specs.JournalBytes.{IsLine, GoodRecord, line-text, line-of, all-lines}
 use Rattle.theorems.specs.GoodItems.{goodTarget, goodThrough, goodOption, goodQualified, goodOp}
-use Rattle.theorems.specs.GoodLines.{splice-text, altered-text, recased-text, current-line, current-text, rewrite-good, erase-good}
+use Rattle.theorems.specs.GoodLines.{splice-text, altered-text, recased-text, appended-text, taken-line, dropped-line, current-line, current-text, rewrite-good, erase-good}
 
 -- ---- good records
 
@@ -126,6 +126,53 @@ write-lines g c before r after p t l q k h =
     test-comes g c WritesWell StopsWell n25 (ltb 255 (length l)) (gives (changes (retext l q ∷ []))) (ed before (r ∷ after) p) t (λ x. h)
     (λ x. unfold runs in ((λ o. line-of l (k o) (omega (arith, ltb-false 255 (length l) x)), tt), h))
 
+-- a line that is cut: its parts are lines
+cut-lines : (g : Given) (c : Carried) (before : List Record) (r : Record) (after : List Record) (p : ℕ) (t : Tape) (k : ℕ) → Good before (r ∷ after) t
+    → From g c (cutAfter (current r) k) (ed before (r ∷ after) p) t
+unfolding cutAfter runs edit
+cut-lines g c before r after p t k h =
+    let l = current-line r (h .1 .0) in
+    (((taken-line k (current r) l, tt), ((λ o. dropped-line k (current r) l), tt)), h)
+
+-- the next live line's text, if there is one
+abbrev NextText : Option Line → Type 0
+NextText none = Unit {0}
+NextText (some l) = allText l ≡ true
+
+first-text : (rs : List Record) → GoodRecords rs → NextText (firstLive rs)
+unfolding firstLive
+first-text [] h = tt
+first-text (kept l ∷ rs) h = line-text l (h .0)
+first-text (changed o n ∷ rs) h = line-text n (h .0 .1)
+first-text (deleted l ∷ rs) h = first-text rs (h .1)
+first-text (inserted l ∷ rs) h = line-text l (h .0)
+
+-- a text is given, and the records are good
+abbrev GivesText : Gives Line
+GivesText l e t = (allText l ≡ true) × HoldsEd Good e t
+
+or-text : (g : Given) (c : Carried) (o : Option Line) (e : Ed) (t : Tape) → NextText o → HoldsEd Good e t → ComesTo g c GivesText StopsWell (orStop n30 o) e t
+unfolding orStop runs
+or-text g c none e t k h = h
+or-text g c (some l) e t k h = (k, h)
+
+next-text : (g : Given) (c : Carried) (e : Ed) (t : Tape) → HoldsEd Good e t → ComesTo g c GivesText StopsWell nextOr30 e t
+unfolding nextOr30
+next-text g c e t h = and-comes g c (λ u. HoldsEd Good) GivesText StopsWell (readPast 1) _ e t (program-keeps IsLine IsLineAfter Good good-closed g c (readPast 1) e t h) (λ u. by)
+  where
+    by : (e : Ed) (t : Tape) → HoldsEd Good e t → ComesTo g c GivesText StopsWell (_>>=_ (see afterOf) (λ rs. orStop n30 (firstLive (drop 1 rs)))) e t
+    by (ed before after p) t h = unfold see afterOf _>>=_ runs in (or-text g c (firstLive (drop 1 after)) (ed before after p) t (first-text (drop 1 after) (each-drop GoodRecord 1 after (h .1))) h)
+
+-- the joined text is written, and the next line is struck
+joined-lines : (g : Given) (c : Carried) (e : Ed) (t : Tape) (l : Line) (q : ℕ) → allText l ≡ true → HoldsEd Good e t → From g c (writeJoined l q) e t
+unfolding writeJoined
+joined-lines g c e t l q k h =
+    test-comes g c WritesWell StopsWell n25 (ltb 255 (length l)) _ e t (λ x. h) (λ x. by e h (line-of l k (omega (arith, ltb-false 255 (length l) x))))
+  where
+    by : (e : Ed) → HoldsEd Good e t → IsLine l → From g c (gives (changes (retext l q ∷ strikeNext ∷ []))) e t
+    by (ed before [] p) h i = unfold runs in ((tt, (tt, tt)), h)
+    by (ed before (r ∷ after) p) h i = unfold runs in (((λ o. i), (tt, tt)), h)
+
 lookOn-lines : WritesLines lookOn
 unfolding lookOn
 lookOn-lines = and-lines _ _ (and-lines (lineOr n21) _ (answer-lines false))
@@ -179,6 +226,13 @@ good-lines (alter d pointing q new) h =
     line-lines n20 _ (λ g c before r after p t k. unfold placeOr24 in
     (some-comes g c WritesWell StopsWell n24 (placeOf q p (current r)) _ (ed before (r ∷ after) p) t k
     (λ i. write-lines g c before r after p t _ _ (λ o. altered-text d (current r) i (length (stringIn q)) new o (line-text new (and-right (goodQualified q) (isLine new) h))) k)))
+good-lines (split after q) h =
+    line-lines n20 _ (λ g c before r after p t k. unfold placeOr24 in
+    (some-comes g c WritesWell StopsWell n24 (placeOf q p (current r)) _ (ed before (r ∷ after) p) t k (λ i. cut-lines g c before r after p t _ k)))
+good-lines (join s) h =
+    line-lines n20 _ (λ g c before r after p t k.
+    then-comes g c GivesText WritesWell StopsWell nextOr30 _ (ed before (r ∷ after) p) t (next-text g c (ed before (r ∷ after) p) t k) (λ m e′ t′ x.
+    joined-lines g c e′ t′ _ p (appended-text (current r) (s ++ m) (current-text r (k .1 .0)) (appended-text s m (line-text s h) (x .0))) (x .1)))
 good-lines (point b q) h = then-lines (lineOr n20) _ (λ x. then-lines (placeOr24 q (x .0) (x .1)) _ (λ i. and-lines _ _ goes-lines))
 good-lines pointStart h = and-lines _ _ (and-lines _ _ goes-lines)
 good-lines right h = then-lines byteHere _ (λ x. and-lines _ _ goes-lines)

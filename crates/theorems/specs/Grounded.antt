@@ -1,23 +1,24 @@
--- No command reads too little: where EOF is current, or a line is not found (21), EOF has been read, and a current line is not deleted. This
+-- No command reads too little: where EOF is current, a line is not found (21), or there is no next line (30), EOF has been read, and a current line is not deleted. This
 -- holds at the start, is kept by every step, and so holds at the end of every run.
 use mathlib.Core.Path.{refl}
 use mathlib.Core.Bool.{Bool, true, false, cond, not}
 use mathlib.Core.Option.{none, some}
 use mathlib.Core.List.{List, [], _∷_}
 use Prim.Native.Nat.{ℕ}
+use lib.ListN.{take, drop}
 use native.Mathlib.Omega.{arith}
-use lib.Dec.{T, eqb}
+use lib.Dec.{T}
 use Rattle.definitions.specs.Bytes.{Line, eqLine}
 use Rattle.definitions.specs.Journal.{Record, kept, changed, deleted, inserted, oldOf, oldSide, change, rewrite}
 use Rattle.definitions.specs.Matching.{Qualified, placeOf}
 use Rattle.definitions.specs.Search.{Search, holds}
 use Rattle.definitions.specs.Tape.{Tape, unread, ended, bind}
 use Rattle.definitions.specs.Given.{Given, given, bytes, Carried, carried}
-use Rattle.definitions.specs.Editor.{Ed, ed, sources, Stop, n20, n21, n22, n24, n25, n27, stopNumber, back, pointTo, Edit, strike, strikeBack, put, retext, edit, edits}
+use Rattle.definitions.specs.Editor.{Ed, ed, sources, Stop, n20, n21, n22, n24, n25, n27, stopNumber, back, pointTo, Edit, strike, strikeBack, strikeNext, put, retext, edit, edits}
 use Rattle.definitions.specs.Reading.{Ran, gave, stopped, opening}
 use Rattle.definitions.specs.StepProgram.{Program, gives, _>>=_, _>>_, runs, RunState, state, Did, answers, changes, quits, Out, on, edited, halt, finish, perform}
-use Rattle.definitions.specs.Edit.{Op, onlyStep, quit, test, begin, beginBack, find, findBack, findDelete, move, nextLine, previousLine, delete, replace, insert, copy, alter, point, pointStart, right, left, cutByte, recase}
-use Rattle.definitions.specs.Edit.{stopIf, either, see, go, goesOn, goAhead, goTo, lineOr, isAtEof, lookOn, lookBack, write, placeOr24, byteHere, span, program, step}
+use Rattle.definitions.specs.Edit.{Op, onlyStep, quit, test, begin, beginBack, find, findBack, findDelete, move, nextLine, previousLine, delete, replace, insert, copy, alter, split, join, point, pointStart, right, left, cutByte, recase}
+use Rattle.definitions.specs.Edit.{stopIf, either, see, go, goesOn, goAhead, goTo, lineOr, isAtEof, lookOn, lookBack, write, placeOr24, byteHere, cutAfter, nextOr30, writeJoined, span, program, step}
 use Rattle.definitions.specs.Control.{Item}
 use Rattle.definitions.specs.Run.{runItems}
 use Rattle.theorems.specs.Reading.{At}
@@ -25,8 +26,8 @@ use Rattle.theorems.specs.ComesTo.{Gives, Ended, then-comes, and-comes, 
 use Rattle.theorems.specs.Runs.{StepOr, EndOf, inner-all, items-all, runItems-ends}
 use Rattle.theorems.specs.Changes.{HoldsEd, HoldsState, HoldsOut, step-keeps}
 use Rattle.theorems.specs.ReadFar.{AnyLine, AnyText, Sourced, sourced-closed, sourced-keeps}
-use Rattle.theorems.specs.Reaching.{Live, Grounded, GroundedState, StoppedState, GroundedOut, not-21, Halts, ComesGrounded, struck-grounded}
-use Rattle.theorems.specs.GroundedMoves.{Ground, OnLine, Spans, line-grounded, spans-grounded, back-comes, point-comes, lineOr-comes, goAhead-comes, goTo-comes, span-comes}
+use Rattle.theorems.specs.Reaching.{Live, Grounded, GroundedState, StoppedState, GroundedOut, other-number, Halts, ComesGrounded, struck-grounded, meetsEof}
+use Rattle.theorems.specs.GroundedMoves.{Ground, OnLine, Spans, line-grounded, spans-grounded, back-comes, point-comes, lineOr-comes, goAhead-comes, nextOr30-comes, goTo-comes, span-comes}
 
 -- ---- changes of records
 
@@ -49,6 +50,7 @@ rewrite-live (inserted l) new h = tt
 abbrev EditFrom : Edit → Ed → Tape → Type 0
 EditFrom (strike k) e t = Spans k e t
 EditFrom (strikeBack k) e t = Grounded e t
+EditFrom strikeNext e t = Grounded e t
 EditFrom (put ls) e t = Grounded e t
 EditFrom (retext l q) e t = Grounded e t
 
@@ -61,6 +63,8 @@ unfolding edit
 edit-grounded (strike k) (ed before after p) t h = struck-grounded k before after t (h .1)
 edit-grounded (strikeBack k) (ed before [] p) t h = h
 edit-grounded (strikeBack k) (ed before (r ∷ after) p) t h = h
+edit-grounded strikeNext (ed before [] p) t h = h
+edit-grounded strikeNext (ed before (r ∷ after) p) t h = h
 edit-grounded (put ls) (ed before [] p) t h = h
 edit-grounded (put ls) (ed before (r ∷ after) p) t h = h
 edit-grounded (retext l q) (ed before [] p) t h = h
@@ -78,6 +82,10 @@ OneFrom x e t = Grounded e t × EditsFrom (x ∷ []) e t
 one-from : (x : Edit) (e : Ed) (t : Tape) → Grounded e t → EditFrom x e t → OneFrom x e t
 one-from x e t h k = (h, (k, edit-grounded x e t k))
 
+-- two changes
+two-from : (x y : Edit) (e : Ed) (t : Tape) → Grounded e t → EditFrom x e t → EditFrom y (edit x e) t → Grounded e t × EditsFrom (x ∷ y ∷ []) e t
+two-from x y e t h k m = (h, (k, (m, edit-grounded y (edit x e) t m)))
+
 -- ---- a step's end
 
 -- what a program may end with
@@ -89,15 +97,15 @@ Does quits e t = Grounded e t
 finish-grounded : (g : Given) (c : Carried) (r : Ran Did) (t : Tape) → Ended Does Halts r t → At GroundedOut (finish g c r t)
 unfolding finish
 finish-grounded g c (gave (answers b) e) t h = h
-finish-grounded g c (gave (changes xs) e) t h = within-comes GroundedOut g c e (edits xs e) t (λ x. edits-grounded xs e t (h .1)) (unfold stopNumber in (not-21 26 e t tt (h .0)))
-finish-grounded g c (gave quits e) t h = not-21 0 e t tt h
+finish-grounded g c (gave (changes xs) e) t h = within-comes GroundedOut g c e (edits xs e) t (λ x. edits-grounded xs e t (h .1)) (unfold stopNumber in (other-number 26 e t tt (h .0)))
+finish-grounded g c (gave quits e) t h = other-number 0 e t tt h
 finish-grounded g c (stopped n e) t h = h
 
 -- ---- parts of programs
 
--- any stop but 21
-other-stop : (n : Stop) (e : Ed) (t : Tape) → T (not (eqb (stopNumber n) 21)) → OnLine e t → Halts n e t
-other-stop n e t k h = not-21 (stopNumber n) e t k (line-grounded e t h)
+-- any stop but 21 and 30
+other-stop : (n : Stop) (e : Ed) (t : Tape) → T (not (meetsEof (stopNumber n))) → OnLine e t → Halts n e t
+other-stop n e t k h = other-number (stopNumber n) e t k (line-grounded e t h)
 
 module _ (g : Given) (c : Carried) where
   -- a part that may begin wherever EOF is read or a live line is current; one that begins at a line
@@ -125,8 +133,8 @@ module _ (g : Given) (c : Carried) where
   at-line : (n : Stop) (k : Program Did) → AtLine Does k → Anywhere Does (_>>_ (lineOr n) k)
   at-line n k f e t h = and-comes g c (λ x. OnLine) Does Halts (lineOr n) k e t (lineOr-comes g c n e t h) (λ x. f)
 
-  -- a test that is not 21
-  tested : (n : Stop) (x : Bool) (m : Program Did) → T (not (eqb (stopNumber n) 21)) → AtLine Does m → AtLine Does (_>>_ (stopIf n x) m)
+  -- a test that is not 21 or 30
+  tested : (n : Stop) (x : Bool) (m : Program Did) → T (not (meetsEof (stopNumber n))) → AtLine Does m → AtLine Does (_>>_ (stopIf n x) m)
   tested n x m k f e t h = test-comes g c Does Halts n x m e t (λ q. other-stop n e t k h) (λ q. f e t h)
 
   placed : (q : Qualified) (l : Line) (p : ℕ) (k : ℕ → Program Did) → ((i : ℕ) → AtLine Does (k i)) → AtLine Does (_>>=_ (placeOr24 q l p) k)
@@ -134,9 +142,9 @@ module _ (g : Given) (c : Carried) where
   placed q l p k f e t h = some-comes g c Does Halts n24 (placeOf q p l) k e t (other-stop n24 e t (unfold stopNumber in tt) h) (λ i. f i e t h)
 
   with-byte : (k : Line × ℕ → Program Did) → ((x : Line × ℕ) → AtLine Does (k x)) → Anywhere Does (_>>=_ byteHere k)
-  with-byte k f (ed before [] p) t h = unfold stopNumber in (byte-comes g c Does Halts k (ed before [] p) t (not-21 27 (ed before [] p) t tt h) (not-21 20 (ed before [] p) t tt h))
+  with-byte k f (ed before [] p) t h = unfold stopNumber in (byte-comes g c Does Halts k (ed before [] p) t (other-number 27 (ed before [] p) t tt h) (other-number 20 (ed before [] p) t tt h))
   with-byte k f (ed before (r ∷ after) p) t h =
-      unfold stopNumber in (byte-comes g c Does Halts k (ed before (r ∷ after) p) t (not-21 27 (ed before (r ∷ after) p) t tt h) (λ x. f _ (ed before (r ∷ after) p) t h))
+      unfold stopNumber in (byte-comes g c Does Halts k (ed before (r ∷ after) p) t (other-number 27 (ed before (r ∷ after) p) t tt h) (λ x. f _ (ed before (r ∷ after) p) t h))
 
   write-comes : (l : Line) (q : ℕ) → AtLine Does (write l q)
   unfolding write
@@ -155,13 +163,24 @@ module _ (g : Given) (c : Carried) where
 
   replace-comes : (ls : List Line) (k : ℕ) (e : Ed) (t : Tape) → Spans k e t → ComesGrounded g c Does (gives (changes (strike k ∷ put ls ∷ []))) e t
   unfolding runs
-  replace-comes ls k e t h =
-      let f = edit-grounded (strike k) e t h in
-      (spans-grounded k e t h, (h, (f, edit-grounded (put ls) (edit (strike k) e) t f)))
+  replace-comes ls k e t h = two-from (strike k) (put ls) e t (spans-grounded k e t h) h (edit-grounded (strike k) e t h)
 
   strikeBack-comes : (k : ℕ) → AtLine Does (gives (changes (strikeBack k ∷ [])))
   unfolding runs
   strikeBack-comes k e t h = one-from (strikeBack k) e t (line-grounded e t h) (line-grounded e t h)
+
+  -- SA, SB, and CL once the next line is read
+  cut-comes : (l : Line) (k : ℕ) → AtLine Does (cutAfter l k)
+  unfolding cutAfter runs
+  cut-comes l k e t h =
+      let f = line-grounded e t h in
+      two-from (put (take k l ∷ [])) (retext (drop k l) 0) e t f f (edit-grounded (put (take k l ∷ [])) e t f)
+
+  joined-comes : (l : Line) (q : ℕ) → AtLine Does (writeJoined l q)
+  unfolding writeJoined
+  joined-comes l q =
+      tested n25 _ _ (unfold stopNumber in tt) (λ e t h. unfold runs in (let f = line-grounded e t h in
+      two-from (retext l q) strikeNext e t f f (edit-grounded (retext l q) e t f)))
 
   lookOn-comes : AtLine Does lookOn
   unfolding lookOn
@@ -198,6 +217,9 @@ module _ (g : Given) (c : Carried) where
   program-comes (insert (some a) ls) e t s h = and-comes g c Ground Does Halts (goTo a) _ e t (goTo-comes g c a e t s h) (λ u. put-comes ls)
   program-comes copy e t s h = with-line n20 _ (λ x e₁ t₁ h₁. put-comes (x .0 ∷ []) e₁ t₁ (line-grounded e₁ t₁ h₁)) e t h
   program-comes (alter d pointing q new) e t s h = with-line n20 _ (λ x. placed q (x .0) (x .1) _ (λ i. write-comes _ _)) e t h
+  program-comes (split after q) e t s h = with-line n20 _ (λ x. placed q (x .0) (x .1) _ (λ i. cut-comes _ _)) e t h
+  program-comes (join l) e t s h =
+      with-line n20 _ (λ x e₁ t₁ h₁. then-comes g c (λ m. OnLine) Does Halts nextOr30 _ e₁ t₁ (nextOr30-comes g c e₁ t₁ h₁) (λ m. joined-comes _ _)) e t h
   program-comes (point b q) e t s h = with-line n20 _ (λ x. placed q (x .0) (x .1) _ (λ i. pointed _)) e t h
   program-comes pointStart e t s h = at-line n20 _ (pointed 0) e t h
   program-comes right e t s h = with-byte _ (λ x. pointed _) e t h
@@ -231,11 +253,11 @@ opening-settled (unread []) = (tt, refl)
 opening-settled (unread (l ∷ ls)) = (omega arith, tt)
 opening-settled ended = (tt, refl)
 
-not-21-state : (n : ℕ) (s : RunState) (t : Tape) → T (not (eqb n 21)) → Settled s t → StoppedState n s t
-not-21-state n (state e c) t k h = not-21 n e t k (h .1)
+other-state : (n : ℕ) (s : RunState) (t : Tape) → T (not (meetsEof n)) → Settled s t → StoppedState n s t
+other-state n (state e c) t k h = other-number n e t k (h .1)
 
--- at the end of every run: where EOF is current, or the number is 21, EOF has been read; a current line is not deleted
+-- at the end of every run: where EOF is current, or the number is 21 or 30, EOF has been read; a current line is not deleted
 pub run-grounded : (size budget : ℕ) (items : List Item) (ls : List Line) → At (EndOf StoppedState) (runItems (step (given (bytes size))) budget items (unread ls))
 run-grounded size budget items ls =
-    runItems-ends (λ op. Unit {0}) (inner-all (λ op. Unit {0}) (λ op. tt)) Settled StoppedState (λ s t. not-21-state 0 s t tt) (λ s t. not-21-state 29 s t tt)
+    runItems-ends (λ op. Unit {0}) (inner-all (λ op. Unit {0}) (λ op. tt)) Settled StoppedState (λ s t. other-state 0 s t tt) (λ s t. other-state 29 s t tt)
     (step (given (bytes size))) (λ op s t u. step-settled (given (bytes size)) op s t) budget items (unread ls) (items-all (λ op. Unit {0}) (λ op. tt) items) (opening-settled (unread ls))

@@ -1,6 +1,7 @@
 -- The parts of programs that read and move: where they come to, EOF has been read or a live line is current.
 use mathlib.Core.Path.{_≡_, refl}
 use mathlib.Core.Bool.{Bool, true, false}
+use mathlib.Core.Option.{Option, none, some}
 use mathlib.Core.List.{List, [], _∷_, _++_, map, reverseAux}
 use Prim.Native.Nat.{ℕ, zero, suc, _+_, _-_, _≤_}
 use native.Mathlib.Omega.{arith}
@@ -12,15 +13,15 @@ use Rattle.definitions.specs.Bytes.{Line}
 use Rattle.definitions.specs.Journal.{Record, kept, changed, deleted, inserted, oldOf, oldSide}
 use Rattle.definitions.specs.Tape.{Tape, unread, ended}
 use Rattle.definitions.specs.Given.{Given, Carried}
-use Rattle.definitions.specs.Editor.{Ed, ed, records, sources, beforeOf, afterOf, hasLive, Stop, n20, n28, stopNumber, Target, here, line, eof, Through, alone, upTo, toEof}
+use Rattle.definitions.specs.Editor.{Ed, ed, records, sources, beforeOf, afterOf, hasLive, firstLive, Stop, n20, n28, n30, stopNumber, Target, here, line, eof, Through, alone, upTo, toEof}
 use Rattle.definitions.specs.Editor.{Move, ahead, back, to, pointTo, goBack, locate, moved}
 use Rattle.definitions.specs.StepProgram.{Program, gives, looks, _>>=_, _>>_, runs}
-use Rattle.definitions.specs.Edit.{either, see, readUpTo, go, readPast, goAhead, goTo, lineIn, lineOr, countThrough, reach, span}
+use Rattle.definitions.specs.Edit.{orStop, either, see, readUpTo, go, readPast, goAhead, goTo, lineIn, lineOr, nextOr30, countThrough, reach, span}
 use Rattle.theorems.specs.RecordLaws.{sources-reverse}
 use Rattle.theorems.specs.ComesTo.{Gives, OnGot, then-comes, and-comes, go-comes, test-comes}
 use Rattle.theorems.specs.Changes.{HoldsEd}
 use Rattle.theorems.specs.ReadFar.{AtLeast, atLeast-more, atLeast-both, atLeast-none, Sourced}
-use Rattle.theorems.specs.Reaching.{Grounded, not-21, Halts, ComesGrounded, Reaches, land-grounded, reaches-ended, reaches-kept, reaches-live, drop-over, ReadUpTo, sources-read, read-comes}
+use Rattle.theorems.specs.Reaching.{Grounded, other-number, Halts, ComesGrounded, Reaches, land-grounded, reaches-ended, reaches-kept, reaches-live, reaches-none, drop-over, ReadUpTo, sources-read, read-comes}
 
 -- ---- where a part has come to
 
@@ -59,7 +60,7 @@ GroundedGot e t x = OnGot (λ e′. Grounded e′ t) (λ n. Halts n e t) (moved 
 
 goBack-grounded : (e : Ed) (t : Tape) → Grounded e t → (before after : List Record) → OnGot (λ e′. Grounded e′ t) (λ n. Halts n e t) (goBack before after)
 unfolding goBack stopNumber
-goBack-grounded e t h [] after = not-21 22 e t tt h
+goBack-grounded e t h [] after = other-number 22 e t tt h
 goBack-grounded e t h (kept l ∷ before) after = tt
 goBack-grounded e t h (changed o n ∷ before) after = tt
 goBack-grounded e t h (deleted l ∷ before) after = goBack-grounded e t h before (deleted l ∷ after)
@@ -75,7 +76,7 @@ locate-grounded e t h k before [] f = (h, λ x. atLeast-none t (suc k) 0 (omega 
 locate-grounded e t h k before (inserted l ∷ rs) f = locate-grounded e t h k (inserted l ∷ before) rs f
 locate-grounded e t h zero before (kept l ∷ rs) f = tt
 locate-grounded e t h zero before (changed o n ∷ rs) f = tt
-locate-grounded e t h zero before (deleted l ∷ rs) f = not-21 23 e t tt h
+locate-grounded e t h zero before (deleted l ∷ rs) f = other-number 23 e t tt h
 locate-grounded e t h (suc k) before (kept l ∷ rs) f = locate-grounded e t h k (kept l ∷ before) rs (atLeast-pred t k (length (oldSide rs)) f)
 locate-grounded e t h (suc k) before (changed o n ∷ rs) f = locate-grounded e t h k (changed o n ∷ before) rs (atLeast-pred t k (length (oldSide rs)) f)
 locate-grounded e t h (suc k) before (deleted l ∷ rs) f = locate-grounded e t h k (deleted l ∷ before) rs (atLeast-pred t k (length (oldSide rs)) f)
@@ -143,6 +144,23 @@ module _ (g : Given) (c : Carried) where
   goAhead-comes (ed before (r ∷ after) p) t h =
       readPast-comes Ground 1 (go ahead) (ed before (r ∷ after) p) t (h, omega arith) (λ e′ t′ s. go-grounded ahead e′ t′ (ahead-grounded e′ t′ s))
 
+  -- CL's next line: where there is none, EOF is read
+  next-found : (o : Option Line) (b : List Record) (x : Record) (a : List Record) (q : ℕ) (t : Tape) → firstLive a ≡ o → Spans 1 (ed b (x ∷ a) q) t
+      → ComesGrounded g c (λ l. OnLine) (orStop n30 o) (ed b (x ∷ a) q) t
+  unfolding orStop runs stopNumber
+  next-found none b x a q t e s = (s .0, λ y. reaches-none a t e (s .1))
+  next-found (some l) b x a q t e s = s .0
+
+  next-of : (e : Ed) (t : Tape) → Spans 1 e t → ComesGrounded g c (λ l. OnLine) (_>>=_ (see afterOf) (λ rs. orStop n30 (firstLive (drop 1 rs)))) e t
+  unfolding see afterOf _>>=_ runs
+  next-of (ed b [] q) t s = unfold firstLive orStop runs stopNumber in (s .0, λ x. s .0)
+  next-of (ed b (x ∷ a) q) t s = next-found (firstLive a) b x a q t refl s
+
+  pub nextOr30-comes : (e : Ed) (t : Tape) → OnLine e t → ComesGrounded g c (λ l. OnLine) nextOr30 e t
+  unfolding nextOr30
+  nextOr30-comes (ed before [] p) t h = absurd h
+  nextOr30-comes (ed before (r ∷ after) p) t h = readPast-comes (λ l. OnLine) 1 _ (ed before (r ∷ after) p) t (h, omega arith) next-of
+
   pub goTo-comes : (a : Target) (e : Ed) (t : Tape) → HoldsEd Sourced e t → Grounded e t → ComesGrounded g c Ground (goTo a) e t
   unfolding goTo
   goTo-comes a (ed before after p) t s h =
@@ -156,7 +174,7 @@ module _ (g : Given) (c : Carried) where
   count-comes e t h n k (inserted m ∷ rs) f l = count-comes e t h (suc n) k rs f (omega (arith, l))
   count-comes (ed before after p) t h n zero (kept m ∷ rs) f l = (h, omega (arith, l))
   count-comes (ed before after p) t h n zero (changed o m ∷ rs) f l = (h, omega (arith, l))
-  count-comes e t h n zero (deleted m ∷ rs) f l = not-21 23 e t tt h
+  count-comes e t h n zero (deleted m ∷ rs) f l = other-number 23 e t tt h
   count-comes e t h n (suc k) (kept m ∷ rs) f l = count-comes e t h (suc n) k rs (atLeast-pred t k (length (oldSide rs)) f) (omega (arith, l))
   count-comes e t h n (suc k) (changed o m ∷ rs) f l = count-comes e t h (suc n) k rs (atLeast-pred t k (length (oldSide rs)) f) (omega (arith, l))
   count-comes e t h n (suc k) (deleted m ∷ rs) f l = count-comes e t h (suc n) k rs (atLeast-pred t k (length (oldSide rs)) f) (omega (arith, l))
@@ -168,7 +186,7 @@ module _ (g : Given) (c : Carried) where
   reach-comes toEof (ed before (r ∷ after) p) t h =
       read-comes g c Counted (looks (λ e. gives (length (afterOf e)))) before (r ∷ after) p t h eof (λ ls t′ q. unfold runs afterOf in (q .grounded, omega arith))
   reach-comes (upTo b) (ed before (r ∷ after) p) t h =
-      test-comes g c Counted Halts n28 (leb b (sources before)) _ (ed before (r ∷ after) p) t (λ x. unfold stopNumber in (not-21 28 (ed before (r ∷ after) p) t tt h))
+      test-comes g c Counted Halts n28 (leb b (sources before)) _ (ed before (r ∷ after) p) t (λ x. unfold stopNumber in (other-number 28 (ed before (r ∷ after) p) t tt h))
       (λ x. read-comes g c Counted (looks (λ e. countThrough 0 (b - suc (sources before)) (afterOf e))) before (r ∷ after) p t h (line b)
       (λ ls t′ q. unfold runs afterOf in (count-comes (ed before ((r ∷ after) ++ map kept ls) p) t′ (q .grounded) 0 (b - suc (sources before)) ((r ∷ after) ++ map kept ls)
       (atLeast-more t′ b _ (suc (b - suc (sources before))) _

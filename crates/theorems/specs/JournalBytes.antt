@@ -46,6 +46,10 @@ pub line-text : (l : Line) → IsLine l → allText l ≡ true
 unfolding isLine
 line-text l h = (and-eq-true-iff (allText l) (leb (length l) 255) .0 h) .0
 
+pub line-short : (l : Line) → IsLine l → length l ≤ 255
+unfolding isLine
+line-short l h = leb-true (length l) 255 ((and-eq-true-iff (allText l) (leb (length l) 255) .0 h) .1)
+
 pub line-of : (l : Line) → allText l ≡ true → length l ≤ 255 → IsLine l
 unfolding isLine
 line-of l h k = and-eq-true-iff (allText l) (leb (length l) 255) .1 (h, le-leb (length l) 255 k)

@@ -42,8 +42,8 @@ record Stands (n : ℕ) (front back : List Item) : Type 0 where
   count : n + opensIn front ≡ length bs + closesIn front
   goes-on : nestedFrom bs back ≡ true
 
-none-some : {bs : List Body} → none ≡ some bs → ⊥
-none-some e = subst (λ o. elim o as (λ x. Type 0) [ none ↦ Unit {0} | some bs ↦ ⊥ ]) e tt
+pub none-some : {A : Type 0} {a : A} → none ≡ some a → ⊥
+none-some e = subst (λ o. elim o as (λ x. Type 0) [ none ↦ Unit {0} | some b ↦ ⊥ ]) e tt
 
 some-same : {bs bs′ : List Body} → some bs ≡ some bs′ → bs ≡ bs′
 some-same e = ap (λ o. elim o as (λ x. List Body) [ none ↦ [] | some x ↦ x ]) e

@@ -1,4 +1,4 @@
--- The number of an answer tells how the run ended (document 01, "Who causes which number"): 0 done, 20 to 29 stopped, 1 to 9 refused.
+-- The number of an answer tells how the run ended (document 01, "Who causes which number"): 0 done, 20 to 30 stopped, 1 to 9 refused.
 use mathlib.Core.Path.{_≡_, refl}
 use mathlib.Core.Bool.{Bool, true, false, cond}
 use mathlib.Core.Logic.{_⊎_, inl, inr}
@@ -10,7 +10,7 @@ use Rattle.definitions.specs.Bytes.{Line, linesOf}
 use Rattle.definitions.specs.Table.{isTable, isScript}
 use Rattle.definitions.specs.Tape.{Tape, unread, bind}
 use Rattle.definitions.specs.Given.{Given, given, bytes, Carried}
-use Rattle.definitions.specs.Editor.{Stop, n20, n21, n22, n23, n24, n25, n26, n27, n28, stopNumber, edits}
+use Rattle.definitions.specs.Editor.{Stop, n20, n21, n22, n23, n24, n25, n26, n27, n28, n30, stopNumber, edits}
 use Rattle.definitions.specs.Reading.{Ran, gave, stopped}
 use Rattle.definitions.specs.StepProgram.{runs, RunState, state, Did, answers, changes, quits, Out, on, edited, halt, finish, perform}
 use Rattle.definitions.specs.Edit.{Op, program, step}
@@ -25,9 +25,9 @@ use Rattle.theorems.specs.Demand3.{IsAccepted}
 
 -- ---- a step
 
--- the number with which a step ends a run: W's 0, or a stop's
+-- the number with which a step ends a run: W's 0, or a stop's; 29 is none of them
 abbrev pub StepNumber : ℕ → Type 0
-StepNumber n = (n ≡ 0) ⊎ ((20 ≤ n) × (n ≤ 28))
+StepNumber n = (n ≡ 0) ⊎ ((20 ≤ n) × (n ≤ 30) × (n ≡ 29 → ⊥))
 
 -- a step goes on, or ends the run with such a number
 abbrev pub StepNumbered : Out → Tape → Type 0
@@ -35,15 +35,16 @@ StepNumbered o t = StepOr (λ s u. Unit {0}) (λ n s u. StepNumber n) o t
 
 stop-number : (n : Stop) → StepNumber (stopNumber n)
 unfolding stopNumber
-stop-number n20 = inr (omega arith, omega arith)
-stop-number n21 = inr (omega arith, omega arith)
-stop-number n22 = inr (omega arith, omega arith)
-stop-number n23 = inr (omega arith, omega arith)
-stop-number n24 = inr (omega arith, omega arith)
-stop-number n25 = inr (omega arith, omega arith)
-stop-number n26 = inr (omega arith, omega arith)
-stop-number n27 = inr (omega arith, omega arith)
-stop-number n28 = inr (omega arith, omega arith)
+stop-number n20 = inr (omega arith, omega arith, λ q. omega (arith, q))
+stop-number n21 = inr (omega arith, omega arith, λ q. omega (arith, q))
+stop-number n22 = inr (omega arith, omega arith, λ q. omega (arith, q))
+stop-number n23 = inr (omega arith, omega arith, λ q. omega (arith, q))
+stop-number n24 = inr (omega arith, omega arith, λ q. omega (arith, q))
+stop-number n25 = inr (omega arith, omega arith, λ q. omega (arith, q))
+stop-number n26 = inr (omega arith, omega arith, λ q. omega (arith, q))
+stop-number n27 = inr (omega arith, omega arith, λ q. omega (arith, q))
+stop-number n28 = inr (omega arith, omega arith, λ q. omega (arith, q))
+stop-number n30 = inr (omega arith, omega arith, λ q. omega (arith, q))
 
 finish-number : (g : Given) (c : Carried) (r : Ran Did) (t : Tape) → At StepNumbered (finish g c r t)
 unfolding finish
@@ -58,9 +59,9 @@ step-number g op (state e c) t = finish-number g c ((runs g c (program op) e t) 
 
 -- ---- the answer
 
--- "done (0)", or a number of "The run: 20 .. 29"
+-- "done (0)", or a number of "The run: 20 .. 29", or wish 1's 30
 abbrev pub EndNumber : ℕ → Type 0
-EndNumber n = (n ≡ 0) ⊎ ((20 ≤ n) × (n ≤ 29))
+EndNumber n = (n ≡ 0) ⊎ ((20 ≤ n) × (n ≤ 30))
 
 -- a number of "The script's author", "The table's keeper", or 8 and 9 of "The loader"
 abbrev pub RefusalNumber : ℕ → Type 0
@@ -74,7 +75,7 @@ Numbered (refusal n at) = RefusalNumber n
 -- a step's number is an end's
 ends : (n : ℕ) → StepNumber n → EndNumber n
 ends n (inl q) = inl q
-ends n (inr (a, b)) = inr (a, omega (arith, b))
+ends n (inr h) = inr (h .0, h .1)
 
 abbrev Ends : ℕ → RunState → Tape → Type 0
 Ends n s t = EndNumber n
@@ -113,7 +114,7 @@ script-numbered table budget size script (refusedAt n at) e =
     let k : (2 ≤ n) × (n ≤ 6) = refusal-numbers script n at e in
     (omega (arith, k .0), omega (arith, k .1))
 
--- THE LAW: refusals have the numbers 1 to 9, all other answers 0 or 20 to 29
+-- THE LAW: refusals have the numbers 1 to 9, all other answers 0 or 20 to 30
 pub answer-numbered : (table script : List ℕ) (budget work size : ℕ) → Numbered (runAnswer table script budget work size)
 unfolding runAnswer
 answer-numbered table script budget work size =

@@ -7,7 +7,7 @@ use Rattle.definitions.specs.Bytes.{Line}
 use Rattle.definitions.specs.Journal.{Record, kept, changed, deleted, inserted, oldOf, oldSide, rewrite, erase}
 use Rattle.definitions.specs.Tape.{Tape, restLines}
 use Rattle.definitions.specs.Editor.{Ed, ed, records, journal, Got, got, stop, here, line, eof, Move, ahead, back, to, pointTo, land, goBack, locate, moved}
-use Rattle.definitions.specs.Editor.{Edit, strike, strikeBack, put, retext, struck, struckBack, putBefore, edit, edits}
+use Rattle.definitions.specs.Editor.{Edit, strike, strikeBack, strikeNext, put, retext, struck, struckBack, struckNext, putBefore, edit, edits}
 use Rattle.definitions.specs.Reading.{seen}
 use Rattle.theorems.specs.RecordLaws.{reverse-append, reverse-twice, old-append, old-kept, old-same, rewrite-old, erase-old}
 
@@ -96,6 +96,19 @@ struckBack-old (suc k) (changed o n ∷ b) acc a = struckBack-old k b (deleted o
 struckBack-old (suc k) (deleted l ∷ b) acc a = struckBack-old (suc k) b (deleted l ∷ acc) a
 struckBack-old (suc k) (inserted l ∷ b) acc a = struckBack-old k b acc a ∙ old-same b (acc ++ a) (inserted l ∷ (acc ++ a)) refl
 
+struckNext-old : (a : List Record) → oldSide (struckNext a) ≡ oldSide a
+unfolding struckNext oldSide oldOf
+struckNext-old [] = refl
+struckNext-old (kept l ∷ a) = refl
+struckNext-old (changed o n ∷ a) = refl
+struckNext-old (deleted l ∷ a) = ap (λ (x : List Line). l ∷ x) (struckNext-old a)
+struckNext-old (inserted l ∷ a) = refl
+
+-- what follows the current record
+next-old : (r : Record) (a a′ : List Record) → oldSide a′ ≡ oldSide a → oldSide (r ∷ a′) ≡ oldSide (r ∷ a)
+unfolding oldSide
+next-old r a a′ h = ap (λ (x : List Line). oldOf r ++ x) h
+
 putBefore-old : (ls : List Line) (b a : List Record) → oldSide (reverseAux (putBefore ls b) a) ≡ oldSide (reverseAux b a)
 unfolding putBefore oldSide oldOf
 putBefore-old [] b a = refl
@@ -105,6 +118,8 @@ edit-old : (x : Edit) (e : Ed) → oldEd (edit x e) ≡ oldEd e
 unfolding edit oldEd records
 edit-old (strike k) (ed b a p) = unfold oldEd in (struck-old k b a)
 edit-old (strikeBack k) (ed b a p) = struckBack-old k b [] a
+edit-old strikeNext (ed b [] p) = refl
+edit-old strikeNext (ed b (r ∷ a) p) = old-same b (r ∷ struckNext a) (r ∷ a) (next-old r a (struckNext a) (struckNext-old a))
 edit-old (put ls) (ed b a p) = putBefore-old ls b a
 edit-old (retext l q) (ed b [] p) = refl
 edit-old (retext l q) (ed b (r ∷ a) p) = old-same b (rewrite r l ∷ a) (r ∷ a) (rewrite-old r l a)

@@ -1,6 +1,7 @@
 -- A live line, or EOF, is read where it is needed: what this says of records, of reading and of where a program stops.
-use mathlib.Core.Path.{_≡_, refl, sym, ap, subst}
-use mathlib.Core.Bool.{true, not, false≢true}
+use mathlib.Core.Path.{_≡_, refl, sym, ap}
+use mathlib.Core.Bool.{Bool, true, not, _||_, false≢true}
+use mathlib.Core.Option.{none}
 use mathlib.Core.List.{List, [], _∷_, _++_, map, reverseAux, append-nil}
 use Prim.Native.Nat.{ℕ, zero, suc, _+_, _-_, _≤_}
 use native.Mathlib.Omega.{arith}
@@ -11,10 +12,11 @@ use Rattle.definitions.specs.Bytes.{Line}
 use Rattle.definitions.specs.Journal.{Record, kept, changed, deleted, inserted, erase}
 use Rattle.definitions.specs.Tape.{Tape, unread, ended, restLines, bind}
 use Rattle.definitions.specs.Given.{Given, Carried}
-use Rattle.definitions.specs.Editor.{Ed, ed, records, sources, isLive, hasLive, Stop, stopNumber, Target, here, line, eof, land, struck}
+use Rattle.definitions.specs.Editor.{Ed, ed, records, sources, isLive, hasLive, firstLive, Stop, stopNumber, Target, here, line, eof, land, struck}
 use Rattle.definitions.specs.Reading.{gave, onceRead, readTo}
 use Rattle.definitions.specs.StepProgram.{Program, _>>_, runs, RunState, state, Out}
 use Rattle.definitions.specs.Edit.{readUpTo}
+use Rattle.theorems.specs.NestingLaws.{none-some}
 use Rattle.theorems.specs.Programs.{runs-on}
 use Rattle.theorems.specs.ReadLines.{readNext, seenAll, seen-none, next-ended, read-line, read-eof}
 use Rattle.theorems.specs.RecordLaws.{reverse-append, sources-append, sources-kept}
@@ -35,9 +37,13 @@ abbrev pub Grounded : Ed → Tape → Type 0
 Grounded (ed before [] p) t = t ≡ ended
 Grounded (ed before (r ∷ after) p) t = Live r
 
--- the same where the run stops; with 21, "meets EOF unfound", EOF has been read
+-- the numbers that say that EOF was met: 21, "meets EOF unfound"; CL's 30, "having read EOF"
+abbrev pub meetsEof : ℕ → Bool
+meetsEof n = eqb n 21 || eqb n 30
+
+-- the same where the run stops; with such a number EOF has been read
 abbrev pub Stopped : ℕ → Ed → Tape → Type 0
-Stopped n e t = Grounded e t × (n ≡ 21 → t ≡ ended)
+Stopped n e t = Grounded e t × (T (meetsEof n) → t ≡ ended)
 
 -- the same of a run's state
 abbrev pub GroundedState : RunState → Tape → Type 0
@@ -49,9 +55,9 @@ StoppedState n (state e c) t = Stopped n e t
 abbrev pub GroundedOut : Out → Tape → Type 0
 GroundedOut o t = StepOr GroundedState StoppedState o t
 
--- any number but 21
-pub not-21 : (n : ℕ) (e : Ed) (t : Tape) → T (not (eqb n 21)) → Grounded e t → Stopped n e t
-not-21 n e t k h = (h, λ x. absurd (T-not (eqb n 21) k (subst (λ (m : ℕ). T (eqb m 21)) (sym x) tt)))
+-- any other number
+pub other-number : (n : ℕ) (e : Ed) (t : Tape) → T (not (meetsEof n)) → Grounded e t → Stopped n e t
+other-number n e t k h = (h, λ x. absurd (T-not (meetsEof n) k x))
 
 -- where a program stops
 abbrev pub Halts : Stop → Ed → Tape → Type 0
@@ -106,6 +112,15 @@ reaches-live (kept l ∷ rs) t h = tt
 reaches-live (changed o n ∷ rs) t h = tt
 reaches-live (deleted l ∷ rs) t h = reaches-live rs t h
 reaches-live (inserted l ∷ rs) t h = tt
+
+-- where no live line is among them, EOF is read
+pub reaches-none : (rs : List Record) (t : Tape) → firstLive rs ≡ none → Reaches rs t → t ≡ ended
+unfolding firstLive
+reaches-none [] t q h = h
+reaches-none (kept l ∷ rs) t q h = absurd (none-some (sym q))
+reaches-none (changed o n ∷ rs) t q h = absurd (none-some (sym q))
+reaches-none (deleted l ∷ rs) t q h = reaches-none rs t q h
+reaches-none (inserted l ∷ rs) t q h = absurd (none-some (sym q))
 
 -- what is read after the records, seen from after k of them
 pub drop-over : (k : ℕ) (rs xs : List Record) → k ≤ length rs → drop k (rs ++ xs) ≡ drop k rs ++ xs

@@ -1,6 +1,6 @@
 use mathlib.Core.Path.{refl, sym, _∙_}
 use Rattle.items.proofs.Meaning.{first-in}
-use Rattle.commands.proofs.Performed.{ready-shown, ready-text, word-as, changes-left}
+use Rattle.commands.proofs.Performed.{without-table, ready-shown, ready-text, word-as, changes-left}
 use borrow.Author.Needs.{needs}
 use Rattle.commands.proofs.perform.Statement.{statement}
 use Rattle.commands.proofs.perform.Tie as tie
@@ -15,13 +15,13 @@ on-lines-requires : tie.Need-on-lines-requires
 on-lines-requires c κs = ready-shown (c .before .before .before .before .before .before .before .before .pre .1)
 
 of-two-words-requires : tie.Need-of-two-words-requires
-of-two-words-requires c κs = (c .before .before .before .before .before .before .before .before .pre .0, ready-text (c .before .before .before .before .before .before .before .before .pre .1), c .before .before .before .kind-of .ensures, (sym (c .before .before .shape-of .ensures) ∙ c .before .match .keys2))
+of-two-words-requires c κs = (c .before .before .before .before .before .before .before .before .pre .0, c .before .before .before .before .before .before .before .before .pre .1, c .before .before .before .kind-of .ensures, (sym (c .before .before .shape-of .ensures) ∙ c .before .match .keys2))
 
 of-four-words-requires : tie.Need-of-four-words-requires
 of-four-words-requires c κs = (c .before .before .before .before .before .before .before .before .pre .0, ready-text (c .before .before .before .before .before .before .before .before .pre .1), c .before .before .before .kind-of .ensures, (sym (c .before .before .shape-of .ensures) ∙ c .before .match .keys3))
 
-points-requires : tie.Need-points-requires
-points-requires c κs = (c .before .before .before .before .before .before .before .before .pre .0, c .before .before .before .before .before .before .before .before .pre .1, c .before .before .before .kind-of .ensures, (sym (c .before .before .shape-of .ensures) ∙ c .before .match .keys4))
+aims-requires : tie.Need-aims-requires
+aims-requires c κs = (c .before .before .before .before .before .before .before .before .pre .0, c .before .before .before .before .before .before .before .before .pre .1, c .before .before .before .kind-of .ensures, (sym (c .before .before .shape-of .ensures) ∙ c .before .match .keys4))
 
 alters-requires : tie.Need-alters-requires
 alters-requires c κs = (c .before .before .before .before .before .before .before .before .pre .0, c .before .before .before .before .before .before .before .before .pre .1, c .before .before .before .kind-of .ensures, (let n = c .before .match .rest in changes-left _ _ _ _ (c .before .before .before .kind-of .ensures) _ (c .before .before .shape-of .ensures) (n .0 .0 .0 .1) (n .0 .0 .1) (n .0 .1) (n .1) (c .before .before .before .before .before .before .before .before .pre .0)))
@@ -36,19 +36,19 @@ same-length-2 : tie.Need-same-length-2
 same-length-2 c = search needs
 
 returns-2 : tie.Need-returns-2
-returns-2 c = λ op e d t h ready. c .before .before .of-two-words .ensures op e d t h (ready .shows)
+returns-2 c = c .before .before .of-two-words .ensures
 
 same-length-3 : tie.Need-same-length-3
 same-length-3 c = search needs
 
 returns-3 : tie.Need-returns-3
-returns-3 c = λ op e d t h ready. c .before .before .of-four-words .ensures op e d t h (ready .shows)
+returns-3 c = without-table _ _ (c .before .before .of-four-words .ensures)
 
 same-length-4 : tie.Need-same-length-4
 same-length-4 c = search needs
 
 returns-4 : tie.Need-returns-4
-returns-4 c = c .before .before .points .ensures
+returns-4 c = c .before .before .aims .ensures
 
 same-length-5 : tie.Need-same-length-5
 same-length-5 c = search needs
@@ -65,7 +65,7 @@ perform-spec =
     on-lines-requires
     of-two-words-requires
     of-four-words-requires
-    points-requires
+    aims-requires
     alters-requires
     same-length
     returns

@@ -25,18 +25,24 @@ add-if2 c =
     let w = spanned-until (c .before .before .before .before .before .before .before .pre .0) in
     omega (arith, gap-fits (w .0) (w .1) (w .2) (w .3), c .freed-to .ensures (w .0) (w .1) (w .2) (w .3) (w .4))
 
-read-past-requires : tie.Need-read-past-requires
-read-past-requires c κs = c .before .before .before .before .before .before .before .before .before .pre .0
+past-to-requires : tie.Need-past-to-requires
+past-to-requires c κs = spanned-until (c .before .before .before .before .before .before .before .before .before .pre .0)
+
+next-from-requires : tie.Need-next-from-requires
+next-from-requires c κs =
+    let w = spanned-until (c .before .before .before .before .before .before .before .before .before .before .before .pre .0) in
+    (w .0, w .1, w .2, w .3, w .4, c .before .past-to .ensures (w .0) (w .1) (w .2) (w .3) (w .4))
 
 same-length : tie.Need-same-length
 same-length c = search needs
 
 returns : tie.Need-returns
 returns c =
-    let r = c .before .before .read-past .ensures in
-    let n = c .before .before .before .before .before .freed-to .ensures in
-    let room = c .before .before .before .before .before .before .before .before .before .lines-room .ensures in
-    λ e x t i h w. replace-full _ e x t i h w _ _ _ _ n room (omega (arith, c .before .before .before .before .if2 .taken)) r
+    let r = c .before .next-from .ensures in
+    let p = c .before .before .before .past-to .ensures in
+    let f = c .before .before .before .before .before .before in
+    let room = f .before .before .before .before .lines-room .ensures in
+    λ e x t i h w. replace-full _ e x t i h w _ _ _ _ (f .freed-to .ensures) room (omega (arith, c .before .before .before .before .before .if2 .taken)) p r
 
 strike-span-requires : tie.Need-strike-span-requires
 strike-span-requires c κs = c .before .before .before .before .before .before .pre .0
@@ -68,7 +74,8 @@ replace-to-spec =
     sub-gap
     freed-to-requires
     add-if2
-    read-past-requires
+    past-to-requires
+    next-from-requires
     same-length
     returns
     strike-span-requires

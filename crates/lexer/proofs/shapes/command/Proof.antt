@@ -138,8 +138,20 @@ unfolding shapeOf lookUp commandTable packed packedFrom shapeIn plainOf seekOf c
 returns-33 c = rw (c .match .keys33)
 
 returns-34 : tie.Need-returns-34
+unfolding shapeOf lookUp commandTable packed packedFrom shapeIn plainOf seekOf changeOf
+returns-34 c = rw (c .match .keys34)
+
+returns-35 : tie.Need-returns-35
+unfolding shapeOf lookUp commandTable packed packedFrom shapeIn plainOf seekOf changeOf
+returns-35 c = rw (c .match .keys35)
+
+returns-36 : tie.Need-returns-36
+unfolding shapeOf lookUp commandTable packed packedFrom shapeIn plainOf seekOf changeOf
+returns-36 c = rw (c .match .keys36)
+
+returns-37 : tie.Need-returns-37
 unfolding shapeOf commandTable packed packedFrom shapeIn
-returns-34 c = in-no-row (Unit {0}) commandTable (c .before .args .letters) (c .match .rest)
+returns-37 c = in-no-row (Unit {0}) commandTable (c .before .args .letters) (c .match .rest)
 
 pub command-spec : {M : Type 1} → statement M
 command-spec =
@@ -178,4 +190,7 @@ command-spec =
     returns-31
     returns-32
     returns-33
-    returns-34)
+    returns-34
+    returns-35
+    returns-36
+    returns-37)

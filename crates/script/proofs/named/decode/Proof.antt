@@ -1,5 +1,7 @@
 -- `script::named::decode` meets its contract. Assumes nothing.
-use Rattle.script.proofs.Choosing.{is-seeks, is-moves, is-deletes, is-string, is-lines, is-replaces, is-alters, is-points, is-branches, is-loops, is-unknown, long-branch, long-loop, plain-written, leaves-written, repeats-written, eof-written}
+use mathlib.Core.Path.{refl}
+use Rattle.script.specs.Commands.{of-points, of-splits, of-inserts, of-joins}
+use Rattle.script.proofs.Choosing.{is-seeks, is-moves, is-deletes, is-string, is-lines, is-replaces, is-alters, is-points, is-splits, is-joins, is-branches, is-loops, is-unknown, long-branch, long-loop, plain-written, leaves-written, repeats-written, eof-written}
 use borrow.Author.Needs.{needs}
 use Rattle.answers.specs.Answers.{CommandOr}
 use Rattle.script.proofs.named.decode.Statement.{statement}
@@ -41,8 +43,8 @@ deletes-requires c κs = search needs
 enum-told-4 : tie.Need-enum-told-4
 enum-told-4 c = search needs
 
-inserts-string-requires : tie.Need-inserts-string-requires
-inserts-string-requires c κs = search needs
+quotes-requires : tie.Need-quotes-requires
+quotes-requires c κs = (c .before .before .before .before .before .pre .0, (_, of-inserts refl))
 
 enum-told-5 : tie.Need-enum-told-5
 enum-told-5 c = search needs
@@ -65,23 +67,41 @@ alters-requires c κs = search needs
 enum-known-shape-4 : tie.Need-enum-known-shape-4
 enum-known-shape-4 c = search needs
 
-points-requires : tie.Need-points-requires
-points-requires c κs = search needs
+point-kind-requires : tie.Need-point-kind-requires
+point-kind-requires c κs = search needs
 
-enum-told-7 : tie.Need-enum-told-7
-enum-told-7 c = search needs
-
-prefix-word-requires : tie.Need-prefix-word-requires
-prefix-word-requires c κs = search needs
+aims-requires : tie.Need-aims-requires
+aims-requires c κs = (c .before .before .before .before .before .before .before .pre .0, (_, of-points _ (c .point-kind .ensures)))
 
 enum-known-shape-5 : tie.Need-enum-known-shape-5
 enum-known-shape-5 c = search needs
 
-branches-requires : tie.Need-branches-requires
-branches-requires c κs = (c .before .before .before .before .before .before .pre .0, long-branch _ _ _ _ (c .before .before .shape5 .given .1) (c .before .before .before .before .before .before .pre .1))
+split-kind-requires : tie.Need-split-kind-requires
+split-kind-requires c κs = search needs
+
+aims-requires-2 : tie.Need-aims-requires-2
+aims-requires-2 c κs = (c .before .before .before .before .before .before .before .pre .0, (_, of-splits _ (c .split-kind .ensures)))
+
+enum-told-7 : tie.Need-enum-told-7
+enum-told-7 c = search needs
+
+quotes-requires-2 : tie.Need-quotes-requires-2
+quotes-requires-2 c κs = (c .before .before .before .before .before .pre .0, (_, of-joins refl))
 
 enum-told-8 : tie.Need-enum-told-8
 enum-told-8 c = search needs
+
+prefix-word-requires : tie.Need-prefix-word-requires
+prefix-word-requires c κs = search needs
+
+enum-known-shape-6 : tie.Need-enum-known-shape-6
+enum-known-shape-6 c = search needs
+
+branches-requires : tie.Need-branches-requires
+branches-requires c κs = (c .before .before .before .before .before .before .pre .0, long-branch _ _ _ _ (c .before .before .shape6 .given .1) (c .before .before .before .before .before .before .pre .1))
+
+enum-told-9 : tie.Need-enum-told-9
+enum-told-9 c = search needs
 
 skip-then-requires : tie.Need-skip-then-requires
 skip-then-requires c κs = search needs
@@ -89,14 +109,14 @@ skip-then-requires c κs = search needs
 prefix-word-requires-2 : tie.Need-prefix-word-requires-2
 prefix-word-requires-2 c κs = search needs
 
-enum-known-shape-6 : tie.Need-enum-known-shape-6
-enum-known-shape-6 c = search needs
+enum-known-shape-7 : tie.Need-enum-known-shape-7
+enum-known-shape-7 c = search needs
 
 loops-requires : tie.Need-loops-requires
-loops-requires c κs = (c .before .before .before .before .before .before .pre .0, long-loop _ _ _ _ (c .before .before .shape6 .given .1) (c .before .before .before .before .before .before .pre .1))
+loops-requires c κs = (c .before .before .before .before .before .before .pre .0, long-loop _ _ _ _ (c .before .before .shape7 .given .1) (c .before .before .before .before .before .before .pre .1))
 
-enum-told-9 : tie.Need-enum-told-9
-enum-told-9 c = search needs
+enum-told-10 : tie.Need-enum-told-10
+enum-told-10 c = search needs
 
 same-length : tie.Need-same-length
 same-length c = search needs
@@ -132,7 +152,7 @@ same-length-6 : tie.Need-same-length-6
 same-length-6 c = search needs
 
 returns-6 : tie.Need-returns-6
-returns-6 c = rw (is-string _ _ _ _ (c .before .before .before .before .enum-told4 .given .1)) (c .before .before .inserts-string .ensures)
+returns-6 c = rw (is-string _ _ _ _ (c .before .before .before .before .enum-told4 .given .1)) (c .before .before .quotes .ensures _ (of-inserts refl))
 
 same-length-7 : tie.Need-same-length-7
 same-length-7 c = search needs
@@ -156,34 +176,46 @@ same-length-10 : tie.Need-same-length-10
 same-length-10 c = search needs
 
 returns-10 : tie.Need-returns-10
-returns-10 c = rw (is-points _ _ _ _ _ (c .before .before .before .before .before .shape4 .given .1)) (c .before .before .points .ensures)
+returns-10 c = rw (is-points _ _ _ _ _ (c .before .before .before .before .before .before .shape4 .given .1)) (c .before .before .aims .ensures _ (of-points _ (c .before .before .before .point-kind .ensures)))
 
 same-length-11 : tie.Need-same-length-11
 same-length-11 c = search needs
 
 returns-11 : tie.Need-returns-11
-returns-11 c = repeats-written _ _ _ _ _ _ (c .before .before .before .before .before .before .before .before .pre .0) _ _ _ (c .before .before .before .before .enum-told7 .given .1) (c .before .before .before .before .before .before .before .before .pre .1) (c .before .before .prefix-word .ensures)
+returns-11 c = rw (is-splits _ _ _ _ _ (c .before .before .before .before .before .before .shape5 .given .1)) (c .before .before .aims2 .ensures _ (of-splits _ (c .before .before .before .split-kind .ensures)))
 
 same-length-12 : tie.Need-same-length-12
 same-length-12 c = search needs
 
 returns-12 : tie.Need-returns-12
-returns-12 c = rw (is-branches _ _ _ _ _ (c .before .before .before .before .before .shape5 .given .1)) (c .before .before .branches .ensures)
+returns-12 c = rw (is-joins _ _ _ _ (c .before .before .before .before .enum-told7 .given .1)) (c .before .before .quotes2 .ensures _ (of-joins refl))
 
 same-length-13 : tie.Need-same-length-13
 same-length-13 c = search needs
 
 returns-13 : tie.Need-returns-13
-returns-13 c = eof-written _ _ _ _ _ _ (c .before .before .before .before .before .before .before .before .before .pre .0) _ _ _ _ (c .before .before .before .before .before .enum-told8 .given .1) (c .before .before .before .before .before .before .before .before .before .pre .1) (c .before .before .before .skip-then .ensures .0) (c .before .before .before .skip-then .ensures .1 .0) (c .before .before .before .skip-then .ensures .1 .1) (c .before .before .prefix-word2 .ensures)
+returns-13 c = repeats-written _ _ _ _ _ _ (c .before .before .before .before .before .before .before .before .pre .0) _ _ _ (c .before .before .before .before .enum-told8 .given .1) (c .before .before .before .before .before .before .before .before .pre .1) (c .before .before .prefix-word .ensures)
 
 same-length-14 : tie.Need-same-length-14
 same-length-14 c = search needs
 
 returns-14 : tie.Need-returns-14
-returns-14 c = rw (is-loops _ _ _ _ _ (c .before .before .before .before .before .shape6 .given .1)) (c .before .before .loops .ensures)
+returns-14 c = rw (is-branches _ _ _ _ _ (c .before .before .before .before .before .shape6 .given .1)) (c .before .before .branches .ensures)
+
+same-length-15 : tie.Need-same-length-15
+same-length-15 c = search needs
 
 returns-15 : tie.Need-returns-15
-returns-15 c = CommandOr.refused _ _ (is-unknown _ _ _ _ (c .enum-told9 .given .1))
+returns-15 c = eof-written _ _ _ _ _ _ (c .before .before .before .before .before .before .before .before .before .pre .0) _ _ _ _ (c .before .before .before .before .before .enum-told9 .given .1) (c .before .before .before .before .before .before .before .before .before .pre .1) (c .before .before .before .skip-then .ensures .0) (c .before .before .before .skip-then .ensures .1 .0) (c .before .before .before .skip-then .ensures .1 .1) (c .before .before .prefix-word2 .ensures)
+
+same-length-16 : tie.Need-same-length-16
+same-length-16 c = search needs
+
+returns-16 : tie.Need-returns-16
+returns-16 c = rw (is-loops _ _ _ _ _ (c .before .before .before .before .before .shape7 .given .1)) (c .before .before .loops .ensures)
+
+returns-17 : tie.Need-returns-17
+returns-17 c = CommandOr.refused _ _ (is-unknown _ _ _ _ (c .enum-told10 .given .1))
 
 pub decode-spec : {M : Type 1} → statement M
 decode-spec =
@@ -201,7 +233,7 @@ decode-spec =
     enum-told-3
     deletes-requires
     enum-told-4
-    inserts-string-requires
+    quotes-requires
     enum-told-5
     inserts-lines-requires
     enum-told-6
@@ -209,17 +241,23 @@ decode-spec =
     enum-known-shape-3
     alters-requires
     enum-known-shape-4
-    points-requires
-    enum-told-7
-    prefix-word-requires
+    point-kind-requires
+    aims-requires
     enum-known-shape-5
-    branches-requires
+    split-kind-requires
+    aims-requires-2
+    enum-told-7
+    quotes-requires-2
     enum-told-8
+    prefix-word-requires
+    enum-known-shape-6
+    branches-requires
+    enum-told-9
     skip-then-requires
     prefix-word-requires-2
-    enum-known-shape-6
+    enum-known-shape-7
     loops-requires
-    enum-told-9
+    enum-told-10
     same-length
     returns
     same-length-2
@@ -248,4 +286,8 @@ decode-spec =
     returns-13
     same-length-14
     returns-14
-    returns-15)
+    same-length-15
+    returns-15
+    same-length-16
+    returns-16
+    returns-17)

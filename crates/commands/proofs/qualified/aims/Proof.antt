@@ -1,0 +1,59 @@
+use mathlib.Core.Path.{sym, _∙_}
+use native.Mathlib.Omega.{arith}
+use Rattle.commands.proofs.Strings.{aims-read, points-as, splits-as}
+use borrow.Author.Needs.{needs}
+use Rattle.commands.proofs.qualified.aims.Statement.{statement}
+use Rattle.commands.proofs.qualified.aims.Tie as tie
+
+add-at : tie.Need-add-at
+add-at c = omega (arith, aims-read _ _ _ _ (c .before .before .before .before .pre .2) (c .before .before .before .before .pre .3) (c .before .before .before .before .pre .0) .two)
+
+quals-at-requires : tie.Need-quals-at-requires
+quals-at-requires c κs = let r = aims-read _ _ _ _ (c .before .before .before .before .pre .2) (c .before .before .before .before .pre .3) (c .before .before .before .before .pre .0) in (r .two, r .three)
+
+start-at-requires : tie.Need-start-at-requires
+start-at-requires c κs = omega (arith, aims-read _ _ _ _ (c .before .before .before .before .before .pre .2) (c .before .before .before .before .before .pre .3) (c .before .before .before .before .before .pre .0) .two)
+
+length-at-requires : tie.Need-length-at-requires
+length-at-requires c κs = aims-read _ _ _ _ (c .before .before .before .before .before .before .pre .2) (c .before .before .before .before .before .before .pre .3) (c .before .before .before .before .before .before .pre .0) .two
+
+add-to : tie.Need-add-to
+add-to c = omega (arith, aims-read _ _ _ _ (c .before .before .before .before .before .before .before .pre .2) (c .before .before .before .before .before .before .before .pre .3) (c .before .before .before .before .before .before .before .pre .0) .string, c .length-at .ensures, c .before .start-at .ensures)
+
+is-split-requires : tie.Need-is-split-requires
+is-split-requires c κs = search needs
+
+split-requires : tie.Need-split-requires
+split-requires c κs = (c .before .before .before .before .before .before .before .before .before .before .pre .1, omega arith, omega (arith, aims-read _ _ _ _ (c .before .before .before .before .before .before .before .before .before .before .pre .2) (c .before .before .before .before .before .before .before .before .before .before .pre .3) (c .before .before .before .before .before .before .before .before .before .before .pre .0) .string, c .before .before .before .length-at .ensures, c .before .before .before .before .start-at .ensures))
+
+same-length : tie.Need-same-length
+same-length c = search needs
+
+returns : tie.Need-returns
+returns c = splits-as _ _ _ _ (c .before .before .before .before .before .before .before .before .before .before .before .before .before .pre .2) _ _ _ _ _ _ _ _ (c .before .before .before .before .before .before .before .before .quals-at .ensures) (c .before .before .before .before .before .before .before .start-at .ensures) (c .before .before .before .before .before .before .length-at .ensures) (c .before .before .before .before .before .before .before .before .before .before .before .before .before .pre .3) (sym (c .before .before .before .before .before .is-split .ensures) ∙ c .before .before .before .before .if1 .taken) (c .before .before .split .ensures)
+
+point-requires : tie.Need-point-requires
+point-requires c κs = (c .before .before .before .before .before .before .before .before .before .before .pre .1, omega arith, omega (arith, aims-read _ _ _ _ (c .before .before .before .before .before .before .before .before .before .before .pre .2) (c .before .before .before .before .before .before .before .before .before .before .pre .3) (c .before .before .before .before .before .before .before .before .before .before .pre .0) .string, c .before .before .before .length-at .ensures, c .before .before .before .before .start-at .ensures))
+
+same-length-2 : tie.Need-same-length-2
+same-length-2 c = search needs
+
+returns-2 : tie.Need-returns-2
+returns-2 c = points-as _ _ _ _ (c .before .before .before .before .before .before .before .before .before .before .before .pre .2) _ _ _ _ _ _ _ _ (c .before .before .before .before .before .before .quals-at .ensures) (c .before .before .before .before .before .start-at .ensures) (c .before .before .before .before .length-at .ensures) (c .before .before .before .before .before .before .before .before .before .before .before .pre .3) (sym (c .before .before .before .is-split .ensures) ∙ c .before .before .if1 .left) (c .point .ensures)
+
+pub aims-spec : {M : Type 1} → statement M
+aims-spec =
+    tie.close
+    (tie.spec
+    add-at
+    quals-at-requires
+    start-at-requires
+    length-at-requires
+    add-to
+    is-split-requires
+    split-requires
+    same-length
+    returns
+    point-requires
+    same-length-2
+    returns-2)
