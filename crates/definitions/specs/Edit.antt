@@ -157,7 +157,7 @@ alteredPoint afterIt true p i n m = i + n + m
 alteredPoint beforeIt true p i n m = i + n + m
 alteredPoint exchange true p i n m = i + m
 
--- PA, PB: "p after or before the string" of `n` bytes at place i
+-- PA, PB: "p after or before the string" of `n` bytes at place i; SA, SB: where the line is cut
 unfoldable pub pointBy : Bool → ℕ → ℕ → ℕ
 pointBy true i n = i + n
 pointBy false i n = i

@@ -7,7 +7,7 @@ use native.Mathlib.Omega.{arith}
 use lib.ListN.{length, drop, length-append}
 use Rattle.text.specs.Feeds.{lineLength}
 use Rattle.definitions.specs.Bytes.{Line, isLine}
-use Rattle.definitions.specs.Journal.{Record, kept, changed, deleted, inserted, rewrite, erase}
+use Rattle.definitions.specs.Journal.{Record, kept, rewrite, erase}
 use Rattle.definitions.specs.Tape.{Tape, restLines}
 use Rattle.definitions.specs.Editor.{ed, beforeOf, afterOf, firstLive, struckNext, strikeNext, retext, edit, edits}
 use Rattle.theorems.specs.NestingLaws.{none-some}
@@ -36,11 +36,8 @@ all-cons r rs = length-append (enc r) (encAll rs)
 
 -- a record frees no more bytes than it has
 freed-most : (r : Record) → freedBy r ≤ length (enc r)
-unfolding freedBy
-freed-most (kept l) = omega arith
-freed-most (changed o n) = simp length-append (omega arith)
-freed-most (deleted l) = omega arith
-freed-most (inserted l) = simp length-append (omega arith)
+unfolding encAll
+freed-most r = omega (arith, erased-length r [], all-length (r ∷ []), all-cons r [])
 
 -- ---- the next live record in the buffer
 

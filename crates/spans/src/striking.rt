@@ -1,4 +1,4 @@
-// Records passed over the gap one after the other, and their lines deleted.
+// Lines deleted: records are passed over the gap one after the other, or one is struck where it stands.
 use editor::State;
 ghost use mathlib.Core.Path.{_≡_};
 ghost use mathlib.Core.List.{List, _∷_};
