@@ -21,6 +21,11 @@ def season_table():
     stop = "R01 open 06:10 90\nR02 open 06:25 90\nR03 open 07:00 60\n"
     return stop * (16384 // len(stop))
 
+# sixteen changes for every line, as globals and as sed and ed have them
+EXCHANGED = [("R", "Q"), ("open", "OPEN"), ("90", "120")] + [(f":{i}", f".{i}") for i in range(6)] + [(f"Q{i}", f"Q-{i}") for i in range(5)]
+GLOBALS = [f"GE/{a}/{b}/" for a, b in EXCHANGED] + ["GA/OPEN/ at/", "GB/120/+/"]
+SIXTEEN = [f"s/{a}/{b}/g" for a, b in EXCHANGED] + ["s/OPEN/& at/g", "s/120/+&/g"]
+
 # name, table, script for zed, for sed, for ed
 def jobs(lines):
     every = table(lines)
@@ -38,6 +43,14 @@ def jobs(lines):
          "RPT (SA/ open/; N; IFEOF AGP)\n", "s/ open/&\\n/\n", "1,$s/ open/&\\\n/\nw OUT\nq\n"),
         ("join every two lines", even,
          "RPT (CL/ /; N; IFEOF AGP)\n", "N;s/\\n/ /\n", "g/[13579] open/s/$/ /\\\n.,+1j\nw OUT\nq\n"),
+        ("one global, no line read", every,
+         "GE/90/120/\n", "2,$s/90/120/g\n", "2,$s/90/120/g\nw OUT\nq\n"),
+        ("one global, every line read", every,
+         "GE/90/120/; M *\n", "2,$s/90/120/g\n", "2,$s/90/120/g\nw OUT\nq\n"),
+        ("sixteen globals, no line read", every,
+         "; ".join(GLOBALS) + "\n", "".join(f"2,${c}\n" for c in SIXTEEN), "".join(f"2,${c}\n" for c in SIXTEEN) + "w OUT\nq\n"),
+        ("sixteen globals, every line read", every,
+         "; ".join(GLOBALS) + "; M *\n", "".join(f"2,${c}\n" for c in SIXTEEN), "".join(f"2,${c}\n" for c in SIXTEEN) + "w OUT\nq\n"),
         ("the season's script over 16 KB", season_table(),
          f"{stops}(F B/R02/; E/90/120/; F B/R03/; D; IS/R04 open 07:15 60/)\n",
          "/^R02/s/90/120/\n/^R03/c\\\nR04 open 07:15 60\n", "g/^R02/s/90/120/\ng/^R03/s/.*/R04 open 07:15 60/\nw OUT\nq\n"),
@@ -80,7 +93,7 @@ def compare(folder, zedrun, lines):
 def grows(folder, zedrun, few, many):
     print(f"\n{'one run, microseconds':32} {few:>8} {many:>8} {'grows by':>9}   lines grow by {many / few:.1f}")
     old, script = os.path.join(folder, "OLD"), os.path.join(folder, "ZED")
-    for (name, t1, z1, _, _), (_, t2, z2, _, _) in list(zip(jobs(few), jobs(many)))[:5]:
+    for (name, t1, z1, _, _), (_, t2, z2, _, _) in list(zip(jobs(few), jobs(many)))[:-1]:
         took = []
         for text, z in ((t1, z1), (t2, z2)):
             write(old, text), write(script, z)

@@ -30,7 +30,11 @@ enum {
     ZED_DESTINATION_SHORT = 10, /* the destination of a reader is too short */
     ZED_NOT_A_JOURNAL = 11,     /* the bytes are no list of records, or their old side has over 65,535 lines */
 
-    /* a run stopped: the script does not fit the table; the answer's place says at which command */
+    /*
+     * a run stopped: the script does not fit the table; the answer's place says at which command. 25 and 26 can also come after the script's end,
+     * from a line that it had not read and that its globals (GE, GA, GB) would change: the place is then script_length, and no line that
+     * was not read is changed.
+     */
     ZED_AT_EOF = 20,       /* the command needs a line, and the end-of-file line is current */
     ZED_MET_EOF = 21,      /* a search forward, or a line number, met the end of the table */
     ZED_NO_PREVIOUS = 22,  /* there is no previous line, or a search backward met the start of the table */
@@ -41,16 +45,18 @@ enum {
     ZED_POINT_AT_END = 27, /* the window is at the line's end, or at its start */
     ZED_LINE_BEFORE = 28,  /* the last line to delete is before the first */
     ZED_BUDGET_SPENT = 29, /* the next step would exceed the budget */
-    ZED_NO_NEXT = 30       /* there is no next line to join to the current one */
+    ZED_NO_NEXT = 30,      /* there is no next line to join to the current one */
+    ZED_GLOBALS_FULL = 31  /* sixteen globals stand, and another is given */
 };
 
 /* What a run comes to. */
 typedef struct zed_answer {
-    uint64_t number;   /* one of the numbers above: 0 done; 1 to 9 refused; 20 to 30 stopped */
+    uint64_t number;   /* one of the numbers above: 0 done; 1 to 9 refused; 20 to 31 stopped */
     uint64_t steps;    /* the steps made; refused: 0 */
     uint64_t furthest; /* the highest source line read, the end-of-file line counting as lines + 1; refused: 0 */
     uint64_t length;   /* the journal's length in bytes; refused: 0 */
-    uint64_t place;    /* the byte offset in the script that the number comes from; 0 where done, and for 1, 7, 8 and 9 */
+    uint64_t place;    /* the byte offset in the script that the number comes from; script_length where 25 or 26 come after its end;
+                          0 where done, and for 1, 7, 8 and 9 */
 } zed_answer;
 
 /* Whether a run with this number was refused: nothing was run, and the journal buffer is untouched. */
@@ -69,16 +75,17 @@ static inline int zed_is_refusal(uint64_t number)
  *   work, work_length        a work area of 32-bit numbers; 2 * script_length + 64 of them are enough for every script of
  *                            that length. It need not be cleared. What it holds afterwards means nothing.
  *   journal, journal_length  where the journal goes: at least the table's length and two bytes a line, and room for what the
- *                            script adds: a changed line adds its new text and 1, an inserted line its text and 3. It
- *                            need not be cleared.
+ *                            script adds: a changed line adds its new text and 1, an inserted line its text and 3. A global
+ *                            can change every line of the table but the first. It need not be cleared.
  *   answer                   where the answer goes. All five numbers are always set.
  * No two of these may overlap, but for table and script. No pointer may be null, not even where a length is 0. No length
  * may be over PTRDIFF_MAX bytes.
  *
  * The result is the answer's number again. Afterwards
  *   done or stopped   the first answer->length bytes of the journal buffer are the journal, the bytes past it are 0. A
- *                     stopped run's journal has all that was done before the command that stopped. Only a run that is
- *                     done (0) has done all that the script asks.
+ *                     stopped run's journal has all that was done before the command that stopped, and what the globals
+ *                     made of the lines that this command read. Only a run that is done (0) has done all that the script
+ *                     asks.
  *   refused           the journal buffer is untouched.
  */
 uint64_t zed_run(const uint8_t *table, size_t table_length, const uint8_t *script, size_t script_length, uint32_t budget, uint32_t *work,

@@ -35,6 +35,7 @@ static const struct meaning meanings[] = {
     { ZED_LINE_BEFORE, "The last line to delete stands before the first.", TABLE_OR_SCRIPT },
     { ZED_BUDGET_SPENT, "The steps allowed are spent: the script may run for ever, or -b is too small.", AUTHOR },
     { ZED_NO_NEXT, "There is no next line to join to the current one.", TABLE_OR_SCRIPT },
+    { ZED_GLOBALS_FULL, "Sixteen globals stand already, and the script gives one more.", AUTHOR },
 };
 
 void say_number(FILE *out, uint64_t number)
@@ -63,4 +64,12 @@ void show_place(FILE *out, const char *name, const struct bytes *script, size_t 
     fprintf(out, "%s, line %zu, column %zu%s:\n  ", name, line, at - start + 1, past ? ", the script's end" : "");
     fwrite(script->at + start, 1, end - start, out);
     fprintf(out, "\n  %*s^\n", (int)(at - start), "");
+}
+
+void show_stop(FILE *out, const char *name, const struct bytes *script, size_t place)
+{
+    if (place < script->length)
+        show_place(out, name, script, place);
+    else
+        fprintf(out, "%s, after the script's end, in a line that it had not read.\n", name);
 }

@@ -1,7 +1,7 @@
 /*
- * Runs the editor at each limit of documents 01 and 02 (wish 1) and one past it: lines of 255 and 256 bytes, a journal buffer exact and one short
- * for each kind of command that lengthens, lines cut and joined at their ends and at the table's, the largest table and script, the deepest
- * nesting, the work area, every budget of a run.
+ * Runs the editor at each limit of documents 01 and 02 (wishes 1 and 2) and one past it: lines of 255 and 256 bytes, a journal buffer exact and one
+ * short for each kind of command that lengthens, lines cut and joined at their ends and at the table's, sixteen globals and seventeen, lines passed
+ * through them when they are read and after the script's end, the largest table and script, the deepest nesting, the work area, every budget of a run.
  */
 #include <stdio.h>
 #include <stdlib.h>
@@ -248,6 +248,212 @@ static void cuts_and_joins(void) {
     wants_read("CL with 29 has read nothing", run("a\nb\n", "CL//\n", 0, 99), 29, 1, 0, "==a\n==b\n");
 }
 
+/* Globals: the lines that they act on, the text that they leave, and what the reading command makes of it. */
+static void globals(void) {
+    static const struct {
+        const char *table, *script;
+        uint64_t number, steps, furthest, place;
+        const char *journal;
+    } cases[] = {
+        /* the lines read after it, and the unread ones of a done run; never line 1, nor a line that was read before */
+        { "a\na\na\n", "GE/a/b/;N;CG\n", 0, 3, 2, 0, "==a\n<>a\nb\n==a\n" },
+        { "a\na\na\n", "GE/a/b/\n", 0, 1, 1, 0, "==a\n<>a\nb\n<>a\nb\n" },
+        { "a\na\na\n", "GE/a/b/;2N\n", 0, 5, 3, 0, "==a\n<>a\nb\n<>a\nb\n" },
+        { "a\na\na\n", "GE/a/b/;M *\n", 0, 2, 4, 0, "==a\n<>a\nb\n<>a\nb\n" },
+        { "a\n", "GE/a/b/\n", 0, 1, 1, 0, "==a\n" },
+        { "", "GE/a/b/\n", 0, 1, 1, 0, "" },
+        { "", "GE/a/b/;M *\n", 0, 2, 1, 0, "" },
+        { "a\na\na\n", "N;GE/a/b/\n", 0, 2, 2, 0, "==a\n==a\n<>a\nb\n" },
+        { "a\na\na\n", "M *;GE/a/b/;M 1;2N\n", 0, 7, 4, 0, "==a\n==a\n==a\n" },
+        { "a\na\n", "GE/a/b/;N;P;E/a/x/\n", 0, 4, 2, 0, "<>a\nx\n<>a\nb\n" },
+        { "\n\n", "GE/a/b/;M *\n", 0, 2, 3, 0, "==\n==\n" },
+        /* inserted lines and left parts are not acted on */
+        { "a\na\n", "GE/a/b/;IS/a/;IC;N;IS/a/\n", 0, 5, 2, 0, "++a\n++a\n==a\n++a\n<>a\nb\n" },
+        { "a\na\n", "GE/a/b/;I 2\na\nZ\n", 0, 2, 2, 0, "==a\n++a\n<>a\nb\n" },
+        { "a\na\n", "GE/a/b/;I *\na\nZ\n", 0, 2, 3, 0, "==a\n<>a\nb\n++a\n" },
+        { "a\nxa\n", "GE/x/y/;N;SB/a/\n", 0, 3, 2, 0, "==a\n++y\n<>xa\na\n" },
+        /* CG cancels all, and what comes after it stands alone */
+        { "a\na\na\n", "GE/a/b/;N;CG;N\n", 0, 4, 3, 0, "==a\n<>a\nb\n==a\n" },
+        { "a\na\na\n", "GE/a/b/;CG;GE/a/c/\n", 0, 3, 1, 0, "==a\n<>a\nc\n<>a\nc\n" },
+        { "a\na\n", "CG;N\n", 0, 2, 2, 0, "==a\n==a\n" },
+        { "a\na\n", "GE/a/b/;GA/b/c/;CG 1N\n", 0, 5, 2, 0, "==a\n==a\n" },
+        /* all occurrences from left to right, none in what was put in; the next global sees it */
+        { "a\nab\n", "GA/a/1/;GB/a/2/;GE/1/11/;N\n", 0, 4, 2, 0, "==a\n<>ab\n2a11b\n" },
+        { "z\naaaaa\n", "GE/aa/a/;N\n", 0, 2, 2, 0, "==z\n<>aaaaa\naaa\n" },
+        { "z\naaaaa\n", "GA/aa/a/;N\n", 0, 2, 2, 0, "==z\n<>aaaaa\naaaaaaa\n" },
+        { "z\naaaaa\n", "GB/aa/b/;N\n", 0, 2, 2, 0, "==z\n<>aaaaa\nbaabaaa\n" },
+        { "z\naba\n", "GE/a\nN\n", 0, 2, 2, 0, "==z\n<>aba\nb\n" },
+        { "z\naba\n", "GE/a/\n", 0, 1, 1, 0, "==z\n<>aba\nb\n" },
+        { "z\naaa\n", "GE/a//\n", 0, 1, 1, 0, "==z\n<>aaa\n\n" },
+        { "z\na,a\n", "GE:,:;:\nN\n", 0, 2, 2, 0, "==z\n<>a,a\na;a\n" },
+        /* the old text again makes a kept record */
+        { "z\naa\nab\n", "GE/a/b/;GE/b/a/;M *\n", 0, 3, 4, 0, "==z\n==aa\n<>ab\naa\n" },
+        { "z\nab\n", "GE/ab/ba/;GE/ba/ab/\n", 0, 2, 1, 0, "==z\n==ab\n" },
+        { "z\nab\n", "GA/a//;N\n", 0, 2, 2, 0, "==z\n==ab\n" },
+        { "z\nab\n", "GE/a/a/\n", 0, 1, 1, 0, "==z\n==ab\n" },
+        /* what a command reads has passed before it is tested, joined or deleted; a deleted line has its old text */
+        { "a\na\na\na\n", "GE/a/b/;D 2 3\n", 0, 2, 4, 0, "==a\n--a\n--a\n<>a\nb\n" },
+        { "a\na\na\n", "GE/a/b/;D . *\n", 0, 2, 4, 0, "--a\n--a\n--a\n" },
+        { "a\na\na\n", "GE/a/b/;D\n", 0, 2, 2, 0, "--a\n<>a\nb\n<>a\nb\n" },
+        { "a\na\na\n", "GE/a/b/;R 2\nx\nZ\n", 0, 2, 3, 0, "==a\n--a\n++x\n<>a\nb\n" },
+        { "a\na\na\n", "GE/a/b/;R\nx\nZ\n", 0, 2, 2, 0, "--a\n++x\n<>a\nb\n<>a\nb\n" },
+        { "a\na\na\n", "GE/a/b/;F/b/\n", 0, 4, 2, 0, "==a\n<>a\nb\n<>a\nb\n" },
+        { "a\na\na\n", "GE/a/b/;DF/b/;D\n", 0, 5, 3, 0, "--a\n--a\n<>a\nb\n" },
+        { "a\na\na\n", "GE/a/b/;N;F/a/\n", 21, 5, 4, 10, "==a\n<>a\nb\n<>a\nb\n" },
+        { "a\na\na\n", "GE/a/b/;M 3;BF/a/\n", 0, 6, 3, 0, "==a\n<>a\nb\n<>a\nb\n" },
+        { "a\na\na\n", "GE/a/b/;CL/-/\n", 0, 2, 2, 0, "<>a\na-b\n--a\n<>a\nb\n" },
+        { "a\na\n", "GE/a/b/;2CL//\n", 30, 5, 3, 9, "<>a\nab\n--a\n" },
+        { "a\na\na\n", "GE/a/b/;I 3\nx\nZ\n", 0, 2, 3, 0, "==a\n<>a\nb\n++x\n<>a\nb\n" },
+        /* changes stay where the command that read the line then stops, or a later one; the unread lines of a stopped run are kept */
+        { "a\na\na\n", "GE/a/b/;M 9\n", 21, 2, 4, 8, "==a\n<>a\nb\n<>a\nb\n" },
+        { "a\na\na\n", "GE/a/b/;N;E/a/x/\n", 24, 3, 2, 10, "==a\n<>a\nb\n==a\n" },
+        { "a\na\na\n", "GE/a/b/;M *;N\n", 20, 3, 4, 12, "==a\n<>a\nb\n<>a\nb\n" },
+        { "a\na\na\n", "GE/a/b/;D . 9\n", 21, 2, 4, 8, "==a\n<>a\nb\n<>a\nb\n" },
+        { "a\na\na\n", "GE/a/b/;M 3;D 3 2\n", 28, 3, 3, 12, "==a\n<>a\nb\n<>a\nb\n" },
+        { "a\na\na\n", "GE/a/b/;N;P;P\n", 22, 4, 2, 12, "==a\n<>a\nb\n==a\n" },
+        /* how they are read */
+        { "a\n", "GE\n", 3, 0, 0, 2, "" },
+        { "a\n", "GE B/a/b/\n", 3, 0, 0, 3, "" },
+        { "a\n", "GE 2/a/b/\n", 3, 0, 0, 3, "" },
+        { "a\n", "GA//b/\n", 4, 0, 0, 2, "" },
+        { "a\n", "GB /\n", 4, 0, 0, 3, "" },
+        { "a\n", "GEX/a/b/\n", 2, 0, 0, 0, "" },
+        { "a\n", "CG+\n", 2, 0, 0, 2, "" },
+        { "a\n", "CGX\n", 2, 0, 0, 0, "" },
+        { "z\na\n", "ge/a/b\nCg;gb/a/c\n", 0, 3, 1, 0, "==z\n<>a\nca\n" },
+    };
+    for (size_t i = 0; i < sizeof cases / sizeof cases[0]; i++) {
+        struct outcome o = run(cases[i].table, cases[i].script, 99, 999);
+        if (o.answer.steps != cases[i].steps) printf("%s: steps %llu\n", cases[i].script, (unsigned long long)o.answer.steps);
+        check("globals: steps", o.answer.steps == cases[i].steps);
+        wants_read(cases[i].script, o, cases[i].number, cases[i].furthest, cases[i].place, cases[i].journal);
+    }
+    /* a line is read, and changed, before the step of its test; a command that is not given its step has read nothing */
+    wants_read("F reads before its step", run("a\na\n", "GE/a/b/;F/z/\n", 3, 99), 29, 2, 8, "==a\n<>a\nb\n");
+    wants_read("F stops with 26 before its step", run("a\na\n", "GE/a/b/;F/z/\n", 3, 9), 26, 2, 8, "==a\n==a\n");
+    wants_read("N with 29 has read nothing", run("a\na\n", "GE/a/b/;N\n", 1, 99), 29, 1, 8, "==a\n==a\n");
+    wants_read("GE with 29 does not stand", run("a\na\n", "GE/a/b/\n", 0, 99), 29, 1, 0, "==a\n==a\n");
+}
+
+/* Sixteen globals stand and act in turn. A seventeenth is 31 when it is obeyed, and not before; after CG there is room for sixteen again. */
+static void sixteen_globals(void) {
+    static const char chain[] = "GE/a/b/;GE/b/c/;GE/c/d/;GE/d/e/;GE/e/f/;GE/f/g/;GE/g/h/;GE/h/i/\n"
+                                "GE/i/j/;GE/j/k/;GE/k/l/;GE/l/m/;GE/m/n/;GE/n/o/;GE/o/p/;GE/p/q/\n";
+    char script[300];
+    snprintf(script, sizeof script, "%sN;CG\n", chain);
+    wants_read("sixteen in turn, read", run("a\na\na\n", script, 99, 99), 0, 2, 0, "==a\n<>a\nq\n==a\n");
+    wants_read("sixteen in turn, not read", run("a\na\na\n", chain, 99, 99), 0, 1, 0, "==a\n<>a\nq\n<>a\nq\n");
+    snprintf(script, sizeof script, "%sN;GE/q/r/\n", chain);
+    wants_read("a seventeenth", run("a\na\na\n", script, 99, 99), 31, 2, strlen(script) - 8, "==a\n<>a\nq\n==a\n");
+    wants_read("a seventeenth that is not obeyed", run("a\na\n", "16GE/a/b/;0GA/b/c/;IFEOF GB/b/c/;N\n", 99, 99), 0, 2, 0, "==a\n<>a\nb\n");
+    wants_read("sixteen alike", run("a\na\n", "16GA/a/b/;N\n", 99, 99), 0, 2, 0, "==a\n<>a\nabbbbbbbbbbbbbbbb\n");
+    wants_read("seventeen alike", run("a\na\n", "17GA/a/b/;N\n", 99, 99), 31, 1, 2, "==a\n==a\n");
+    wants_read("seventeen without effect", run("a\na\n", "16GE/z/z/;GE/z/z/\n", 99, 99), 31, 1, 10, "==a\n==a\n");
+    wants_read("sixteen again after CG", run("a\na\n", "16GE/a/b/;CG;16GB/a/c/;N\n", 99, 99), 0, 2, 0, "==a\n<>a\ncccccccccccccccca\n");
+    wants_read("seventeen after CG", run("a\na\n", "16GE/a/b/;CG;17GB/a/c/;N\n", 99, 99), 31, 1, 15, "==a\n==a\n");
+    wants_read("no step for a seventeenth", run("a\na\n", "16GE/a/b/;GE/a/b/\n", 32, 99), 29, 1, 10, "==a\n==a\n");
+}
+
+/*
+ * 255 bytes after the first of two globals, and 256: then 25, though the second would shorten the line. It keeps its text and counts as read; after
+ * the script's end no unread line is changed.
+ */
+static void passed_lengths(void) {
+    char *fits = repeat("b", 253, "a"), *not = repeat("b", 254, "a");
+    char table[999], journal[999];
+    snprintf(table, sizeof table, "z\n%s\na\n", fits);
+    snprintf(journal, sizeof journal, "==z\n<>%s\nxx\n<>a\nxx\n", fits);
+    wants_read("255 after the first, read", run(table, "GE/a/xx/;GE/b//;M *\n", 9, 999), 0, 4, 0, journal);
+    wants_read("255 after the first, not read", run(table, "GE/a/xx/;GE/b//\n", 9, 999), 0, 1, 0, journal);
+    snprintf(table, sizeof table, "z\na\n%s\na\n", not);
+    snprintf(journal, sizeof journal, "==z\n<>a\nxx\n==%s\n==a\n", not);
+    wants_read("256 after the first, read", run(table, "GE/a/xx/;GE/b//;M *\n", 9, 999), 25, 3, 16, journal);
+    wants_read("256 after the first, instead of 21", run(table, "GE/a/xx/;GE/b//;M 9\n", 9, 999), 25, 3, 16, journal);
+    wants_read("256 after the first, instead of 26", run(table, "GE/a/xx/;GE/b//;M 9\n", 9, strlen(journal)), 25, 3, 16, journal);
+    wants_read("256 after the first, D", run(table, "GE/a/xx/;GE/b//;D 1 2\n", 9, 999), 25, 3, 16, journal);
+    wants_read("256 after the first, R", run(table, "GE/a/xx/;GE/b//;R 1 2\nx\nZ\n", 9, 999), 25, 3, 16, journal);
+    wants_read("256 after the first, CL", run(table, "GE/a/xx/;GE/b//;N;CL//\n", 9, 999), 25, 3, 18, journal);
+    wants_read("256 after the first, F", run(table, "GE/a/xx/;GE/b//;F/y/\n", 5, 999), 25, 3, 16, journal);
+    wants_read("256 after the first, DF", run(table, "GE/a/xx/;GE/b//;DF/y/\n", 5, 999), 25, 3, 16, journal);
+    wants_read("256 after the first, the line before read", run(table, "GE/a/xx/;GE/b//;N\n", 9, 999), 25, 2, 18, journal);
+    snprintf(journal, sizeof journal, "==z\n==a\n==%s\n==a\n", not);
+    wants_read("256 after the first, not read", run(table, "GE/a/xx/;GE/b//\n", 9, 999), 25, 1, 16, journal);
+    wants_read("256 after the first, after W", run(table, "GE/a/xx/;GE/b//;W;N\n\\ end\n", 9, 999), 25, 1, 26, journal);
+    wants_read("256 cancelled", run(table, "GE/a/xx/;GE/b//;CG;M *\n", 9, 999), 0, 5, 0, journal);
+    snprintf(journal, sizeof journal, "==z\n<>a\nc\n<>%s\n%.254sc\n<>a\nc\n", not, not);
+    wants_read("255 stays 255", run(table, "GE/a/c/;M *\n", 9, 999), 0, 5, 0, journal);
+    free(fits), free(not);
+}
+
+/*
+ * The shortest journal buffer with which a run with globals is done, and one byte less: then 26 on reading, by the command itself, or after the
+ * script's end with the script's length as place.
+ */
+static void passed_rooms(void) {
+    static const struct {
+        const char *table, *script;
+        size_t least;
+        uint64_t furthest, place;
+        const char *before;
+    } cases[] = {
+        { "a\na\na\n", "GE/a/b/;N;CG\n", 14, 2, 8, "==a\n==a\n==a\n" },
+        { "a\na\na\n", "GE/a/b/;M *\n", 16, 3, 8, "==a\n<>a\nb\n==a\n" },
+        { "a\na\na\n", "GE/a/b/\n", 16, 1, 8, "==a\n==a\n==a\n" },
+        { "a\na\na\n", "GE/a/b/;N\n", 16, 2, 10, "==a\n<>a\nb\n==a\n" },
+        { "a\na\na\n", "GE/a/bb/;GE/bb/c/\n", 16, 1, 18, "==a\n==a\n==a\n" },
+        { "a\na\n", "GE/a/b/;D\n", 10, 2, 8, "==a\n==a\n" },
+        { "a\na\na\n", "GE/a/b/;D 1 2\n", 16, 3, 8, "==a\n<>a\nb\n==a\n" },
+        { "a\na\na\n", "GE/a/b/;R\nx\nZ\nCG\n", 18, 2, 8, "==a\n<>a\nb\n==a\n" },
+        { "a\na\na\n", "GE/a/b/;CL//;CG\n", 15, 2, 8, "==a\n<>a\nb\n==a\n" },
+        { "a\na\na\n", "GE/a/b/;F/b/;CG\n", 14, 2, 8, "==a\n==a\n==a\n" },
+        { "a\na\na\n", "GE/a/b/;DF/b/;CG\n", 14, 2, 8, "==a\n==a\n==a\n" },
+        { "a\na\na\n", "GE/a/b/;I 3\nx\nZ\n", 20, 3, 8, "==a\n<>a\nb\n<>a\nb\n" },
+        { "a\na\na\n", "GE/a/b/;I *\nx\nZ\n", 20, 4, 8, "==a\n<>a\nb\n<>a\nb\n" },
+        { "a\na\na\n", "GE/a/b/;W;N\n", 16, 1, 12, "==a\n==a\n==a\n" },
+        { "a\na\na\n", "GE/a/b/;AGP;N\n\\ end\n", 16, 1, 20, "==a\n==a\n==a\n" },
+        { "a\na\na\n", "IS/x/;D;GE/a/b/\n", 18, 2, 16, "++x\n--a\n==a\n==a\n" },
+        { "a\na\na\n", "%;GE/a/b/\n", 18, 1, 10, "<>a\nA\n==a\n==a\n" },
+        { "a\nab\nc\n", "GE/a//;N;CG\n", 15, 2, 7, "==a\n==ab\n==c\n" },
+        { "a\nb\na\n", "GE/a//\n", 13, 1, 7, "==a\n==b\n==a\n" },
+    };
+    for (size_t i = 0; i < sizeof cases / sizeof cases[0]; i++) {
+        struct outcome o = run(cases[i].table, cases[i].script, 99, 999), exact = run(cases[i].table, cases[i].script, 99, cases[i].least);
+        check(cases[i].script, o.kept && exact.kept && o.answer.number == 0 && memcmp(&o.answer, &exact.answer, sizeof o.answer) == 0 &&
+                                   memcmp(o.journal, exact.journal, (size_t)o.answer.length) == 0);
+        wants_read(cases[i].script, run(cases[i].table, cases[i].script, 99, cases[i].least - 1), 26, cases[i].furthest, cases[i].place,
+                   cases[i].before);
+        free(o.journal), free(exact.journal);
+    }
+}
+
+/* 65,535 lines through one global and through sixteen, read and after the script's end; the journal buffer exact and one short. */
+static void passed_sizes(void) {
+    static const struct {
+        const char *script, *text;
+    } cases[] = { { "GE/a/bb/", "bb" }, { "16GA/a/b/", "abbbbbbbbbbbbbbbb" } };
+    char *lines = repeat("a\n", 65535, ""), *kept = repeat("==a\n", 65535, "");
+    for (size_t i = 0; i < sizeof cases / sizeof cases[0]; i++) {
+        char record[99], script[99];
+        size_t length = 4 + (5 + strlen(cases[i].text)) * 65534;
+        snprintf(record, sizeof record, "<>a\n%s\n", cases[i].text);
+        char *rest = repeat(record, 65534, ""), *but_last = repeat(record, 65533, "==a\n"), *all = malloc(length + 1), *short_of = malloc(length + 1);
+        if (all == NULL || short_of == NULL) exit(2);
+        strcat(strcpy(all, "==a\n"), rest), strcat(strcpy(short_of, "==a\n"), but_last);
+        check("65,535 lines passed: the journal's length", strlen(all) == length);
+
+        snprintf(script, sizeof script, "%s;M *\n", cases[i].script);
+        wants_read("65,535 lines passed, read", run(lines, script, 99, length), 0, 65536, 0, all);
+        wants_read("65,535 lines passed, read, one short", run(lines, script, 99, length - 1), 26, 65535, strlen(script) - 4, short_of);
+        snprintf(script, sizeof script, "%s\n", cases[i].script);
+        wants_read("65,535 lines passed, not read", run(lines, script, 99, length), 0, 1, 0, all);
+        wants_read("65,535 lines passed, not read, one short", run(lines, script, 99, length - 1), 26, 1, strlen(script), kept);
+        snprintf(script, sizeof script, "%s;M 65535\n", cases[i].script);
+        wants_read("65,535 lines passed, the last current", run(lines, script, 99, length), 0, 65535, 0, all);
+        free(rest), free(but_last), free(all), free(short_of);
+    }
+    free(lines), free(kept);
+}
+
 /* The largest table and one line more; the largest script and one byte more. */
 static void sizes(void) {
     char *lines = repeat("\n", 65535, ""), *more = repeat("\n", 65536, "");
@@ -304,9 +510,7 @@ static void work_areas(void) {
 }
 
 /* With every budget below a run's steps it stops with 29 and just so many steps; from there on it is done alike. */
-static void budgets(void) {
-    static const char table[] = "R01 open 06:10 90\nR02 open 06:25 90\nR03 open 07:00 60\n";
-    static const char script[] = "RPT (IFEOF AGP; UL/60/ E/90/120/; F/0/; 2(%;<); N)\nM 1; 2N; D 1 2; IS/x/; P; SA/x/; CL/-/\n";
+static void every_budget(const char *table, const char *script) {
     struct outcome whole = run(table, script, UINT32_MAX, 999);
     int good = whole.kept && whole.answer.number == 0 && whole.answer.steps > 20;
     for (uint32_t budget = 0; good && budget <= whole.answer.steps + 1; budget++) {
@@ -322,6 +526,15 @@ static void budgets(void) {
     free(whole.journal);
 }
 
+static void budgets(void) {
+    static const char table[] = "R01 open 06:10 90\nR02 open 06:25 90\nR03 open 07:00 60\n";
+    static const char *const scripts[] = {
+        "RPT (IFEOF AGP; UL/60/ E/90/120/; F/0/; 2(%;<); N)\nM 1; 2N; D 1 2; IS/x/; P; SA/x/; CL/-/\n",
+        "2(GE/90/95/; GA/open/-/; CG); 3GB/R/Q/; F B/Q/; F/07:/; P; CL/-/; GE/Q/R/\n",
+    };
+    for (size_t i = 0; i < sizeof scripts / sizeof scripts[0]; i++) every_budget(table, scripts[i]);
+}
+
 int main(void) {
     line_lengths();
     changed_lengths();
@@ -329,6 +542,11 @@ int main(void) {
     shorter_journals();
     joined_lengths();
     cuts_and_joins();
+    globals();
+    sixteen_globals();
+    passed_lengths();
+    passed_rooms();
+    passed_sizes();
     sizes();
     nesting();
     work_areas();

@@ -93,6 +93,59 @@ check "joined: the new table" same table want
 printf '==R01 open 06:10 90\n<>R02 open 06:25 90\nR02 open 06:25 90, R03 open 07:00 60\n--R03 open 07:00 60\n' >want
 check "joined: the journal" same table.journal want
 
+fresh globals
+printf 'GE/open/OPEN/; GA/OPEN/ at/\nM 2; E/90/95/\n' >season
+load -l listing table season
+check "globals: status" status 0
+check "globals: says so" says "Done: table is updated. Steps 4, furthest line read 2"
+printf 'R01 open 06:10 90\nR02 OPEN at 06:25 95\nR03 OPEN at 07:00 60\n' >want
+check "globals: the new table" same table want
+printf '==R01 open 06:10 90\n<>R02 open 06:25 90\nR02 OPEN at 06:25 95\n<>R03 open 07:00 60\nR03 OPEN at 07:00 60\n' >want
+check "globals: the journal" same table.journal want
+printf '    1  R01 open 06:10 90\n    2 +R02 OPEN at 06:25 95\n    3 +R03 OPEN at 07:00 60\n' >want
+check "globals: the listing" same listing want
+
+fresh seventeen
+printf 'N\n17GE/90/95/\n' >season
+load table season
+check "seventeen globals: status" status 1
+check "seventeen globals: in words" says "Sixteen globals stand already, and the script gives one more. (31) This is for the script's author to mend."
+check "seventeen globals: line and column" says "season, line 2, column 3:"
+check "seventeen globals: the table stays" same table table.first
+check "seventeen globals: the unread lines are kept" test "$(grep -c '^==' table.journal)" = 3
+
+fresh grown
+printf 'R04 %0250d\n' 0 >>table
+cp table table.first
+printf 'GE/0/00/; M 2\n' >season
+load table season
+check "a line too long after the end: status" status 1
+check "a line too long after the end: says so" says "Stopped: the table is not updated. Steps 2, furthest line read 2"
+check "a line too long after the end: in words" says "The line would become longer than 255 bytes. (25) The script does not fit this table"
+check "a line too long after the end: where" says "season, after the script's end, in a line that it had not read."
+check "a line too long after the end: no line of the script" silent "column"
+check "a line too long after the end: never says updated" silent "is updated"
+check "a line too long after the end: the table stays" same table table.first
+check "a line too long after the end: the line that was read is changed" grep -q '^R002 open 006:25 900$' table.journal
+check "a line too long after the end: the unread lines are kept" test "$(grep -c '^==' table.journal)" = 3
+printf 'GE/0/00/; M *\n' >season
+load table season
+check "a line too long on the way: status" status 1
+check "a line too long on the way: says so" says "Stopped: the table is not updated. Steps 2, furthest line read 4"
+check "a line too long on the way: line and column" says "season, line 1, column 11:"
+check "a line too long on the way: the table stays" same table table.first
+
+fresh narrow
+printf 'GE/90/95/; W\n' >season
+load -r 18 table season
+check "journal just long enough for globals: status" status 0
+cp table.first table
+load -r 17 table season
+check "journal full after the end: status" status 1
+check "journal full after the end: in words" says "The journal has no room for this change: give more with -r. (26)"
+check "journal full after the end: where" says "season, after the script's end, in a line that it had not read."
+check "journal full after the end: the table stays" same table table.first
+
 fresh budget
 load -b 3 table season
 check "budget: status" status 1

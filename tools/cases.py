@@ -1,5 +1,5 @@
 #!/usr/bin/env python3
-"""Makes run cases by chance: tables and scripts of the commands of document 01 and of wish 1 of document 02, some of them damaged.
+"""Makes run cases by chance: tables and scripts of the commands of document 01 and of wishes 1 and 2 of document 02, some of them damaged.
 
     tools/cases.py SEED COUNT | tools/oracle.py outcome > FILE
     tools/vectors.py run FILE
@@ -13,6 +13,7 @@ def line():
     r = R.random()
     if r < .1: return ''
     if r < .13: return w(R.choice([250,253,254,255]), 'ab ')
+    if r < .16: return w(R.randint(240, 250), 'b ') + w(R.randint(1, 5), 'ab')
     return w(R.randint(1, 9), R.choice(['ab', 'aab ', 'abAB1 -', 'a', ' a']))
 def string(): return w(R.choice([0,1,1,1,2,2,3]), R.choice(['ab', 'a', 'abAB1 ']))
 def num(): return str(R.choice([0,1,1,2,2,3,4,5,6,9,65535,65536,'007']) )
@@ -47,8 +48,27 @@ def cutting():
     d = R.choice("//////!'*+,-.:?")
     arg = qs(False) if name != 'CL' or R.random() < .04 else d + string().replace(d, 'a') + (d if R.random() < .93 else '\n')
     return said + (' ' if arg[0].isalpha() and R.random() < .97 else sp()) + arg
+def changing():
+    """GE, GA, GB and CG; some without their strings, with a qualifier, or with an empty first string."""
+    if R.random() < .08: return R.choice(['CG', 'cg', 'CG', 'CG+', 'CG 2N'])
+    name = R.choice(['GE', 'GE', 'GA', 'GB'])
+    said = name if R.random() < .7 else R.choice([name.lower(), name.capitalize()])
+    if R.random() < .02: return said + sp()
+    if R.random() < .02: return said + ' ' + R.choice('BELWU2') + '/a/b/'
+    d = R.choice("//////!'*+,-.:?")
+    first = '' if R.random() < .02 else w(R.choice([1, 1, 1, 2, 2, 3]), R.choice(['ab', 'a', 'abAB1 ']))
+    new = w(R.choice([0, 1, 1, 2, 2, 3, 4, 9, 60]), R.choice(['ab', 'a', 'abAB1 -']))
+    end = R.choice([d, d, d, d, d, d, '\n', ''])
+    if R.random() < .03: return said + sp() + d + first.replace(d, 'a') + '\n'
+    return said + sp() + d + first.replace(d, 'a') + d + new.replace(d, 'b') + end
+def many():
+    """Up to 16 globals and more, in one count."""
+    return '%d(%s)' % (R.choice([3, 8, 15, 16, 17]), ';'.join(changing() for _ in range(R.randint(1, 2))))
 def simple():
-    if R.random() < .11: return cutting()
+    r = R.random()
+    if r < .11: return cutting()
+    if r < .23: return changing()
+    if r < .24: return many()
     r = R.random()
     if r < .1: return 'N'
     if r < .15: return 'P'
@@ -90,6 +110,10 @@ def script():
 for _ in range(N):
     t = ''.join(line() + '\n' for _ in range(R.choice([0, 1, 2, 3, 4, 5, 8])))
     s = script()
+    # some begin with globals, and so read most of their lines through them; some end soon, and leave lines to them
+    r = R.random()
+    if r < .4: s = ''.join(changing() + R.choice(['; ', '\n']) for _ in range(R.choice([1, 1, 1, 2, 3, 4]))) + s
+    elif r < .6: s = ''.join(changing() + R.choice(['; ', '\n']) for _ in range(R.choice([1, 1, 2, 3, 4]))) + R.choice(['', 'N', 'M 3', 'D', 'F/b/', 'W']) + '\n'
     opening = len(t) + 2 * t.count('\n')
-    size = R.choice([opening + R.randint(0, 30), 4096, 4096, opening + 300])
+    size = R.choice([opening + R.randint(0, 30), opening + R.randint(0, 90), 4096, 4096, opening + 300])
     print((t.encode().hex() or '-'), s.encode().hex(), R.choice([0, 1, 3, 8, 20, 60, 60, 120]), 2 * len(s) + 64, size)

@@ -1,5 +1,5 @@
 #!/usr/bin/env python3
-"""Document 01 and wish 1 of document 02 once more, written apart from the definitions: a plain interpreter for making and checking cases.
+"""Document 01 and wishes 1 and 2 of document 02 once more, written apart from the definitions: a plain interpreter for making and checking cases.
 
     tools/oracle.py check FILE      compares each line of a file of run cases (see tools/vectors.py) with what it finds
     tools/oracle.py outcome < FILE  completes lines of: table script budget work-length buffer-length
@@ -84,6 +84,14 @@ class Reader:
         if self.byte() not in DELIMITERS or self.at >= len(self.s): raise Refused(3, self.at)
         d = self.byte(); self.at += 1
         return self.string(d)
+
+    def two_plain(self):
+        """The strings of GE, GA and GB: two without qualifiers, the first not empty."""
+        self.spaces()
+        at, d = self.at, self.byte()
+        first = self.plain()
+        if not first: raise Refused(4, at)
+        return first, self.string(d)
 
     def qualified(self, search, two=False):
         q = dict(anchor='', count=0, cols=None)
@@ -244,7 +252,7 @@ class Reader:
                 prefixes.append(node)
                 continue
             node = dict(kind='do', at=at, name=name, group=self.groups[-1] if self.groups else None)
-            if name in ('N', 'P', 'IC', 'PR', '>', '<', '#', '$', '%', 'AGP', 'W'): pass
+            if name in ('N', 'P', 'IC', 'PR', '>', '<', '#', '$', '%', 'AGP', 'W', 'CG'): pass
             elif name in ('F', 'BF', 'DF'): node['se'] = self.search()
             elif name == 'M': node['a'] = self.target(True)
             elif name == 'D': node['a'], node['b'] = self.span()
@@ -257,6 +265,7 @@ class Reader:
                 node['lines'] = self.lines()
             elif name == 'IS': node.update(name='I', a=None, lines=[self.plain()])
             elif name == 'CL': node['s'] = self.plain()
+            elif name in ('GE', 'GA', 'GB'): node['s'], node['new'] = self.two_plain()
             elif name in ('A', 'B', 'E', 'AP', 'BP', 'EP'): node['q'], node['new'] = self.qualified(False, True)
             elif name in ('PA', 'PB', 'SA', 'SB'): node['q'] = self.qualified(False)
             else: raise Refused(2, at)
@@ -309,6 +318,7 @@ class Editor:
         self.recs = [['==', l, l] for l in lines]
         self.lines, self.size, self.budget = len(lines), size, budget
         self.cur, self.p, self.steps, self.furthest = 0, 0, 0, 1
+        self.globals = []
 
     def step(self, at):
         self.place = at
@@ -317,8 +327,44 @@ class Editor:
 
     def number(self, i): return sum(r[0] != '++' for r in self.recs[:i]) + 1
     def see(self, i):
-        if i >= len(self.recs): self.furthest = self.lines + 1
-        elif self.recs[i][0] != '++': self.furthest = max(self.furthest, self.number(i))
+        if i >= len(self.recs): self.read_to(self.lines + 1)
+        elif self.recs[i][0] != '++': self.read_to(self.number(i))
+
+    def passed(self, l):
+        """A line as the standing globals leave it."""
+        for s, new in self.globals:
+            l = l.replace(s, new)
+            if len(l) > 255: raise Stop(25)
+        return l
+
+    def unread(self):
+        """The index of the first unread line: these stand last, as in the table."""
+        return len(self.recs) - max(0, self.lines - self.furthest)
+
+    def passed_record(self, record, total):
+        """An unread line's record as the standing globals leave it, and the length of the journal with it."""
+        old = record[1]
+        l = self.passed(old)
+        if l == old: return record, total
+        if total + len(l) + 1 > self.size: raise Stop(26)
+        return ['<>', old, l], total + len(l) + 1
+
+    def read_to(self, n):
+        """The source lines up to n that are not read yet are read in order; lines + 1 is EOF."""
+        total = self.length(self.recs) if self.globals and n > self.furthest else 0
+        while self.furthest < n:
+            i = self.unread()
+            self.furthest += 1
+            if i < len(self.recs): self.recs[i], total = self.passed_record(self.recs[i], total)
+
+    def pass_unread(self):
+        """After a done script: all unread lines, or none where one stops."""
+        if not self.globals: return
+        i, total, rest = self.unread(), self.length(self.recs), []
+        for record in self.recs[i:]:
+            record, total = self.passed_record(record, total)
+            rest.append(record)
+        self.recs[i:] = rest
     def index(self, a):
         n = 0
         for i, r in enumerate(self.recs):
@@ -411,6 +457,12 @@ class Editor:
         self.step(c['at'])
         if name == 'W': raise Done()
         if name == 'AGP': raise Leave(c['group'])
+        if name == 'CG': self.globals = []; return
+        if name in ('GE', 'GA', 'GB'):
+            if len(self.globals) == 16: raise Stop(31)
+            s, new = c['s'], c['new']
+            self.globals.append((s, s + new if name == 'GA' else new + s if name == 'GB' else new))
+            return
         if name == 'N':
             if self.cur >= n: raise Stop(20)
             self.go(self.next_live(self.cur))
@@ -546,8 +598,10 @@ def outcome(table, script, budget, work, size):
     e = Editor(table.split(b'\n')[:-1], size, budget)
     number, at = 0, 0
     try:
-        e.top(items)
-    except Done: pass
+        try: e.top(items)
+        except Done: pass
+        e.place = len(script)
+        e.pass_unread()
     except Stop as s: number, at = s.number, e.place
     except Budget: number, at = 29, e.place
     j = e.bytes()

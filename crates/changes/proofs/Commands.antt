@@ -11,7 +11,7 @@ use lib.Dec.{eqb}
 use borrow.Author.Tests.{eq-eqb, ne-eqb}
 use Rattle.definitions.specs.Bytes.{Line, allText}
 use Rattle.definitions.specs.Tape.{Tape}
-use Rattle.definitions.specs.Given.{Carried, carried}
+use Rattle.definitions.specs.Given.{Carried, noGlobals}
 use Rattle.definitions.specs.Editor.{Ed, n20, n27, stopNumber, pointTo}
 use Rattle.definitions.specs.StepProgram.{Program, _>>=_, _>>_, runs, state, Did, perform}
 use Rattle.definitions.specs.Matching.{Qualifiers, Qualified, qualified, stringIn}
@@ -119,7 +119,7 @@ module _ {table j : List ℕ} {st : State} (b : Byte) (sees : Sights table j st 
 
     at-byte : (e : Ed) (t : Tape) → ShowsOf table j st e t → AtLine table j st (st .p + 1) e t
     at-byte e t w =
-        let f : ByteOn (lent j) carried (λ x. goesOn) e t v = found (λ x. goesOn) e carried t w in
+        let f : ByteOn (lent j) noGlobals (λ x. goesOn) e t v = found (λ x. goesOn) e noGlobals t w in
         record { text = w; more = f .more j st (w .shows); long = omega (arith, f .inside, w .shows .p) }
 
     pub has-byte : ShownOf table j st → HasLine table j st (st .p + 1)
@@ -128,7 +128,7 @@ module _ {table j : List ℕ} {st : State} (b : Byte) (sees : Sights table j st 
     -- the byte in the other case is of text
     pub recase-text : (up : Bool) (x : ℕ) → x ≡ cased up v → ShownOf table j st → allText (take 1 (x ∷ [])) ≡ true
     recase-text up x s (e, t, w) =
-        let f : ByteOn (lent j) carried (λ x. goesOn) e t v = found (λ x. goesOn) e carried t w in
+        let f : ByteOn (lent j) noGlobals (λ x. goesOn) e t v = found (λ x. goesOn) e noGlobals t w in
         cased-one up (currentLine e) (pointOf e) v x (shown-text e t (w .shows)) (f .inside) (f .is) s
 
     pub right-on : (r : Moved) → r ≡ On (atPoint st (st .p + 1)) → PerformsOf table j st Op.right j r
@@ -194,7 +194,7 @@ module _ {table j : List ℕ} {st : State} (qs : Qualifiers) (script : List ℕ)
 
     pub at-place : (e : Ed) (t : Tape) → Ready table j st e t → AtLine table j st (i + (to - from)) e t
     at-place e t w =
-        let f : PlaceOn (lent j) carried (qualified qs (part script from to)) (λ x n. goesOn) e t i = here (λ x n. goesOn) e carried t w in
+        let f : PlaceOn (lent j) noGlobals (qualified qs (part script from to)) (λ x n. goesOn) e t i = here (λ x n. goesOn) e noGlobals t w in
         record { text = record { shows = w .shows; old = w .old }; more = f .more j st (w .shows); long = omega (arith, f .inside (w .point), string-long) }
 
     pub has-place : IsReady table j st → HasLine table j st (i + (to - from))

@@ -23,7 +23,7 @@ use Rattle.editor.proofs.Changing.{changes-on, changes-full, retext-shows}
 use Rattle.changes.specs.Current.{part, written, firstLine, EndsAt, EndsOf, HasEnds, Builds, MakesAnew, Replacing, SetTo, Replaces}
 use Rattle.changes.specs.declared.rewrite.Ends.{Ends}
 use Rattle.changes.specs.declared.rewrite.Anew.{Anew}
-use Rattle.text.proofs.Lines.{equal-is}
+use Rattle.theorems.specs.Lines.{equal-is}
 use Rattle.changes.proofs.Written.{first-written}
 use Rattle.changes.proofs.Putting.{put-total}
 
@@ -115,14 +115,14 @@ module _ (j : List ℕ) (st : State) (c : Ends) (line : List ℕ) (len : ℕ) (f
 
 -- ---- the places are in range
 
-pub record Room (j : List ℕ) (st : State) (c : Ends) : Type 0 where
+pub record EndsInRange (j : List ℕ) (st : State) (c : Ends) : Type 0 where
   pub after : st .back + 2 ≤ c .old
   pub inside : c .old < c .end
   pub within : c .end ≤ length j
   pub short : c .old - (st .back + 2) ≤ 255
 
-pub room : {j : List ℕ} {st : State} {c : Ends} → HasEnds j st c → Room j st c
-room (b, r, a, w) = record {
+pub in-range : {j : List ℕ} {st : State} {c : Ends} → HasEnds j st c → EndsInRange j st c
+in-range (b, r, a, w) = record {
   after = w .ends .after;
   inside = w .ends .inside;
   within = w .ends .within;

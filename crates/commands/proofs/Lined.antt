@@ -23,14 +23,14 @@ use Rattle.items.proofs.Strings.{string-inside, string-is}
 use Rattle.editor.specs.declared.State.{State}
 use Rattle.editor.specs.declared.Moved.{Moved}
 use Rattle.editor.specs.Records.{LineIn}
-use Rattle.editor.specs.Shows.{lent, Answered, Performs, targetNumbered}
-use Rattle.editor.specs.Current.{PerformsOf}
+use Rattle.editor.specs.Shows.{lent, Answered, targetNumbered}
+use Rattle.reading.specs.Carrying.{PerformsBy}
 use Rattle.inserts.specs.Lines.{Insertable, spotOf}
 use Rattle.inserts.proofs.Codes.{target-code, spot-code}
 use Rattle.inserts.proofs.Script.{insertable}
 use Rattle.spans.specs.Spans.{throughOf}
 use Rattle.spans.proofs.Ends.{through-alone, through-all, through-number}
-use Rattle.commands.specs.Performing.{SomeCommand, PerformsAt, PerformsLines}
+use Rattle.commands.specs.Performing.{SomeCommand, PerformsAt, PerformsLines, PerformsWith}
 
 -- the number of a script's `through` stands for it
 through-code : (b : Through) → goodThrough b ≡ true → throughOf (throughCode b) ≡ b
@@ -71,33 +71,33 @@ module _ (s w : List ℕ) (k kind : ℕ) (is : kind ≡ kindAt w k) where
   -- ---- what they answer
 
   module _ (j : List ℕ) (st : State) (b : List ℕ) (r : Moved) where
-    pub moves-as : kind ≡ moveKind → Performs j st (Op.move (targetNumbered (getD w (k + 1) 0))) b r → PerformsLines s w k j st b r
+    pub moves-as : kind ≡ moveKind → PerformsBy s w j st (Op.move (targetNumbered (getD w (k + 1) 0))) b r → PerformsLines s w k j st b r
     unfolding formOf Means
-    moves-as sole does op e c t h shows = on (meant-as s w k kind is moving (ap formOf sole) op h)
+    moves-as sole does op e c t h stand shows = on (meant-as s w k kind is moving (ap formOf sole) op h)
       where
         on : Means s w k (h .end) kind moving op → Answered b r (step (lent j) op (state e c) t)
         on (a, q, ends, code, good) =
             let stands : targetNumbered (getD w (k + 1) 0) ≡ a = ap targetNumbered code ∙ target-code a good in
-            rw q (rw stands at (does e c t shows))
+            rw q (rw stands at (does e c t stand shows))
 
     module _ (from : ℕ) (from-is : from ≡ stringStart (getD w (k + 1) 0)) (n : ℕ) (n-is : n ≡ stringLength (getD w (k + 1) 0)) where
       line-is : {op : Op} (h : CommandAt s w k op) (l : Line) → StringIn s (getD w (k + 1) 0) l → take n (drop from s) ≡ l
       line-is h l x = rw (from-is, n-is) (string-is x (script-short s (h .form)))
 
       pub string-as : shapeOf kind ≡ pairShape → (kind ≡ moveKind → ⊥) → (kind ≡ deleteKind → ⊥) → (kind ≡ joinKind → ⊥)
-          → Performs j st (Op.insert none (take n (drop from s) ∷ [])) b r → PerformsLines s w k j st b r
-      string-as shape no-move no-delete no-join does op e c t h shows =
+          → PerformsBy s w j st (Op.insert none (take n (drop from s) ∷ [])) b r → PerformsLines s w k j st b r
+      string-as shape no-move no-delete no-join does op e c t h stand shows =
           on (is-insert s w k (h .end) kind op no-join (pair-left s w k (h .end) kind op shape no-move no-delete (meant s w k kind is op h)))
         where
           on : (l : Line) × (op ≡ Op.insert none (l ∷ [])) × StringIn s (getD w (k + 1) 0) l → Answered b r (step (lent j) op (state e c) t)
-          on (l, q, x) = rw (q, ← line-is h l x) (does e c t shows)
+          on (l, q, x) = rw (q, ← line-is h l x) (does e c t stand shows)
 
-      pub joins-as : (table : List ℕ) → kind ≡ joinKind → PerformsOf table j st (Op.join (take n (drop from s))) b r → PerformsAt s table w k j st b r
+      pub joins-as : (table : List ℕ) → kind ≡ joinKind → PerformsWith s table w j st (Op.join (take n (drop from s))) b r → PerformsAt s table w k j st b r
       unfolding formOf
-      joins-as table sole does op e c t h ready = on (is-join s w k (h .end) kind op sole (meant-as s w k kind is stringing (ap formOf sole) op h))
+      joins-as table sole does op e c t h stand ready = on (is-join s w k (h .end) kind op sole (meant-as s w k kind is stringing (ap formOf sole) op h))
         where
           on : (l : Line) × (op ≡ Op.join l) × StringIn s (getD w (k + 1) 0) l → Answered b r (step (lent j) op (state e c) t)
-          on (l, q, x) = rw (q, ← line-is h l x) (does e c t (record { shows = ready .shows; old = ready .old }))
+          on (l, q, x) = rw (q, ← line-is h l x) (does e c t stand (record { shows = ready .shows; old = ready .old }))
 
     module _ (from through n : ℕ) (from-is : from ≡ spanFrom (getD w (k + 1) 0)) (n-is : n ≡ numberAt w k) (through-is : through ≡ spanThrough n (getD w (k + 1) 0)) where
       starts-as : (a : Target) (b′ : Through) → SpanRead w k a b′ → targetNumbered from ≡ a
@@ -108,27 +108,27 @@ module _ (s w : List ℕ) (k kind : ℕ) (is : kind ≡ kindAt w k) where
           let far : through ≡ throughCode b′ = through-is ∙ ap (λ (i : ℕ). spanThrough i (getD w (k + 1) 0)) n-is ∙ x .through in
           ap throughOf far ∙ through-code b′ (x .good-through)
 
-      pub deletes-as : kind ≡ deleteKind → Performs j st (Op.delete (targetNumbered from) (throughOf through)) b r → PerformsLines s w k j st b r
+      pub deletes-as : kind ≡ deleteKind → PerformsBy s w j st (Op.delete (targetNumbered from) (throughOf through)) b r → PerformsLines s w k j st b r
       unfolding formOf Means
-      deletes-as sole does op e c t h shows = on (meant-as s w k kind is deleting (ap formOf sole) op h)
+      deletes-as sole does op e c t h stand shows = on (meant-as s w k kind is deleting (ap formOf sole) op h)
         where
           on : Means s w k (h .end) kind deleting op → Answered b r (step (lent j) op (state e c) t)
-          on (a, b′, q, ends, span) = rw q (rw (starts-as a b′ span, goes-as a b′ span) at (does e c t shows))
+          on (a, b′, q, ends, span) = rw q (rw (starts-as a b′ span, goes-as a b′ span) at (does e c t stand shows))
 
-      pub replaces-as : kind ≡ replaceKind → Performs j st (Op.replace (targetNumbered from) (throughOf through) (linesOf (partOf s (getD w (k + 2) 0) (getD w (k + 3) 0)))) b r
+      pub replaces-as : kind ≡ replaceKind → PerformsBy s w j st (Op.replace (targetNumbered from) (throughOf through) (linesOf (partOf s (getD w (k + 2) 0) (getD w (k + 3) 0)))) b r
           → PerformsLines s w k j st b r
       unfolding formOf Means
-      replaces-as sole does op e c t h shows = on (meant-as s w k kind is replacing (ap formOf sole) op h)
+      replaces-as sole does op e c t h stand shows = on (meant-as s w k kind is replacing (ap formOf sole) op h)
         where
           on : Means s w k (h .end) kind replacing op → Answered b r (step (lent j) op (state e c) t)
-          on (a, b′, ls, q, ends, span, x, good) = rw (q, x .is) (rw (starts-as a b′ span, goes-as a b′ span) at (does e c t shows))
+          on (a, b′, ls, q, ends, span, x, good) = rw (q, x .is) (rw (starts-as a b′ span, goes-as a b′ span) at (does e c t stand shows))
 
     pub lines-as : shapeOf kind ≡ fourShape → (kind ≡ replaceKind → ⊥)
-        → Performs j st (Op.insert (spotOf (getD w (k + 1) 0)) (linesOf (partOf s (getD w (k + 2) 0) (getD w (k + 3) 0)))) b r → PerformsLines s w k j st b r
+        → PerformsBy s w j st (Op.insert (spotOf (getD w (k + 1) 0)) (linesOf (partOf s (getD w (k + 2) 0) (getD w (k + 3) 0)))) b r → PerformsLines s w k j st b r
     unfolding Means
-    lines-as shape other does op e c t h shows = on (four-left s w k (h .end) kind op shape other (meant s w k kind is op h))
+    lines-as shape other does op e c t h stand shows = on (four-left s w k (h .end) kind op shape other (meant s w k kind is op h))
       where
         on : Means s w k (h .end) kind lining op → Answered b r (step (lent j) op (state e c) t)
         on (a, ls, q, ends, code, some, x, good) =
             let stands : spotOf (getD w (k + 1) 0) ≡ a = ap spotOf code ∙ spot-code a some in
-            rw (q, x .is) (rw stands at (does e c t shows))
+            rw (q, x .is) (rw stands at (does e c t stand shows))

@@ -1,27 +1,62 @@
 -- The commands of one word, by their kinds; what is left is a change. Assumes nothing.
 use mathlib.Core.Path.{_≡_, refl, _∙_}
+use mathlib.Core.Bool.{true}
 use mathlib.Core.List.{List}
-use Prim.Native.Nat.{ℕ}
+use Prim.Native.Nat.{ℕ, _≤_}
+use lib.ListN.{length}
+use lib.Dec.{eqb}
+use borrow.Author.Tests.{ne-eqb}
+use Rattle.definitions.specs.Bytes.{Line}
 use Rattle.definitions.specs.Tape.{bind}
 use Rattle.definitions.specs.StepProgram.{runs, finish, perform, state}
 use Rattle.definitions.specs.Edit.{Op, program, step, quit}
-use Rattle.items.specs.Kinds.{wordShape, pairShape, fourShape, stringShape, changeShape, shapeOf}
+use Rattle.items.specs.Kinds.{wordShape, pairShape, fourShape, stringShape, changeShape, shapeOf, cancelKind}
 use Rattle.items.specs.Words.{kindAt}
-use Rattle.items.specs.Simple.{wordOp}
+use Rattle.items.specs.Simple.{lineOp, wordOp}
 use Rattle.items.proofs.Meaning.{words, formOf, Means, shape-left, meant, meant-as}
 use Rattle.editor.specs.declared.State.{State}
 use Rattle.editor.specs.declared.Moved.{Moved}
 use Rattle.editor.specs.declared.Moved.the-variants.{Stop}
-use Rattle.editor.specs.Shows.{lent, ShowsText, Answers, Answered, Performs}
+use Rattle.editor.specs.Shows.{lent, ShowsText, Answers, Answered, Performs, PerformsPlain}
+use Rattle.items.specs.Reserve.{reserve}
+use Rattle.globals.specs.Standing.{standing}
+use Rattle.globals.proofs.Standing.{none-stand}
+use Rattle.reading.specs.Carrying.{PerformsBy, SomeStand}
+use Rattle.reading.proofs.Stands.{stand-room}
+use Rattle.joins.specs.Joining.{Joins}
 use Rattle.editor.specs.Current.{ShownOf, PerformsOf, IsReady}
-use Rattle.commands.specs.Performing.{SomeCommand, PerformsAt, PerformsLines}
+use Rattle.commands.specs.Performing.{SomeCommand, PerformsAt, PerformsLines, PerformsWith}
 
 -- W
 pub quits : (table j : List ℕ) (st : State) → PerformsOf table j st quit j (Stop 0 st)
 unfolding Answers step perform bind runs finish program
 quits table j st e c t h = (refl, h .shows)
 
--- the same command
+-- ---- what stands
+
+-- whatever stands
+pub anyhow : {s w j : List ℕ} {st : State} (b : List ℕ) (r : Moved) (op : Op) → Performs j st op b r → PerformsBy s w j st op b r
+anyhow b r op does = λ e c t stands h. does e c t h
+
+pub anyhow-with : {s table w j : List ℕ} {st : State} (b : List ℕ) (r : Moved) {op other : Op} → op ≡ other → PerformsOf table j st other b r → PerformsWith s table w j st op b r
+anyhow-with b r q does = rw q (λ e c t stands h. does e c t h)
+
+-- none stands
+pub plainly : {s w j : List ℕ} {st : State} (b : List ℕ) (r : Moved) (op : Op) → eqb (standing w) 0 ≡ true → PerformsPlain j st op b r → PerformsBy s w j st op b r
+plainly {s} {w} b r op none does = λ e c t stands h. rw (none-stand s w c none stands) (does e t h)
+
+pub plainly-joins : {s table w j : List ℕ} {st : State} (b : List ℕ) (r : Moved) (l : Line) → eqb (standing w) 0 ≡ true → Joins table j st l b r → PerformsWith s table w j st (Op.join l) b r
+plainly-joins {s} {table} {w} b r l none does = λ e c t stands h. rw (none-stand s w c none stands) (does e t h)
+
+-- a function that is handed the command, and does not read the table
+pub handed : {s table w j : List ℕ} {st : State} (b : List ℕ) (r : Moved) {op other : Op} → op ≡ other → PerformsBy s w j st other b r → PerformsWith s table w j st op b r
+handed b r q does = rw q (λ e c t stands h. does e c t stands (h .shows))
+
+-- enough words are there
+pub words-room : {s w : List ℕ} → SomeStand s w → reserve ≤ length w
+words-room {s} {w} (c, h) = stand-room s w c h
+
+-- ---- the same command
 pub performs-as : {table j : List ℕ} {st : State} (b : List ℕ) (r : Moved) {op other : Op} → op ≡ other → PerformsOf table j st other b r → PerformsOf table j st op b r
 performs-as b r q does = rw q does
 
@@ -30,7 +65,7 @@ pub tableless : {table j : List ℕ} {st : State} (b : List ℕ) (r : Moved) {op
 tableless b r q does = rw q (λ e c t h. does e c t (h .shows))
 
 pub without-table : {s table w : List ℕ} {k : ℕ} {j : List ℕ} {st : State} (b : List ℕ) (r : Moved) → PerformsLines s w k j st b r → PerformsAt s table w k j st b r
-without-table b r does op e c t h ready = does op e c t h (ready .shows)
+without-table b r does op e c t h stands ready = does op e c t h stands (ready .shows)
 
 -- some text is shown
 pub shown-text : {table j : List ℕ} {st : State} → ShownOf table j st → ShowsText j st
@@ -43,12 +78,12 @@ pub ready-text : {table j : List ℕ} {st : State} → IsReady table j st → Sh
 ready-text (e, t, h) = (e, t, h .shows)
 
 module _ (s w : List ℕ) (k kind : ℕ) (is : kind ≡ kindAt w k) (shape : ℕ) (shape-is : shape ≡ shapeOf kind) where
-  pub word-as : (table j : List ℕ) (st : State) (b : List ℕ) (r : Moved) → shape ≡ wordShape → PerformsOf table j st (wordOp kind) b r → PerformsAt s table w k j st b r
-  unfolding formOf Means
-  word-as table j st b r sole does op e c t h ready = on (meant-as s w k kind is words (rw (← shape-is, sole)) op h)
+  pub word-as : (table j : List ℕ) (st : State) (b : List ℕ) (r : Moved) → shape ≡ wordShape → (kind ≡ cancelKind → ⊥) → PerformsWith s table w j st (lineOp kind) b r → PerformsAt s table w k j st b r
+  unfolding formOf Means wordOp
+  word-as table j st b r sole other does op e c t h stands ready = on (meant-as s w k kind is words (rw (← shape-is, sole)) op h)
     where
       on : Means s w k (h .end) kind words op → Answered b r (step (lent j) op (state e c) t)
-      on (ends, o) = rw o (does e c t (record { shows = ready .shows; old = ready .old }))
+      on (ends, o) = rw (o, ne-eqb kind cancelKind other) (does e c t stands (record { shows = ready .shows; old = ready .old }))
 
   -- what is left
   pub changes-left : (shape ≡ wordShape → ⊥) → (shape ≡ pairShape → ⊥) → (shape ≡ fourShape → ⊥) → (shape ≡ stringShape → ⊥) → SomeCommand s w k → shapeOf kind ≡ changeShape

@@ -17,7 +17,7 @@ use Rattle.matching.specs.declared.Quals.{Quals}
 use Rattle.matching.specs.Quals.{qualifiersOf}
 use Rattle.matching.specs.Words.{Readable, startAt, lengthAt, endAt, qualsAt, stringAt}
 use Rattle.matching.proofs.Reading.{ReadsAs}
-use Rattle.items.specs.Kinds.{stringShape, changeShape, shapeOf, pointAfterKind, splitAfterKind, changeKind, pointKind, splitKind}
+use Rattle.items.specs.Kinds.{stringShape, changeShape, shapeOf, isGlobal, pointAfterKind, splitAfterKind, changeKind, pointKind, splitKind}
 use Rattle.items.specs.Words.{kindAt, StringIn}
 use Rattle.items.specs.Arguments.{stringStart, stringLength}
 use Rattle.items.specs.Simple.{CommandAt}
@@ -99,9 +99,9 @@ module _ (s w : List ℕ) (k kind : ℕ) (is : kind ≡ kindAt w k) where
   unfolding formOf
   aims-mean shape op h = meant-as s w k kind is aiming (rw shape) op h
 
-  alters-mean : shapeOf kind ≡ changeShape → (op : Op) (h : CommandAt s w k op) → Means s w k (h .end) kind changing op
+  alters-mean : shapeOf kind ≡ changeShape → isGlobal kind ≡ false → (op : Op) (h : CommandAt s w k op) → Means s w k (h .end) kind changing op
   unfolding formOf
-  alters-mean shape op h = meant-as s w k kind is changing (rw shape) op h
+  alters-mean shape other op h = meant-as s w k kind is changing (rw (shape, other)) op h
 
   pub aims-read : shapeOf kind ≡ stringShape → SomeCommand s w k → Readable s w (k + 1)
   unfolding Means
@@ -110,25 +110,25 @@ module _ (s w : List ℕ) (k kind : ℕ) (is : kind ≡ kindAt w k) where
       on : Means s w k (h .end) kind aiming op → Readable s w (k + 1)
       on (after, q, reads, which) = reads .fits
 
-  pub alters-read : shapeOf kind ≡ changeShape → SomeCommand s w k → Readable s w (k + 1)
+  pub alters-read : shapeOf kind ≡ changeShape → isGlobal kind ≡ false → SomeCommand s w k → Readable s w (k + 1)
   unfolding Means
-  alters-read shape (op, h) = on (alters-mean shape op h)
+  alters-read shape other (op, h) = on (alters-mean shape other op h)
     where
       on : Means s w k (h .end) kind changing op → Readable s w (k + 1)
       on (c, p, q, new, n, e, kinds, ends, reads, x, good) = reads .fits
 
   -- the second string's word is there, and its bytes are text of the script
-  module _ (shape : shapeOf kind ≡ changeShape) (at : ℕ) (at-is : at ≡ endAt w (k + 1)) where
+  module _ (shape : shapeOf kind ≡ changeShape) (other : isGlobal kind ≡ false) (at : ℕ) (at-is : at ≡ endAt w (k + 1)) where
     pub second-there : SomeCommand s w k → at < length w
     unfolding Means
-    second-there (op, h) = on (alters-mean shape op h)
+    second-there (op, h) = on (alters-mean shape other op h)
       where
         on : Means s w k (h .end) kind changing op → at < length w
         on (c, p, q, new, n, e, kinds, ends, reads, x, good) = omega (arith, at-is, reads .ends, ends, h .inside)
 
     pub second-good : (start : ℕ) → start ≡ stringStart (getD w at 0) → (len : ℕ) → len ≡ stringLength (getD w at 0) → SomeCommand s w k → Second s start (start + len)
     unfolding Means
-    second-good start start-is len len-is (op, h) = on (alters-mean shape op h)
+    second-good start start-is len len-is (op, h) = on (alters-mean shape other op h)
       where
         on : Means s w k (h .end) kind changing op → Second s start (start + len)
         on (c, p, q, new, n, e, kinds, ends, reads, x, good) = rw (start-is, len-is, at-is ∙ reads .ends) (second s (getD w n 0) new (script-short s (h .form)) x good)
@@ -137,7 +137,7 @@ module _ (s w : List ℕ) (k kind : ℕ) (is : kind ≡ kindAt w k) where
     pub points-as : shapeOf kind ≡ stringShape → splitBy kind ≡ false → PerformsOn table j st (Op.point (eqb kind pointAfterKind) (sought qs s from (from + len))) b r
         → PerformsAt s table w k j st b r
     unfolding Means
-    points-as shape other does op e c t h ready = on (aims-mean shape op h)
+    points-as shape other does op e c t h stands ready = on (aims-mean shape op h)
       where
         on : Means s w k (h .end) kind aiming op → Answered b r (step (lent j) op (state e c) t)
         on (after, q, reads, inl (o, kinds)) = rw o (rw (point-back kind after kinds .1, string-read s w (k + 1) (h .end) q reads qs from len q-is from-is len-is) at (does e c t ready))
@@ -146,17 +146,17 @@ module _ (s w : List ℕ) (k kind : ℕ) (is : kind ≡ kindAt w k) where
     pub splits-as : shapeOf kind ≡ stringShape → splitBy kind ≡ true → PerformsOn table j st (Op.split (eqb kind splitAfterKind) (sought qs s from (from + len))) b r
         → PerformsAt s table w k j st b r
     unfolding Means
-    splits-as shape this does op e c t h ready = on (aims-mean shape op h)
+    splits-as shape this does op e c t h stands ready = on (aims-mean shape op h)
       where
         on : Means s w k (h .end) kind aiming op → Answered b r (step (lent j) op (state e c) t)
         on (after, q, reads, inl (o, kinds)) = absurd (false≢true (sym (point-back kind after kinds .0) ∙ this))
         on (after, q, reads, inr (o, kinds)) = rw o (rw (split-back kind after kinds .1, string-read s w (k + 1) (h .end) q reads qs from len q-is from-is len-is) at (does e c t ready))
 
-    pub alters-as : shapeOf kind ≡ changeShape → (at : ℕ) → at ≡ endAt w (k + 1) → (start : ℕ) → start ≡ stringStart (getD w at 0) → (more : ℕ) → more ≡ stringLength (getD w at 0)
+    pub alters-as : shapeOf kind ≡ changeShape → isGlobal kind ≡ false → (at : ℕ) → at ≡ endAt w (k + 1) → (start : ℕ) → start ≡ stringStart (getD w at 0) → (more : ℕ) → more ≡ stringLength (getD w at 0)
         → (change : ℕ) → change ≡ changeBy kind → (points : Bool) → points ≡ pointingBy kind
         → PerformsOn table j st (Op.alter (changeOf change) points (sought qs s from (from + len)) (part s start (start + more))) b r → PerformsAt s table w k j st b r
     unfolding Means
-    alters-as shape at at-is start start-is more more-is change change-is points points-is does op e c t h ready = on (alters-mean shape op h)
+    alters-as shape other at at-is start start-is more more-is change change-is points points-is does op e c t h stands ready = on (alters-mean shape other op h)
       where
         new-is : (new : Line) (n : ℕ) → endAt w (k + 1) ≡ n → StringIn s (getD w n 0) new → part s start (start + more) ≡ new
         new-is new n ends x = rw (start-is, more-is, at-is ∙ ends) (string-part s (getD w n 0) new (script-short s (h .form)) x)

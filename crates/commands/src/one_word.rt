@@ -1,8 +1,11 @@
 // The commands of one word.
-ghost use Rattle.items.specs.Simple.{byteOp, wordOp};
+ghost use Rattle.items.specs.Simple.{byteOp, lineOp};
 ghost use Rattle.editor.specs.Current.{ShownOf, PerformsOf};
+ghost use Rattle.reading.specs.Carrying.{SomeStand};
+ghost use Rattle.commands.specs.Performing.{PerformsWith};
 use editor::Moved;
 use editor::State;
+use globals::none_stands;
 use items::kinds::COPY;
 use items::kinds::CUT_BYTE;
 use items::kinds::LEFT;
@@ -14,13 +17,18 @@ use items::kinds::QUIT;
 use items::kinds::RIGHT;
 
 // W, N, P, IC; and those on bytes.
-pub fn on_lines(kind: u32, table: &[u8], j: &mut [u8], st: State) -> Moved
-    requires { ⌜ ShownOf (now table) (now j) st ⌝ }
-    ensures { λ r. ⌜ PerformsOf (now (table .entry)) (now (j .entry)) st (wordOp kind) (now (j .exit)) r ⌝ }
+pub fn on_lines(script: &[u8], table: &[u8], w: &[u32], kind: u32, j: &mut [u8], st: State) -> Moved
+    requires { ⌜ SomeStand (now script) (now w) × ShownOf (now table) (now j) st ⌝ }
+    ensures { λ r. ⌜ PerformsWith (now (script .entry)) (now (table .entry)) (now (w .entry)) (now (j .entry)) st (lineOp kind) (now (j .exit)) r ⌝ }
 {
     match kind {
         QUIT => Moved::Stop(0, st),
-        NEXT => editor::moves::next_line(j, st),
+        NEXT => {
+            if none_stands(w) {
+                return editor::moves::next_line(j, st);
+            }
+            crate::passing::next_line(script, w, j, st)
+        }
         PREVIOUS => editor::moves::previous_line(j, st),
         COPY => editor::edits::copy_line(table, j, st),
         _ => on_bytes(kind, table, j, st),

@@ -1,6 +1,7 @@
 // The commands with a qualified string: PA, PB, SA, SB; A, B, E, AP, BP, EP.
 ghost use mathlib.Core.Path.{_≡_};
-ghost use Rattle.items.specs.Kinds.{stringShape, changeShape, shapeOf};
+ghost use mathlib.Core.Bool.{false};
+ghost use Rattle.items.specs.Kinds.{stringShape, changeShape, shapeOf, isGlobal};
 ghost use Rattle.items.specs.Words.{kindAt};
 ghost use Rattle.editor.specs.Current.{IsReady};
 ghost use Rattle.commands.specs.Performing.{splitBy, changeBy, pointingBy, SomeCommand, PerformsAt};
@@ -89,7 +90,7 @@ pub fn alters(
     j: &mut [u8],
     st: State,
 ) -> Moved
-    requires { ⌜ SomeCommand (now script) (now w) k × IsReady (now table) (now j) st × (kind ≡ kindAt (now w) k) × (shapeOf kind ≡ changeShape) ⌝ }
+    requires { ⌜ SomeCommand (now script) (now w) k × IsReady (now table) (now j) st × (kind ≡ kindAt (now w) k) × (shapeOf kind ≡ changeShape) × (isGlobal kind ≡ false) ⌝ }
     ensures { λ r. ⌜ PerformsAt (now (script .entry)) (now (table .entry)) (now (w .entry)) k (now (j .entry)) st (now (j .exit)) r ⌝ }
 {
     let at = k + 1;

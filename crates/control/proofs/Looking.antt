@@ -30,15 +30,15 @@ module _ (s w : List ℕ) (k m place : ℕ) (se : Search) where
   seek-place f small h = (item-reads s w k m (seek place f se) h .place small, item-reads s w k m (seek place f se) h .further)
 
   -- what begins it
-  pub asks-begin : (f : Seek) (x : Wanted) → x .what ≡ beginBy (kindAt w k) → SearchAt s w k m (head (seekKind f) place) se → Asks s w x (beginOp f)
+  pub asks-begin : {end : ℕ} (f : Seek) (x : Wanted) → x .what ≡ beginBy (kindAt w k) → SearchAt s w k m (head (seekKind f) place) se → Asks s w end x (beginOp f)
   unfolding beginBy beginOp seekKind
   asks-begin forward x e h = begins (e ∙ rw (seek-kind forward h))
   asks-begin backward x e h = begins-back (e ∙ rw (seek-kind backward h))
   asks-begin deleting x e h = begins (e ∙ rw (seek-kind deleting h))
 
   -- what tests a line
-  pub asks-look : (f : Seek) (x : Wanted) (lines : ℕ) → x .what ≡ lookBy (kindAt w k) → x .item ≡ k → x .lines ≡ lines → SearchAt s w k m (head (seekKind f) place) se
-      → Asks s w x (lookOp f se lines)
+  pub asks-look : {end : ℕ} (f : Seek) (x : Wanted) (lines : ℕ) → x .what ≡ lookBy (kindAt w k) → x .item ≡ k → x .lines ≡ lines → SearchAt s w k m (head (seekKind f) place) se
+      → Asks s w end x (lookOp f se lines)
   unfolding lookOp lookBy seekKind
   asks-look forward x lines e item li h = finds se (e ∙ rw (seek-kind forward h)) (rw item (search-of s w k m place (head findKind place) se h))
   asks-look backward x lines e item li h = finds-back se (e ∙ rw (seek-kind backward h)) (rw item (search-of s w k m place (head findBackKind place) se h))

@@ -7,19 +7,31 @@ use Prim.Native.Nat.{ℕ, _+_, _*_, _≤_, _<_}
 use native.Mathlib.Omega.{arith}
 use lib.ListN.{length, getD, set, length-set}
 use lib.Seq.{getD-set-same, getD-set-other}
-use Rattle.definitions.specs.Control.{Opener, times, forever, bare, branch, loop, Item, simple, seek, opens, bracket, close, otherwise, leave, lineEnd, Frame, frame, running, pullAt, pull}
+use Rattle.definitions.specs.Control.{Opener, times, forever, bare, branch, loop, Item, simple, seek, opens, bracket, close, otherwise, leave, lineEnd, Frame, frame, Ctl, running, skipping, failing, leaving, seeking, pullAt, pull}
 use Rattle.theorems.specs.NestingLaws.{mayBracket}
 use Rattle.items.specs.Words.{ItemAt, ItemsAt}
 use Rattle.items.specs.Ends.{placeOf}
 use Rattle.control.specs.Items.{countOf, startsGroup, Proper}
 use Rattle.items.specs.Depth.{openAfter}
 use Rattle.items.specs.Reserve.{reserve}
-use Rattle.control.specs.Shown.{ItemsKept, ItemsFrom, OpenedAt, FrameAt, FramesAt, InFrames, entered, Runs}
+use Rattle.control.specs.Shown.{ItemsKept, ItemsFrom, OpenedAt, FrameAt, FramesAt, InFrames, entered, Runs, ShowsCtl}
+use Rattle.control.specs.declared.Control.{Control}
 use Rattle.items.proofs.Deepest.{deepest-low, deepest-next, deepest-more}
 use Rattle.items.proofs.Reading.{item-reads, items-end}
-use Rattle.items.proofs.Keeping.{items-kept, item-kept, opener-kept, times-kept}
+use Rattle.items.proofs.Keeping.{items-kept, item-kept, opener-kept, times-kept, search-kept}
 
 -- ---- words that stay
+
+-- the words below n stay
+pub record WordsKept (w w′ : List ℕ) (n : ℕ) : Type 0 where
+  pub as-long : length w′ ≡ length w
+  pub same : (i : ℕ) → i < n → getD w′ i 0 ≡ getD w i 0
+
+pub words-kept : (w w′ : List ℕ) (n : ℕ) → ItemsKept w w′ n → WordsKept w w′ n
+words-kept w w′ n h = record { as-long = h .as-long; same = h .same }
+
+pub words-less : (w w′ : List ℕ) (n m : ℕ) → m ≤ n → WordsKept w w′ n → WordsKept w w′ m
+words-less w w′ n m le h = record { as-long = h .as-long; same = λ i lt. h .same i (omega arith) }
 
 pub kept-less : (w w′ : List ℕ) (n m : ℕ) → m ≤ n → ItemsKept w w′ n → ItemsKept w w′ m
 kept-less w w′ n m le h = record { as-long = h .as-long; same = λ i lt. h .same i (omega arith); top = h .top }
@@ -54,7 +66,7 @@ module _ (s w : List ℕ) (end : ℕ) where
   stands-less k d d′ items le h =
       record { lie = h .lie; proper = h .proper; short = h .short; room = omega (arith, h .room, deepest-more d′ d items le) }
 
-  pub stands-kept : (w′ : List ℕ) → ItemsKept w w′ end → (k d : ℕ) (items : List Item) → ItemsFrom s w end k d items → ItemsFrom s w′ end k d items
+  pub stands-kept : (w′ : List ℕ) → WordsKept w w′ end → (k d : ℕ) (items : List Item) → ItemsFrom s w end k d items → ItemsFrom s w′ end k d items
   stands-kept w′ ke k d items h =
       record {
         lie = items-kept s w w′ end (ke .same) (omega (arith, h .room, ke .as-long)) k items (h .lie);
@@ -98,7 +110,7 @@ module _ (s w : List ℕ) (end : ℕ) where
 
 -- ---- the bodies' words
 
-module _ (s w w′ : List ℕ) (end n : ℕ) (ke : ItemsKept w w′ n) (le : end ≤ n) (long : end ≤ length w) where
+module _ (s w w′ : List ℕ) (end n : ℕ) (ke : WordsKept w w′ n) (le : end ≤ n) (long : end ≤ length w) where
   pub opened-kept : (k m place : ℕ) (o : Opener) (left : ℕ) → m ≤ end → OpenedAt s w k m place o left → OpenedAt s w′ k m place o left
   unfolding OpenedAt
   opened-kept k m place (times c) left lt h =
@@ -124,11 +136,11 @@ module _ (s w w′ : List ℕ) (end n : ℕ) (ke : ItemsKept w w′ n) (le : end
         word = ke .same j room ∙ h .word;
         before = h .before;
         small = h .small;
-        stands = stands-kept s w end w′ (kept-less w w′ n end le ke) (h .start) d body (h .stands);
+        stands = stands-kept s w end w′ (words-less w w′ n end le ke) (h .start) d body (h .stands);
         group = h .group;
       }
 
-pub frames-kept : (s w w′ : List ℕ) (end n : ℕ) → ItemsKept w w′ n → end ≤ length w → (frames : List Frame) → end + length frames ≤ n → FramesAt s w end frames → FramesAt s w′ end frames
+pub frames-kept : (s w w′ : List ℕ) (end n : ℕ) → WordsKept w w′ n → end ≤ length w → (frames : List Frame) → end + length frames ≤ n → FramesAt s w end frames → FramesAt s w′ end frames
 unfolding FramesAt
 frames-kept s w w′ end n ke long [] le h = h
 frames-kept s w w′ end n ke long (frame g place o body ∷ frames) le h = (
@@ -155,14 +167,14 @@ module _ (s w : List ℕ) (end : ℕ) (frames : List Frame) where
             item = item;
             start = start;
             left = left;
-            opened = opened-kept s w w′ end (end + length frames) ke (omega arith) long item start place o left inside opened;
+            opened = opened-kept s w w′ end (end + length frames) (words-kept w w′ (end + length frames) ke) (omega arith) long item start place o left inside opened;
             word = rw written (ap (λ (x : ℕ). getD (set w (end + depth) (item + 65536 * left)) (end + x) 0) (sym (h .deep)) ∙ getD-set-same w (end + depth) (item + 65536 * left) 0 (omega (arith, room)));
             before = before;
             small = small;
             stands = stands-less s w′ end start (depth + 1) (length frames + 1) body (omega (arith, h .deep)) stood;
             group = refl;
           },
-          frames-kept s w w′ end (end + length frames) ke long frames (omega arith) (h .framed),
+          frames-kept s w w′ end (end + length frames) (words-kept w w′ (end + length frames) ke) long frames (omega arith) (h .framed),
         );
         deep = omega (arith, h .deep);
       }
@@ -180,7 +192,7 @@ module _ (s w : List ℕ) (end : ℕ) (frames : List Frame) where
       ke = kept-written w w′ (end + length frames) (end + depth) (item + 65536 * left) written (omega (arith, h .deep)) (omega (arith, room))
 
       stood : ItemsFrom s w′ end start (depth + 1) body
-      stood = stands-kept s w end w′ (kept-less w w′ (end + length frames) end (omega arith) ke) start (depth + 1) body (h .stands)
+      stood = stands-kept s w end w′ (words-kept w w′ end (kept-less w w′ (end + length frames) end (omega arith) ke)) start (depth + 1) body (h .stands)
 
 -- ---- at the start of a group
 
@@ -215,3 +227,34 @@ pull-entered (leave at ∷ items) (frame g place o body ∷ frames) = refl
 pull-entered (simple at op ∷ items) (frame g place o body ∷ frames) = refl
 pull-entered (seek at f se ∷ items) (frame g place o body ∷ frames) = refl
 pull-entered (opens at p ∷ items) (frame g place o body ∷ frames) = refl
+
+-- ---- words of the reserve are written
+
+module _ (s w w′ : List ℕ) (end n : ℕ) (ke : WordsKept w w′ n) (below : n + reserve ≡ length w) where
+  frames-stay : (k depth d : ℕ) (items : List Item) (frames : List Frame) → depth ≤ d → InFrames s w end k depth d items frames → InFrames s w′ end k depth d items frames
+  frames-stay k depth d items frames le h =
+      let room = stands-in s w end k d items (h .stands) in
+      let less : end + length frames ≤ n = omega (arith, room .2, h .deep, below, le) in
+      record {
+        stands = stands-kept s w end w′ (words-less w w′ n end (omega (arith, less)) ke) k d items (h .stands);
+        framed = frames-kept s w w′ end n ke (omega (arith, less, below)) frames less (h .framed);
+        deep = h .deep;
+      }
+
+  -- where the run stands it still stands
+  pub ctl-stays : (c : Control) (from : Ctl) → ShowsCtl s w end c from → ShowsCtl s w′ end c from
+  unfolding ShowsCtl
+  ctl-stays c (running items frames) h = (h .0, frames-stay _ _ _ items (entered items frames) (omega arith) (h .1))
+  ctl-stays c (skipping k items frames) h = (h .0, h .1, h .2, frames-stay _ _ _ items frames (omega arith) (h .3))
+  ctl-stays c (failing k items frames) h = (h .0, h .1, h .2, frames-stay _ _ _ items frames (omega arith) (h .3))
+  ctl-stays c (leaving items) h =
+      let room = stands-in s w end (c .at) (h .1 .0) items (h .1 .1) in
+      (h .0, (h .1 .0, stands-kept s w end w′ (words-less w w′ n end (omega (arith, room .2, below)) ke) (c .at) (h .1 .0) items (h .1 .1)))
+  ctl-stays c (seeking place f se k items frames) h =
+      let room = stands-in s w end (c .at) (c .depth) items (h .4 .stands) in (
+        h .0,
+        h .1,
+        h .2,
+        search-kept s w w′ end (λ i lt. ke .same i (omega (arith, lt, room .2, below))) (omega (arith, room .2, ke .as-long)) (c .item) (c .at) _ se (room .0) (h .3),
+        frames-stay _ _ _ items (entered items frames) (omega arith) (h .4),
+      )

@@ -24,7 +24,7 @@ use Rattle.control.specs.declared.Wanted.{Wanted}
 use Rattle.control.specs.declared.Next.the-variants.{Want}
 use Rattle.control.specs.declared.Step.{Step}
 use Rattle.control.specs.declared.Step.the-variants.{On, Gives}
-use Rattle.control.proofs.Standing.{stands-in, within-word, runs-body, kept-less, kept-written, frames-kept, stands-kept}
+use Rattle.control.proofs.Standing.{stands-in, within-word, runs-body, words-kept, kept-less, kept-written, frames-kept, stands-kept}
 use Rattle.control.proofs.Tests.{asks-branch, asks-loop}
 
 -- ---- answers of a step
@@ -159,8 +159,8 @@ module _ (w : List ℕ) (end at next depth kind way : ℕ) (kind-is : kind ≡ k
           let i = opening-in s w end at next depth place o items frames h in
           let ke : ItemsKept w w′ (end + depth) = kept-written w w′ (end + depth) (end + depth) (at + 65536 * left) pushed (omega arith) (omega (arith, i)) in
           record {
-            stands = stands-kept s w end w′ (kept-less w w′ (end + depth) end (omega arith) ke) next (depth + 1) items (h .rest .stands);
-            framed = frames-kept s w w′ end (end + depth) ke (omega (arith, i)) frames (omega (arith, h .rest .deep)) (h .rest .framed);
+            stands = stands-kept s w end w′ (words-kept w w′ end (kept-less w w′ (end + depth) end (omega arith) ke)) next (depth + 1) items (h .rest .stands);
+            framed = frames-kept s w w′ end (end + depth) (words-kept w w′ (end + depth) ke) (omega (arith, i)) frames (omega (arith, h .rest .deep)) (h .rest .framed);
             deep = h .rest .deep;
           }
 

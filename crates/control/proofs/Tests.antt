@@ -22,13 +22,13 @@ module _ (s w : List ℕ) (k m place : ℕ) where
     searched : (first : ℕ) (se : Search) → SearchAt s w k m first se → SearchOf s w (x .item) se
     searched first se h = rw item (search-of first se h)
 
-    pub asks-branch : (c : Test) → x .what ≡ testBy (kindAt w k) → OpenerAt s w k m place (branch c) → Asks s w x (test c)
+    pub asks-branch : {end : ℕ} (c : Test) → x .what ≡ testBy (kindAt w k) → OpenerAt s w k m place (branch c) → Asks s w end x (test c)
     unfolding OpenerAt SearchAt testBy
     asks-branch (is se) e h = holds se (e ∙ rw (kind-word s w k m place ifKind (omega arith) (h .0))) (searched (head ifKind place) se h)
     asks-branch (isNot se) e h = holds-not se (e ∙ rw (kind-word s w k m place unlessKind (omega arith) (h .0))) (searched (head unlessKind place) se h)
     asks-branch isEof e h = at-eof (e ∙ rw (kind-word s w k m place ifEofKind (omega arith) (h .1)))
 
-    pub asks-loop : (c : Test) → x .what ≡ testBy (kindAt w k) → OpenerAt s w k m place (loop c) → Asks s w x (test c)
+    pub asks-loop : {end : ℕ} (c : Test) → x .what ≡ testBy (kindAt w k) → OpenerAt s w k m place (loop c) → Asks s w end x (test c)
     unfolding OpenerAt SearchAt testBy
     asks-loop (is se) e h = holds se (e ∙ rw (kind-word s w k m place whileKind (omega arith) (h .0))) (searched (head whileKind place) se h)
     asks-loop (isNot se) e h = holds-not se (e ∙ rw (kind-word s w k m place untilKind (omega arith) (h .0))) (searched (head untilKind place) se h)

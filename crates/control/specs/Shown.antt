@@ -131,24 +131,24 @@ lookBy kind = cond (eqb kind findKind) Find (cond (eqb kind findBackKind) FindBa
 unfoldable pub SearchOf : List ℕ → List ℕ → ℕ → Search → Type 0
 SearchOf s w k se = Encodes s w (k + 2) (getD w (k + 1) 0) se
 
--- what is asked of the editor; the words of a simple command lie inside the work area
-pub data Asks (s w : List ℕ) (x : Wanted) : Op → Type 0 where
-  a-round : x .what ≡ Round → Asks s w x onlyStep
-  holds : (se : Search) → x .what ≡ Holds → SearchOf s w (x .item) se → Asks s w x (test (is se))
-  holds-not : (se : Search) → x .what ≡ HoldsNot → SearchOf s w (x .item) se → Asks s w x (test (isNot se))
-  at-eof : x .what ≡ AtEof → Asks s w x (test isEof)
-  begins : x .what ≡ Begin → Asks s w x begin
-  begins-back : x .what ≡ BeginBack → Asks s w x beginBack
-  finds : (se : Search) → x .what ≡ Find → SearchOf s w (x .item) se → Asks s w x (find se)
-  finds-back : (se : Search) → x .what ≡ FindBack → SearchOf s w (x .item) se → Asks s w x (findBack se)
-  deletes : (se : Search) (k : ℕ) → x .what ≡ FindDelete → x .lines ≡ k → SearchOf s w (x .item) se → Asks s w x (findDelete se k)
-  simply : (op : Op) (m : ℕ) → x .what ≡ Command → OpAt s w (x .item) m (x .place) op → m ≤ length w → Asks s w x op
+-- what is asked of the editor; the words of a simple command lie below `end`
+pub data Asks (s w : List ℕ) (end : ℕ) (x : Wanted) : Op → Type 0 where
+  a-round : x .what ≡ Round → Asks s w end x onlyStep
+  holds : (se : Search) → x .what ≡ Holds → SearchOf s w (x .item) se → Asks s w end x (test (is se))
+  holds-not : (se : Search) → x .what ≡ HoldsNot → SearchOf s w (x .item) se → Asks s w end x (test (isNot se))
+  at-eof : x .what ≡ AtEof → Asks s w end x (test isEof)
+  begins : x .what ≡ Begin → Asks s w end x begin
+  begins-back : x .what ≡ BeginBack → Asks s w end x beginBack
+  finds : (se : Search) → x .what ≡ Find → SearchOf s w (x .item) se → Asks s w end x (find se)
+  finds-back : (se : Search) → x .what ≡ FindBack → SearchOf s w (x .item) se → Asks s w end x (findBack se)
+  deletes : (se : Search) (k : ℕ) → x .what ≡ FindDelete → x .lines ≡ k → SearchOf s w (x .item) se → Asks s w end x (findDelete se k)
+  simply : (op : Op) (m : ℕ) → x .what ≡ Command → OpAt s w (x .item) m (x .place) op → m ≤ end → Asks s w end x op
 
 -- a step that is wanted: its place, its operation, and how to go on; no search has passed more than n lines then
 pub record ShowsWant (s w : List ℕ) (end n : ℕ) (x : Wanted) (place : ℕ) (op : Op) (c₁ c₀ : Ctl) : Type 0 where
   pub at-place : x .place ≡ place
   pub few : x .lines ≤ n
-  pub asks : Asks s w x op
+  pub asks : Asks s w end x op
   pub yes-shows : ShowsCtl s w end (x .yes) c₁
   pub no-shows : ShowsCtl s w end (x .no) c₀
   pub yes-few : x .yes .lines ≤ n

@@ -133,3 +133,37 @@ wishOneCases =
 pub wish-one : map computed wishOneCases ≡ map stated wishOneCases
 unfolding everything printed programPrints computed stated largest same wishOneCases
 wish-one = refl
+
+-- ---- document 02, wish 2: GE, GA, GB, CG
+
+unfoldable pub wishTwoCases : List Case
+wishTwoCases =
+    -- a line is changed when it is first read, not the one that is current when GE is given; CG cancels (W2.4)
+    case largest "a\na\na\n" "GE/a/b/; N; CG\n" (answer 0 3 2 0 (same "a" ∷ changed (bytes "a") (bytes "b") ∷ same "a" ∷ []))
+    -- a done run's unread lines go through the globals, without counting as read (W2.11)
+    ∷ case largest "a\na\na\n" "GE/a/b/; N\n" (answer 0 2 2 0 (same "a" ∷ changed (bytes "a") (bytes "b") ∷ changed (bytes "a") (bytes "b") ∷ []))
+    -- the changes stay where the reading command then stops, with 21 or 29 (W2.5, W2.10)
+    ∷ case largest "a\na\na\n" "GE/a/b/; M 9\n" (answer 21 2 4 9 (same "a" ∷ changed (bytes "a") (bytes "b") ∷ changed (bytes "a") (bytes "b") ∷ []))
+    ∷ case 3 "a\na\n" "GE/a/b/; F/z/\n" (answer 29 3 2 9 (same "a" ∷ changed (bytes "a") (bytes "b") ∷ []))
+    -- in the order given, all occurrences, in the text as it then stands (W2.6)
+    ∷ case largest "a\nab\n" "GA/a/1/; GB/a/2/; GE/1/11/; N\n" (answer 0 4 2 0 (same "a" ∷ changed (bytes "ab") (bytes "2a11b") ∷ []))
+    ∷ case largest "\naaa\n" "GE/aa/b/; GE/ba/a/; N\n" (answer 0 3 2 0 (same "" ∷ changed (bytes "aaa") (bytes "a") ∷ []))
+    -- a text equal to the old line makes a kept record; F tests, and CL joins, the text after the globals (W2.6, W2.9)
+    ∷ case largest "a\nb\n" "GE/b/c/; GE/c/b/; N\n" (answer 0 3 2 0 (same "a" ∷ same "b" ∷ []))
+    ∷ case largest "a\nb\n" "GE/b/c/; F/c/\n" (answer 0 4 2 0 (same "a" ∷ changed (bytes "b") (bytes "c") ∷ []))
+    ∷ case largest "a\nb\n" "GE/b/cc/; CL//\n" (answer 0 2 2 0 (changed (bytes "a") (bytes "acc") ∷ deleted (bytes "b") ∷ []))
+    -- D has read the next line before it deletes (W2.9); inserted lines are not acted on (W2.4)
+    ∷ case largest "a\na\na\n" "GE/a/b/; IS/a/; D\n" (answer 0 3 2 0 (inserted (bytes "a") ∷ deleted (bytes "a") ∷ changed (bytes "a") (bytes "b") ∷ changed (bytes "a") (bytes "b") ∷ []))
+    -- a stop among the unread lines leaves all of them kept, and has the script's length as place (W2.12)
+    ∷ case largest "a\na\nb\n" "GE/a/c/; 4 GE/b/bbbb/\n" (answer 25 9 1 22 (same "a" ∷ same "a" ∷ same "b" ∷ []))
+    -- sixteen may stand, and after CG sixteen more (W2.3)
+    ∷ case largest "a\n" "16 GE/a/a/; CG; 17 GE/a/a/\n" (answer 31 67 1 19 (same "a" ∷ []))
+    -- the two strings are read as E's; the first may not be empty, and takes no qualifier (W2.1, W2.2)
+    ∷ case largest "\na\n" "GE/a\nN; CG 2P\n" (answer 22 7 2 12 (same "" ∷ changed (bytes "a") (bytes "") ∷ []))
+    ∷ case largest "a\n" "GE//b/\n" (refusal 4 2)
+    ∷ case largest "a\n" "GE B/a/b/\n" (refusal 3 3)
+    ∷ []
+
+pub wish-two : map computed wishTwoCases ≡ map stated wishTwoCases
+unfolding everything printed programPrints computed stated largest same wishTwoCases
+wish-two = refl

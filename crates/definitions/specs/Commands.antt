@@ -1,4 +1,4 @@
--- The commands' names and arguments (document 01, "Commands"; numbers 2, 3, 5 and 6; document 02, wish 1).
+-- The commands' names and arguments (document 01, "Commands"; numbers 2, 3, 5 and 6; document 02, wishes 1 and 2).
 use mathlib.Core.Bool.{Bool, true, false, cond, _&&_, _||_}
 use mathlib.Core.Option.{Option, none, some}
 use mathlib.Core.List.{List, [], _∷_}
@@ -8,11 +8,11 @@ use lib.ListN.{length, drop}
 use lib.Dec.{eqb}
 use Rattle.definitions.specs.Bytes.{Line, linesOf}
 use Rattle.definitions.specs.Editor.{Target, here, line, eof, Through, alone, upTo, toEof}
-use Rattle.definitions.specs.Edit.{Change, afterIt, beforeIt, exchange, Test, is, isNot, isEof, Op, quit, move, nextLine, previousLine, delete, replace, insert, copy, alter, split, join, point, pointStart, right, left, cutByte, recase}
+use Rattle.definitions.specs.Edit.{Change, afterIt, beforeIt, exchange, Test, is, isNot, isEof, Op, quit, move, nextLine, previousLine, delete, replace, insert, copy, alter, split, join, addGlobal, cancelGlobals, point, pointStart, right, left, cutByte, recase}
 use Rattle.definitions.specs.Search.{Search}
 use Rattle.definitions.specs.Control.{Seek, forward, backward, deleting, forever, branch, loop, Item, simple, seek, opens, leave}
 use Rattle.definitions.specs.Reader.{Cursor, cursor, Got, got, refused, andThen, placeAt, afterByte, isNext, skipSpaces, skipComment, isDigitNext, number, name, packed, isToken, afterToken, quoted}
-use Rattle.definitions.specs.Strings.{Pair, pair, qualifiedString, twoStrings, searchExpression}
+use Rattle.definitions.specs.Strings.{Pair, pair, qualifiedString, twoStrings, twoPlainStrings, searchExpression}
 
 -- ---- names
 
@@ -41,6 +41,8 @@ pub data Shape : Type 0 where
   -- SA, SB: a qualified string; CL: a string (document 02, wish 1)
   splits : Bool → Shape
   joins : Shape
+  -- GE, GA, GB: two unqualified strings (document 02, wish 2)
+  globals : Change → Shape
   -- RPT, and a command or group
   repeats : Shape
   -- IF, UL: a search expression, THEN or not, and a command or group; IFEOF without the search expression
@@ -63,6 +65,7 @@ commandTable =
     ∷ row "AP" (alters afterIt true) ∷ row "BP" (alters beforeIt true) ∷ row "EP" (alters exchange true)
     ∷ row "PA" (points true) ∷ row "PB" (points false) ∷ row "PR" (plain pointStart)
     ∷ row "SA" (splits true) ∷ row "SB" (splits false) ∷ row "CL" joins
+    ∷ row "GE" (globals exchange) ∷ row "GA" (globals afterIt) ∷ row "GB" (globals beforeIt) ∷ row "CG" (plain cancelGlobals)
     ∷ row ">" (plain right) ∷ row "<" (plain left) ∷ row "#" (plain cutByte) ∷ row "$" (plain (recase false)) ∷ row "%" (plain (recase true))
     ∷ row "RPT" repeats ∷ row "IF" (branches true) ∷ row "UL" (branches false) ∷ row "IFEO" branchesEof
     ∷ row "WH" (loops true) ∷ row "UT" (loops false) ∷ row "AGP" leaves ∷ row "W" (plain quit) ∷ []
@@ -189,6 +192,8 @@ decode inGroup at (points after) c = andThen (qualifiedString false c) (λ q c�
 -- SA, SB as PA (W1.1); CL: the string must stand, unqualified (W0.5, W1.5)
 decode inGroup at (splits after) c = andThen (qualifiedString false c) (λ q c₁. got (whole (simple at (split after q))) c₁)
 decode inGroup at joins c = andThen (quoted (skipSpaces c)) (λ s c₁. got (whole (simple at (join s))) c₁)
+-- GE, GA, GB (W2.1)
+decode inGroup at (globals ch) c = andThen (twoPlainStrings c) (λ x c₁. got (whole (simple at (addGlobal ch (x .0) (x .1)))) c₁)
 decode inGroup at repeats c = got (prefix false (opens at forever)) c
 decode inGroup at (branches b) c =
     andThen (searchExpression c) (λ se c₁. got (prefix true (opens at (branch (testOf b se)))) (skipThen c₁))

@@ -1,5 +1,5 @@
 -- What one step reads, tests and does, a program for each command (document 01, "Commands"; numbers 20 to 28 of "Who causes which number"; document 02, wish 1:
--- SA, SB, CL, number 30). The lines of a program stand in document 01's order of tests.
+-- SA, SB, CL, number 30; wish 2: GE, GA, GB, CG, number 31). The lines of a program stand in document 01's order of tests.
 use mathlib.Core.Bool.{Bool, true, false, not}
 use mathlib.Core.Option.{Option, none, some}
 use mathlib.Core.List.{List, [], _∷_, _++_}
@@ -11,10 +11,10 @@ use Rattle.definitions.specs.Journal.{Record, kept, changed, deleted, in
 use Rattle.definitions.specs.Matching.{Qualified, placeOf, stringIn}
 use Rattle.definitions.specs.Search.{Search, holds, holdsAtEof}
 use Rattle.definitions.specs.Tape.{Reads}
-use Rattle.definitions.specs.Given.{Given}
+use Rattle.definitions.specs.Given.{Given, Global, global}
 use Rattle.definitions.specs.Editor.{Ed, ed, records, sources, beforeOf, afterOf, current, hasLive, firstLive, Stop, n20, n21, n22, n23, n24, n25, n27, n28, n30}
 use Rattle.definitions.specs.Editor.{Target, line, eof, Through, alone, upTo, toEof, Move, ahead, back, to, pointTo, strike, strikeBack, strikeNext, put, retext}
-use Rattle.definitions.specs.StepProgram.{Program, gives, stops, looks, reads, moves, _>>=_, _>>_, RunState, Did, answers, changes, quits, Out, perform}
+use Rattle.definitions.specs.StepProgram.{Program, gives, stops, looks, reads, moves, _>>=_, _>>_, RunState, Did, answers, changes, quits, adds, cancels, Out, perform}
 
 -- A, B and E: insert after, before, or exchange
 pub data Change : Type 0 where
@@ -49,6 +49,9 @@ pub data Op : Type 0 where
   -- SA (true), SB; CL (document 02, wish 1)
   split : Bool → Qualified → Op
   join : Line → Op
+  -- GA, GB, GE; CG (document 02, wish 2)
+  addGlobal : Change → Line → Line → Op
+  cancelGlobals : Op
   -- PA (true), PB; PR; > and <
   point : Bool → Qualified → Op
   pointStart right left : Op
@@ -207,6 +210,14 @@ writeJoined l q = do
   stopIf n25 (ltb 255 (length l))
   gives (changes (retext l q ∷ strikeNext ∷ []))
 
+-- ---- changes for every line passed (document 02, wish 2)
+
+-- what GE, GA or GB with these two strings puts for the first: "GA puts its second string after each occurrence, GB before it" (W2.6)
+unfoldable pub globalBy : Change → Line → Line → Global
+globalBy afterIt s new = global s (s ++ new)
+globalBy beforeIt s new = global s (new ++ s)
+globalBy exchange s new = global s new
+
 -- ---- D
 
 -- how many records there are through the one after `k` source records of `rs`, n standing before `rs`; 21 and 23 as in a move
@@ -311,6 +322,9 @@ program (join s) = do
   (l, p) ← lineOr n20
   next ← nextOr30
   writeJoined (l ++ (s ++ next)) p
+-- GE, GA, GB, CG: nothing is read, and no record changed (W2.3, W2.4)
+program (addGlobal c s new) = gives (adds (globalBy c s new))
+program cancelGlobals = gives cancels
 -- PA, PB, PR, >, <
 program (point after q) = do
   (l, p) ← lineOr n20

@@ -65,9 +65,9 @@ firstLive (inserted l ∷ rs) = some l
 
 -- ---- numbers
 
--- the numbers with which a command stops before its end ("The run: 20 .."; 30 of document 02, wish 1)
+-- the numbers with which a command stops before its end ("The run: 20 .."; document 02: 30 of wish 1, 31 of wish 2)
 pub data Stop : Type 0 where
-  n20 n21 n22 n23 n24 n25 n26 n27 n28 n30 : Stop
+  n20 n21 n22 n23 n24 n25 n26 n27 n28 n30 n31 : Stop
 
 unfoldable pub stopNumber : Stop → ℕ
 stopNumber n20 = 20
@@ -80,6 +80,7 @@ stopNumber n26 = 26
 stopNumber n27 = 27
 stopNumber n28 = 28
 stopNumber n30 = 30
+stopNumber n31 = 31
 
 -- an answer, or the number to stop with
 pub data Got (A : Type 0) : Type 0 where

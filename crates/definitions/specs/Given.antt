@@ -1,6 +1,8 @@
 -- What a run is given beside its table, script and budget, and what it carries from step to step beside the text (document 01, "Tables and the
--- journal"). The wishes of document 02 add to both; a command that does not look at them does not name them.
+-- journal"; document 02, wish 2: the standing globals). Later wishes add to both; a command that does not look at them does not name them.
+use mathlib.Core.List.{List, []}
 use Prim.Native.Nat.{ℕ}
+use Rattle.definitions.specs.Bytes.{Line}
 
 -- the journal buffer: so many bytes; or without bounds, which only theorems speak of
 pub data Room : Type 0 where
@@ -11,6 +13,14 @@ pub data Room : Type 0 where
 pub data Given : Type 0 where
   given : Room → Given
 
--- what one step may leave to the next beside the text: nothing yet
+-- a change for every line passed: a string, and what comes to stand for each of its occurrences (W2.6)
+pub data Global : Type 0 where
+  global : Line → Line → Global
+
+-- what one step may leave to the next beside the text: the standing globals, in the order given
 pub data Carried : Type 0 where
-  carried : Carried
+  carried : List Global → Carried
+
+-- none stands, as where a run begins
+unfoldable pub noGlobals : Carried
+noGlobals = carried []

@@ -7,6 +7,7 @@ pub mod Search
 pub mod Tape
 pub mod Given
 pub mod Editor
+pub mod Globals
 pub mod Reading
 pub mod StepProgram
 pub mod Edit

@@ -1,5 +1,5 @@
 -- The run: steps, budget, the order of refusals, the answer and the journal buffer afterwards (document 01, "Commands": steps; "Who causes
--- which number").
+-- which number"; document 02, wish 2: the unread lines of a done run).
 use mathlib.Core.Bool.{Bool, true, false, cond}
 use mathlib.Core.List.{List, [], _++_, map}
 use Prim.Native.Nat.{ℕ, zero, suc, _+_, _-_, _*_}
@@ -9,9 +9,9 @@ use Rattle.definitions.specs.Bytes.{Line, linesOf}
 use Rattle.definitions.specs.Table.{isTable, isScript}
 use Rattle.definitions.specs.Journal.{Record, kept, journalBytes, journalLength}
 use Rattle.definitions.specs.Tape.{Tape, unread, Reads, ret, bind}
-use Rattle.definitions.specs.Given.{bytes, Given, given, carried}
-use Rattle.definitions.specs.Editor.{journal, furthest}
-use Rattle.definitions.specs.Reading.{opening}
+use Rattle.definitions.specs.Given.{bytes, Given, given, noGlobals}
+use Rattle.definitions.specs.Editor.{Ed, records, journal, furthest, stopNumber, eof}
+use Rattle.definitions.specs.Reading.{Ran, gave, stopped, readTo, opening}
 use Rattle.definitions.specs.StepProgram.{RunState, state, textOf, Out, on, edited, halt}
 use Rattle.definitions.specs.Edit.{Op, step}
 use Rattle.definitions.specs.Control.{Item, Ctl, running, Pull, finished, want, lost, pull}
@@ -55,7 +55,7 @@ run take-step zero steps c s = ret (spent steps s (pull c))
 run take-step (suc budget) steps c s = stepping take-step (λ c′ s′. run take-step budget (suc steps) c′ s′) steps s (pull c)
 
 unfoldable pub runItems : (Op → RunState → Reads Out) → ℕ → List Item → Reads End
-runItems take-step budget is = bind opening (λ e. run take-step budget 0 (running is []) (state e carried))
+runItems take-step budget is = bind opening (λ e. run take-step budget 0 (running is []) (state e noGlobals))
 
 -- ---- the answer
 
@@ -64,11 +64,19 @@ pub data Answer : Type 0 where
   answer : ℕ → ℕ → ℕ → ℕ → List Record → Answer
   refusal : ℕ → ℕ → Answer
 
-unfoldable pub answerOf : End → Tape → Answer
-answerOf (end n steps at s) t = answer n steps (furthest (textOf s) t) at (journal (textOf s) t)
+-- the script is done, and the lines that it left unread are passed through the standing globals, "without counting as read" (W2.11): all of them, or none
+-- where they stop "among them after the script's end, with the script's length as place" (W2.12)
+unfoldable pub restPassed : ℕ → ℕ → Ed → Tape → Ran (Unit {0}) → Answer
+restPassed steps place e t (gave u all) = answer 0 steps (furthest e t) 0 (records all)
+restPassed steps place e t (stopped n e′) = answer (stopNumber n) steps (furthest e t) place (journal e t)
 
-unfoldable pub ranItems : (Op → RunState → Reads Out) → ℕ → List Item → List Line → Answer
-ranItems take-step budget is ls = let r = runItems take-step budget is (unread ls) in answerOf (r .0) (r .1)
+-- the answer of a run that is given g and ends so, the script having `place` bytes; "A stopped run leaves its unread lines kept"
+unfoldable pub answerOf : Given → ℕ → End → Tape → Answer
+answerOf g place (end zero steps at (state e c)) t = restPassed steps place e t ((readTo g c eof e t) .0)
+answerOf g place (end (suc n) steps at s) t = answer (suc n) steps (furthest (textOf s) t) at (journal (textOf s) t)
+
+unfoldable pub ranItems : Given → ℕ → ℕ → List Item → List Line → Answer
+ranItems g place budget is ls = let r = runItems (step g) budget is (unread ls) in answerOf g place (r .0) (r .1)
 
 -- "9 journal buffer shorter than the opening journal", which keeps every source line
 unfoldable pub openingLength : List Line → ℕ
@@ -78,19 +86,19 @@ openingLength ls = journalLength (map kept ls)
 unfoldable pub workLength : List ℕ → ℕ
 workLength script = 2 * length script + 64
 
-unfoldable pub ranTable : List ℕ → ℕ → ℕ → List Item → Answer
-ranTable table budget size is =
-    cond (leb (openingLength (linesOf table)) size) (ranItems (step (given (bytes size))) budget is (linesOf table)) (refusal 9 0)
+unfoldable pub ranTable : List ℕ → ℕ → ℕ → ℕ → List Item → Answer
+ranTable table place budget size is =
+    cond (leb (openingLength (linesOf table)) size) (ranItems (given (bytes size)) place budget is (linesOf table)) (refusal 9 0)
 
-unfoldable pub ranScript : List ℕ → ℕ → ℕ → Script → Answer
-ranScript table budget size (items is) = cond (isTable table) (ranTable table budget size is) (refusal 7 0)
-ranScript table budget size (refusedAt n at) = refusal n at
+unfoldable pub ranScript : List ℕ → ℕ → ℕ → ℕ → Script → Answer
+ranScript table place budget size (items is) = cond (isTable table) (ranTable table place budget size is) (refusal 7 0)
+ranScript table place budget size (refusedAt n at) = refusal n at
 
 -- "Order: 1, 8, then 2 to 6 by place in reading order (ties to the lower), 7, 9" (R45)
 unfoldable pub runAnswer : List ℕ → List ℕ → ℕ → ℕ → ℕ → Answer
 runAnswer table script budget work size =
     cond (isScript script)
-    (cond (leb (workLength script) work) (ranScript table budget size (readScript script)) (refusal 8 0))
+    (cond (leb (workLength script) work) (ranScript table (length script) budget size (readScript script)) (refusal 8 0))
     (refusal 1 0)
 
 -- ---- the answer's five values and the journal buffer afterwards

@@ -1,14 +1,14 @@
 -- A step is a short program: it reads lines, looks at the text, moves, and stops or goes on; what it changes, it changes at its end. So "the stopping
 -- command changes no record, its reading counts" (document 01) holds of every program.
-use mathlib.Core.Bool.{Bool, cond, true}
-use mathlib.Core.List.{List}
+use mathlib.Core.Bool.{Bool, true, cond}
+use mathlib.Core.List.{List, [], _∷_, _++_}
 use Prim.Native.Nat.{ℕ}
+use lib.ListN.{length}
 use lib.Dec.{leb}
-use Rattle.definitions.specs.Journal.{Record, journalLength}
 use Rattle.definitions.specs.Tape.{Reads, ret, bind}
-use Rattle.definitions.specs.Given.{Room, bytes, boundless, Given, given, Carried}
-use Rattle.definitions.specs.Editor.{Ed, journal, Stop, n26, stopNumber, Got, got, stop, Target, Move, moved, Edit, edits}
-use Rattle.definitions.specs.Reading.{Ran, gave, stopped, onceRead, readTo}
+use Rattle.definitions.specs.Given.{Given, Global, Carried, carried, noGlobals}
+use Rattle.definitions.specs.Editor.{Ed, journal, Stop, n26, n31, stopNumber, Got, got, stop, Target, Move, moved, Edit, edits}
+use Rattle.definitions.specs.Reading.{Ran, gave, stopped, onceRead, readTo, hasRoom}
 
 pub data Program (A : Type 0) : Type 0 where
   -- it is done, with a value
@@ -56,11 +56,14 @@ pub data RunState : Type 0 where
 unfoldable pub textOf : RunState → Ed
 textOf (state e c) = e
 
--- what a step's program ends with: nothing is changed, and a test has this result; records are changed; W
+-- what a step's program ends with: nothing is changed, and a test has this result; records are changed; W; one global more stands, or none (document 02,
+-- wish 2)
 pub data Did : Type 0 where
   answers : Bool → Did
   changes : List Edit → Did
   quits : Did
+  adds : Global → Did
+  cancels : Did
 
 -- what a step comes to: the run goes on, nothing changed (with a test's result); it goes on, records changed; or it ends with a number
 pub data Out : Type 0 where
@@ -68,20 +71,21 @@ pub data Out : Type 0 where
   edited : RunState → Out
   halt : ℕ → RunState → Out
 
--- does a journal fit the buffer
-unfoldable pub hasRoom : Given → List Record → Bool
-hasRoom (given (bytes size)) j = leb (journalLength j) size
-hasRoom (given boundless) j = true
-
 -- "26 journal after the whole command would exceed its buffer": the text is then `e`, as it was before the changes
 unfoldable pub within : Given → Carried → Ed → Ed → Reads Out
 within g c e e′ t = cond (hasRoom g (journal e′ t)) (edited (state e′ c), t) (halt (stopNumber n26) (state e c), t)
+
+-- "at most 16" stand; "31: a seventeenth global, when obeyed" (W2.3)
+unfoldable pub oneMore : Carried → Global → Ed → Out
+oneMore (carried gs) x e = cond (leb 16 (length gs)) (halt (stopNumber n31) (state e (carried gs))) (on true (state e (carried (gs ++ (x ∷ [])))))
 
 -- the end of a step
 unfoldable pub finish : Given → Carried → Ran Did → Reads Out
 finish g c (gave (answers b) e) = ret (on b (state e c))
 finish g c (gave (changes xs) e) = within g c e (edits xs e)
 finish g c (gave quits e) = ret (halt 0 (state e c))
+finish g c (gave (adds x) e) = ret (oneMore c x e)
+finish g c (gave cancels e) = ret (on true (state e noGlobals))
 finish g c (stopped n e) = ret (halt (stopNumber n) (state e c))
 
 -- a step that is this program

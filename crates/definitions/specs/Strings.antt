@@ -7,7 +7,7 @@ use lib.Dec.{eqb, leb}
 use Rattle.definitions.specs.Bytes.{Line, isDigit, upper}
 use Rattle.definitions.specs.Matching.{Anchor, anywhere, atStart, atEnd, precisely, Columns, allColumns, columns, Qualifiers, qualifiers, Qualified, qualified}
 use Rattle.definitions.specs.Search.{Search, one, both, either}
-use Rattle.definitions.specs.Reader.{Cursor, Got, got, refused, andThen, placeAt, bytesLeft, nextByte, afterByte, isNext, expect, skipSpaces, skipBlank, number, isDelimiter, stringNext, afterString}
+use Rattle.definitions.specs.Reader.{Cursor, Got, got, refused, andThen, placeAt, bytesLeft, nextByte, afterByte, isNext, expect, skipSpaces, skipBlank, number, isDelimiter, stringNext, afterString, quoted}
 
 -- ---- which qualifiers may stand together
 
@@ -160,6 +160,14 @@ secondString d q c = got (pair q (stringNext d c)) (afterString d c)
 unfoldable pub twoStrings : Cursor → Got Pair
 twoStrings c =
     andThen (startQualifiers false c) (λ q c₁. andThen (readString q c₁) (λ s c₂. secondString (nextByte c₁) s c₂))
+
+-- two unqualified strings, read as E's two are; "An empty first string is 4", at its opening delimiter (document 02, wish 2; W2.1)
+unfoldable pub plainPair : ℕ → Cursor → Line → Cursor → Got (Line × Line)
+plainPair at c [] c₁ = refused 4 at
+plainPair at c (b ∷ s) c₁ = got (b ∷ s, stringNext (nextByte c) c₁) (afterString (nextByte c) c₁)
+
+unfoldable pub twoPlainStrings : Cursor → Got (Line × Line)
+twoPlainStrings c = andThen (quoted (skipSpaces c)) (λ s c₁. plainPair (placeAt (skipSpaces c)) (skipSpaces c) s c₁)
 
 -- ---- search expressions
 

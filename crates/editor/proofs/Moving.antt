@@ -7,7 +7,7 @@ use lib.ListN.{length, getD, length-append}
 use borrow.Author.Tests.{ne-eqb}
 use Rattle.definitions.specs.Journal.{Record, kept}
 use Rattle.definitions.specs.Tape.{Tape, ended, restLines, bind}
-use Rattle.definitions.specs.Given.{Given, Carried}
+use Rattle.definitions.specs.Given.{Given, Carried, noGlobals}
 use Rattle.definitions.specs.Editor.{Ed, ed, beforeOf, afterOf, records, sources, n20, n21, n22, n23, stopNumber, Got, got, stop, Target, Move, to, moved, land, goBack, locate}
 use Rattle.definitions.specs.Editor.{Stop as StopNumber}
 use Rattle.definitions.specs.Reading.{gave, onceRead, readTo}
@@ -58,12 +58,12 @@ reached-stop {k} {s} g c x e t whole w i n q number h = by (moved x e) whole w r
 
 -- ---- to the next live line
 
-pub ahead-runs : (g : Given) (c : Carried) (b : List Record) (r : Record) (a : List Record) (p : ℕ) (t : Tape)
-    → runs g c goAhead (ed b (r ∷ a) p) t ≡ (gave tt (landing (r ∷ b) a t), (landRead a t) .1)
+pub ahead-runs : (g : Given) (b : List Record) (r : Record) (a : List Record) (p : ℕ) (t : Tape)
+    → runs g noGlobals goAhead (ed b (r ∷ a) p) t ≡ (gave tt (landing (r ∷ b) a t), (landRead a t) .1)
 unfolding goAhead _>>_ afterOf seenAll moved
-ahead-runs g c b r a p t =
-    runs-on g c (λ u. go Move.ahead) (readPast 1) (ed b (r ∷ a) p) t (read-past g c 1 (ed b (r ∷ a) p) t)
-    ∙ runs-go g c Move.ahead (ed b (r ∷ (a ++ map kept ((landRead a t) .0))) p) ((landRead a t) .1) refl
+ahead-runs g b r a p t =
+    runs-on g noGlobals (λ u. go Move.ahead) (readPast 1) (ed b (r ∷ a) p) t (read-past g 1 (ed b (r ∷ a) p) t)
+    ∙ runs-go g noGlobals Move.ahead (ed b (r ∷ (a ++ map kept ((landRead a t) .0))) p) ((landRead a t) .1) refl
 
 -- the numbers after landing, once the line that is then current is read
 pub landing-shows : {k : List ℕ} {l s : State} (b a : List Record) (t : Tape)
@@ -81,17 +81,17 @@ landing-shows {k} {l} {s} b a t total far held p is =
     (holds-lists (L .before) (L .rest) (holds-as (placed-by l _ _) held)) reach (p ∙ sym (L .point)) (L .grounded))
 
 -- over the current record and the deleted ones after it
-pub ahead-on : {j k i : List ℕ} {st s l m : State} (g : Given) (c : Carried) (e : Ed) (t : Tape) → Shows j st e t → st .back < length j → PassesOver j st k s → Lands k s i l
-    → ((b : List Record) (a : List Record) → Holds i l b a → m ≡ raised l (lineAt b a)) → Came i (On m) (runs g c goAhead e t)
+pub ahead-on : {j k i : List ℕ} {st s l m : State} (g : Given) (e : Ed) (t : Tape) → Shows j st e t → st .back < length j → PassesOver j st k s → Lands k s i l
+    → ((b : List Record) (a : List Record) → Holds i l b a → m ≡ raised l (lineAt b a)) → Came i (On m) (runs g noGlobals goAhead e t)
 unfolding beforeOf afterOf
-ahead-on g c (ed b [] p) t h more passes landed reads = absurd (shown-record b p t h more)
-ahead-on {j} {k} {i} {st} {s} {l} {m} g c (ed b (r ∷ a) p) t h more passes landed reads =
+ahead-on g (ed b [] p) t h more passes landed reads = absurd (shown-record b p t h more)
+ahead-on {j} {k} {i} {st} {s} {l} {m} g (ed b (r ∷ a) p) t h more passes landed reads =
     let u : List Record = a ++ map kept (restLines t) in
     let x : Holds i l (beforeOf (land (r ∷ b) u)) (afterOf (land (r ∷ b) u)) = landed .0 (r ∷ b) u (passes .0 b r u (h .holds)) in
     let lines : l .lines ≡ st .lines = landed .2 ∙ passes .1 .lines in
     let total : l .lines ≡ sources (r ∷ b) + sources u = omega (arith, lines, h .holds .lines, sources-cons r b, sources-cons r u) in
     let far : l .furthest ≡ reachOf (l .lines) t = landed .1 ∙ passes .1 .furthest ∙ shown-reach (ed b (r ∷ a) p) t h ∙ ap (λ (n : ℕ). reachOf n t) (sym lines) in
-    came-on (ahead-runs g c b r a p t) (landing-shows (r ∷ b) a t total far x (landed .3) (reads (beforeOf (land (r ∷ b) u)) (afterOf (land (r ∷ b) u)) x))
+    came-on (ahead-runs g b r a p t) (landing-shows (r ∷ b) a t total far x (landed .3) (reads (beforeOf (land (r ∷ b) u)) (afterOf (land (r ∷ b) u)) x))
 
 -- ---- to the previous live line
 
@@ -169,26 +169,26 @@ module _ {j k : List ℕ} {s u : State} (g : Given) (c : Carried) (n : ℕ) (pos
         (walks .1 .furthest ∙ shown-reach (ed b a p) t h ∙ ap (λ (i : ℕ). reachOf i t) (sym (walks .1 .lines))) refl
 
 -- `M n`, once the line is read: the move is what is left
-line-then : {j : List ℕ} {st s : State} (g : Given) (c : Carried) (n : ℕ) (e : Ed) (t : Tape) (k : List ℕ) (r : Moved) → Shows j st e t → s ≡ raised st n
-    → ((b a : List Record) (p : ℕ) (u : Tape) → Shows j s (ed b a p) u → min n (s .lines + 1) ≤ s .furthest → Came k r (runs g c (go (to (Target.line n))) (ed b a p) u))
-    → Came k r (runs g c (goTo (Target.line n)) e t)
+line-then : {j : List ℕ} {st s : State} (g : Given) (n : ℕ) (e : Ed) (t : Tape) (k : List ℕ) (r : Moved) → Shows j st e t → s ≡ raised st n
+    → ((b a : List Record) (p : ℕ) (u : Tape) → Shows j s (ed b a p) u → min n (s .lines + 1) ≤ s .furthest → Came k r (runs g noGlobals (go (to (Target.line n))) (ed b a p) u))
+    → Came k r (runs g noGlobals (goTo (Target.line n)) e t)
 unfolding goTo _>>_
-line-then {j} {st} {s} g c n e t k r h is f =
-    then-on g c (readUpTo (Target.line n)) (λ x. go (to (Target.line n))) e t k r (reads-line g c e t h n) (λ v x u w. by x u (rw (← is) at w))
+line-then {j} {st} {s} g n e t k r h is f =
+    then-on g noGlobals (readUpTo (Target.line n)) (λ x. go (to (Target.line n))) e t k r (reads-line g e t h n) (λ v x u w. by x u (rw (← is) at w))
   where
-    by : (x : Ed) (u : Tape) → Shows j s x u → Came k r (runs g c (go (to (Target.line n))) x u)
+    by : (x : Ed) (u : Tape) → Shows j s x u → Came k r (runs g noGlobals (go (to (Target.line n))) x u)
     by (ed b a p) u w = f b a p u w (rw is (omega arith))
 
-module _ {j k : List ℕ} {st s u : State} (g : Given) (c : Carried) (n : ℕ) (pos : 0 < n) (e : Ed) (t : Tape) (h : Shows j st e t) (is : s ≡ raised st n)
+module _ {j k : List ℕ} {st s u : State} (g : Given) (n : ℕ) (pos : 0 < n) (e : Ed) (t : Tape) (h : Shows j st e t) (is : s ≡ raised st n)
     (walks : Walks (toSource (n - 1)) j s k u) where
-  pub line-eof : length k ≤ u .back → Came j (Stop 21 s) (runs g c (goTo (Target.line n)) e t)
-  line-eof end = line-then g c n e t j (Stop 21 s) h is (λ b a p v w far. line-eof-at g c n pos b a p v w far walks end)
+  pub line-eof : length k ≤ u .back → Came j (Stop 21 s) (runs g noGlobals (goTo (Target.line n)) e t)
+  line-eof end = line-then g n e t j (Stop 21 s) h is (λ b a p v w far. line-eof-at g noGlobals n pos b a p v w far walks end)
 
-  pub line-dead : u .back < length k → getD k (u .back) 0 ≡ 45 → Came j (Stop 23 s) (runs g c (goTo (Target.line n)) e t)
-  line-dead more dead = line-then g c n e t j (Stop 23 s) h is (λ b a p v w far. line-dead-at g c n pos b a p v w far walks more dead)
+  pub line-dead : u .back < length k → getD k (u .back) 0 ≡ 45 → Came j (Stop 23 s) (runs g noGlobals (goTo (Target.line n)) e t)
+  line-dead more dead = line-then g n e t j (Stop 23 s) h is (λ b a p v w far. line-dead-at g noGlobals n pos b a p v w far walks more dead)
 
-  pub line-live : u .back < length k → (getD k (u .back) 0 ≡ 45 → ⊥) → Came k (On (atPoint u 0)) (runs g c (goTo (Target.line n)) e t)
-  line-live more live = line-then g c n e t k (On (atPoint u 0)) h is (λ b a p v w far. line-live-at g c n pos b a p v w far walks more live)
+  pub line-live : u .back < length k → (getD k (u .back) 0 ≡ 45 → ⊥) → Came k (On (atPoint u 0)) (runs g noGlobals (goTo (Target.line n)) e t)
+  line-live more live = line-then g n e t k (On (atPoint u 0)) h is (λ b a p v w far. line-live-at g noGlobals n pos b a p v w far walks more live)
 
 -- ---- to EOF
 
@@ -229,14 +229,14 @@ eof-at {j} {k} {st} {s} g c (ed b a p) t h all q f b′ n l o z far p′ =
     let held : Holds k s (reverseAux a b) [] = eof-holds b a (holds-lists refl rest (h .holds)) q f b′ n l o z in
     go-on g c (to Target.eof) (ed b a p) t refl (rw is (shows-of (reverseAux a b) [] 0 ended held (omega arith) p′ tt))
 
-pub eof-on : {j k : List ℕ} {st r s : State} (g : Given) (c : Carried) (e : Ed) (t : Tape) → Shows j st e t → r ≡ raised st (st .lines + 1)
+pub eof-on : {j k : List ℕ} {st r s : State} (g : Given) (e : Ed) (t : Tape) → Shows j st e t → r ≡ raised st (st .lines + 1)
     → k ≡ movedDown (st .front) (st .back) (length j - st .back) j
     → s .front ≡ st .front + (length j - st .back) → s .back ≡ st .back + (length j - st .back) → s .past ≡ st .lines → s .lines ≡ r .lines
-    → s .source ≡ st .size → s .size ≡ r .size → s .furthest ≡ r .furthest → s .p ≡ 0 → Came k (On s) (runs g c (goTo Target.eof) e t)
+    → s .source ≡ st .size → s .size ≡ r .size → s .furthest ≡ r .furthest → s .p ≡ 0 → Came k (On s) (runs g noGlobals (goTo Target.eof) e t)
 unfolding goTo _>>_
-eof-on {j} {k} {st} {r} {s} g c e t h is q f b n l o z far p =
-    then-on g c (readUpTo Target.eof) (λ x. go (to Target.eof)) e t k (On s) (reads-eof g c e t h)
-    (λ v x u w. eof-at g c x u w (eof-far e t h) q f b n (l ∙ ap (λ (y : State). y .lines) is) o (z ∙ ap (λ (y : State). y .size) is) (far ∙ ap (λ (y : State). y .furthest) is) p)
+eof-on {j} {k} {st} {r} {s} g e t h is q f b n l o z far p =
+    then-on g noGlobals (readUpTo Target.eof) (λ x. go (to Target.eof)) e t k (On s) (reads-eof g e t h)
+    (λ v x u w. eof-at g noGlobals x u w (eof-far e t h) q f b n (l ∙ ap (λ (y : State). y .lines) is) o (z ∙ ap (λ (y : State). y .size) is) (far ∙ ap (λ (y : State). y .furthest) is) p)
 
 -- ---- p
 

@@ -12,8 +12,8 @@ use Rattle.definitions.specs.Tape.{Tape, unread, ended, restLines, bind}
 use Rattle.definitions.specs.Given.{Given, Room, given, Carried}
 use Rattle.definitions.specs.Editor.{Ed, ed, beforeOf, afterOf, journal, stopNumber, got, stop, Move, moved, edits}
 use Rattle.definitions.specs.Editor.{Stop as StopNumber, Edit as Editing}
-use Rattle.definitions.specs.Reading.{Ran, gave, stopped}
-use Rattle.definitions.specs.StepProgram.{Program, gives, _>>=_, _>>_, runs, state, Did, changes, hasRoom, within, finish, perform}
+use Rattle.definitions.specs.Reading.{Ran, gave, stopped, hasRoom}
+use Rattle.definitions.specs.StepProgram.{Program, gives, _>>=_, _>>_, runs, state, Did, changes, within, finish, perform}
 use Rattle.definitions.specs.Edit.{go, goesOn, lineOr}
 use Rattle.theorems.specs.Programs.{runs-on, runs-stop, runs-line, runs-no-line, runs-go, runs-no-go}
 use Rattle.editor.specs.Records.{encAll}

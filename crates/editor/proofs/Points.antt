@@ -10,23 +10,23 @@ use lib.Dec.{leb, eqb}
 use borrow.Author.Tests.{leb-false}
 use Rattle.definitions.specs.Bytes.{Line, eqLine}
 use Rattle.definitions.specs.Journal.{Record, kept, changed, deleted, inserted, change, rewrite, erase}
-use Rattle.definitions.specs.Tape.{Tape, unread, ended, restLines, bind}
-use Rattle.definitions.specs.Given.{Given, Carried}
-use Rattle.definitions.specs.Editor.{Ed, ed, beforeOf, afterOf, records, sources, current, isLive, hasLive, firstLive, Stop, n20, n21, n22, n23, n24, n25, n27, n28, n30, Got, stop, land, goBack, locate}
+use Rattle.definitions.specs.Tape.{Tape, unread, ended, ret, bind}
+use Rattle.definitions.specs.Given.{Given, Global, Carried, carried}
+use Rattle.definitions.specs.Editor.{Ed, ed, beforeOf, afterOf, records, journal, sources, current, isLive, hasLive, firstLive, Stop, n20, n21, n22, n23, n24, n25, n26, n27, n28, n30, n31, stopNumber, Got, got, stop, land, goBack, locate}
 use Rattle.definitions.specs.Editor.{Target, here, line, eof, Through, alone, upTo, toEof, Move, ahead, back, to, pointTo, moved, strike, strikeBack, strikeNext, put, retext, struck, struckBack, putBefore, edit, edits}
-use Rattle.definitions.specs.Reading.{Ran, gave, stopped, readTo, onceRead}
-use Rattle.definitions.specs.StepProgram.{Program, gives, stops, _>>=_, _>>_, runs, state, textOf, Did, answers, changes, quits, Out, finish, perform}
+use Rattle.definitions.specs.Reading.{Ran, gave, stopped, seen, hasRoom, readChanged, readAs, readLine}
+use Rattle.definitions.specs.Globals.{leftBy}
+use Rattle.definitions.specs.StepProgram.{Program, gives, stops, _>>=_, _>>_, runs, state, textOf, Did, answers, changes, quits, adds, cancels, Out, on, halt, oneMore, finish, perform}
 use Rattle.definitions.specs.Matching.{Qualified, placeOf, stringIn}
 use Rattle.definitions.specs.Search.{Search, holds}
 use Rattle.definitions.specs.Edit.{Op, Change, afterIt, beforeIt, exchange, stopIf, orStop, either, see, go, goesOn, readUpTo, readPast, goAhead, goTo, lineIn, lineOr, isAtEof, lookOn, lookBack, splice, altered, alteredPoint, pointBy, cased, recased, placeOr24, write, cutAfter, nextOr30, writeJoined, countThrough, reach, span, program, step}
 use Rattle.theorems.specs.Reading.{At}
-use Rattle.theorems.specs.ReadLines.{readNext, lacking, seenAll, read-line, read-eof, read-past}
-use Rattle.theorems.specs.ComesTo.{Ended, OnGot, ComesTo, then-comes, and-comes, either-comes, test-comes, line-comes, byte-comes, go-comes, within-comes}
+use Rattle.theorems.specs.ComesTo.{Ended, Keeping, OnGot, ComesTo, then-comes, and-comes, either-comes, test-comes, line-comes, byte-comes, go-comes, reads-keep, within-comes}
 use Rattle.theorems.specs.GoodLines.{splice-length}
 use Rattle.theorems.specs.Places.{place-inside}
 use Rattle.editor.specs.Shows.{GroundedAt}
 use Rattle.editor.specs.Current.{PointIn, PointOut}
-use Rattle.text.proofs.Lines.{equal-is}
+use Rattle.theorems.specs.Lines.{equal-is}
 
 -- ---- what every part of a step keeps
 
@@ -107,21 +107,35 @@ move-at (pointTo q) (ed b (r ∷ a) p) t l h = (h .0, l)
 
 -- ---- reading
 
-next-at : (n : ℕ) (e : Ed) (t : Tape) → PointAt e t → PointAt (seenAll ((readNext n t) .0) e) ((readNext n t) .1)
-unfolding readNext seenAll isLive
-next-at n (ed b (r ∷ a) p) t h = h
-next-at zero (ed b [] p) (unread ls) h = h
-next-at zero (ed b [] p) ended h = tt
-next-at (suc n) (ed b [] p) ended h = tt
-next-at (suc n) (ed b [] p) (unread []) h = tt
-next-at (suc n) (ed b [] p) (unread (l ∷ ls)) h = (refl, omega arith)
+-- a line that is read comes behind the others; where none was there it is the first, and p is 0
+seen-at : (r : Record) (e : Ed) (l : Line) (ls : List Line) → isLive r ≡ true → PointAt e (unread (l ∷ ls)) → PointAt (seen r e) (unread ls)
+unfolding seen
+seen-at r (ed b (x ∷ a) p) l ls live h = h
+seen-at r (ed b [] p) l ls live h = (live, omega arith)
 
-rest-at : (e : Ed) (t : Tape) → PointAt e t → PointAt (seenAll (restLines t) e) ended
-unfolding restLines seenAll isLive
-rest-at (ed b (r ∷ a) p) t h = h
-rest-at (ed b [] p) ended h = tt
-rest-at (ed b [] p) (unread []) h = tt
-rest-at (ed b [] p) (unread (l ∷ ls)) h = (refl, omega arith)
+changed-at : (g : Given) (o n : Line) (e : Ed) (ls : List Line) → PointAt e (unread (o ∷ ls)) → At (Keeping PointAt) (readChanged g o n e (unread ls))
+unfolding readChanged isLive
+changed-at g o n e ls h = by (hasRoom g (journal (seen (changed o n) e) (unread ls)))
+  where
+    by : (x : Bool) → At {S = Ran (Unit {0})} (Keeping PointAt) (cond x (gave tt (seen (changed o n) e), unread ls) (stopped n26 (seen (kept o) e), unread ls))
+    by true = seen-at (changed o n) e o ls refl h
+    by false = seen-at (kept o) e o ls refl h
+
+as-at : (g : Given) (l : Line) (e : Ed) (ls : List Line) (x : Got Line) → PointAt e (unread (l ∷ ls)) → At (Keeping PointAt) (readAs g l e x (unread ls))
+unfolding readAs isLive
+as-at g l e ls (got new) h = by (eqLine l new)
+  where
+    by : (x : Bool) → At (Keeping PointAt) (cond x (ret (gave tt (seen (kept l) e))) (readChanged g l new e) (unread ls))
+    by true = seen-at (kept l) e l ls refl h
+    by false = changed-at g l new e ls h
+as-at g l e ls (stop n) h = seen-at (kept l) e l ls refl h
+
+line-at : (g : Given) (c : Carried) (e : Ed) (t : Tape) → PointAt e t → At (Keeping PointAt) (readLine g c e t)
+unfolding readLine
+line-at g c e (unread (l ∷ ls)) h = as-at g l e ls (leftBy c l) h
+line-at g c (ed b [] p) (unread []) h = tt
+line-at g c (ed b (r ∷ a) p) (unread []) h = h
+line-at g c e ended h = h
 
 -- ---- parts of programs
 
@@ -132,6 +146,11 @@ Keeps a e t = PointAt e t
 -- a stop asks nothing
 abbrev Any : Stop → Ed → Tape → Type 0
 Any n e t = Unit {0}
+
+-- of where it stops, nothing is asked
+any-stop : (r : Ran (Unit {0})) (t : Tape) → Keeping PointAt r t → Ended Keeps Any r t
+any-stop (gave u e) t h = h
+any-stop (stopped n e) t h = tt
 
 module _ (g : Given) (c : Carried) where
   -- a part that keeps p within the line
@@ -153,12 +172,11 @@ module _ (g : Given) (c : Carried) where
   see-part f e t h = h
 
   read-part : (a : Target) → Part (readUpTo a)
-  read-part here e t h = unfold readUpTo runs bind readTo onceRead in h
-  read-part (line n) e t h = rw (read-line g c n e t) (next-at (n - sources (records e)) e t h)
-  read-part eof e t h = rw (read-eof g c e t) (rest-at e t h)
+  read-part a e t h = any-stop ((runs g c (readUpTo a) e t) .0) ((runs g c (readUpTo a) e t) .1) (reads-keep g c PointAt (line-at g c) a e t h)
 
   past-part : (k : ℕ) → Part (readPast k)
-  past-part k e t h = rw (read-past g c k e t) (next-at (lacking (hasLive (drop k (afterOf e)))) e t h)
+  unfolding readPast runs
+  past-part k e t h = either-comes g c Keeps Any (hasLive (drop k (afterOf e))) (gives tt) (readUpTo (line (suc (sources (records e))))) e t (gives-part (tt {0}) e t h) (read-part (line (suc (sources (records e)))) e t h)
 
   -- a move
   go-at : (x : Move) (e : Ed) (t : Tape) → Leads x e → PointAt e t → ComesTo g c Keeps Any (go x) e t
@@ -288,15 +306,27 @@ abbrev Done : Did → Ed → Tape → Type 0
 Done (answers b) e t = PointAt e t
 Done (changes xs) e t = PointIn (edits xs e)
 Done quits e t = Unit {0}
+Done (adds x) e t = PointAt e t
+Done cancels e t = PointAt e t
 
 abbrev OutIn : Out → Tape → Type 0
 OutIn o t = PointOut o
+
+more-in : (c : Carried) (x : Global) (e : Ed) (t : Tape) → PointAt e t → PointOut (oneMore c x e)
+unfolding oneMore textOf
+more-in (carried gs) x e t h = by (leb 16 (length gs))
+  where
+    by : (b : Bool) → PointOut (cond b (halt (stopNumber n31) (state e (carried gs))) (on true (state e (carried (gs ++ (x ∷ []))))))
+    by true = tt
+    by false = point-in e t h
 
 finish-in : (g : Given) (c : Carried) (r : Ran Did) (t : Tape) → Ended Done Any r t → At OutIn (finish g c r t)
 unfolding finish textOf
 finish-in g c (gave (answers b) e) t h = point-in e t h
 finish-in g c (gave (changes xs) e) t h = within-comes OutIn g c e (edits xs e) t (λ x. h) tt
 finish-in g c (gave quits e) t h = tt
+finish-in g c (gave (adds x) e) t h = more-in c x e t h
+finish-in g c (gave cancels e) t h = point-in e t h
 finish-in g c (stopped n e) t h = tt
 
 module _ (g : Given) (c : Carried) where
@@ -417,6 +447,8 @@ module _ (g : Given) (c : Carried) where
   program-in (Op.join s) (ed b (r ∷ a) p) t h =
       line-comes g c Done Any n20 _ (ed b (r ∷ a) p) t
       (part-then nextOr30 _ (next-part g c) (λ m. joined-step (current r ++ (s ++ m)) p (omega (arith, length-append (current r) (s ++ m), h .1))) (ed b (r ∷ a) p) t h)
+  program-in (Op.addGlobal d s new) e t h = unfold runs in h
+  program-in Op.cancelGlobals e t h = unfold runs in h
   program-in (Op.point after q) (ed b [] p) t h = line-comes g c Done Any n20 _ (ed b [] p) t tt
   program-in (Op.point after q) (ed b (r ∷ a) p) t h =
       line-comes g c Done Any n20 _ (ed b (r ∷ a) p) t

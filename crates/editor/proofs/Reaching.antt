@@ -13,8 +13,7 @@ use Rattle.definitions.specs.Tape.{Tape, unread, ended, restLines}
 use Rattle.definitions.specs.Editor.{Ed, ed, beforeOf, afterOf, sources, isLive, hasLive, n21, n22, n23, Got, got, stop, land, goBack, locate}
 use Rattle.definitions.specs.Editor.{Stop as StopNumber}
 use Rattle.theorems.specs.ReadLines.{readNext, lacking}
-use Rattle.theorems.specs.RecordLaws.{reverse-twice, sources-append, sources-kept}
-use Rattle.theorems.specs.Demand3Items.{upTo-after}
+use Rattle.theorems.specs.RecordLaws.{reverse-twice, sources-append, sources-kept, upTo-after}
 use Rattle.editor.specs.Records.{mark}
 use Rattle.editor.specs.Shows.{pointOf, restOf, GroundedAt, backTo, onTo, toSource, lineAt}
 use Rattle.editor.proofs.Records.{sourced, sources-cons, sources-nil}

@@ -7,7 +7,7 @@ use mathlib.Core.List.{List, [], _∷_, _++_, map, map-append, reverseAux, appen
 use lib.ListN.{length}
 use Rattle.definitions.specs.Journal.{Record, kept}
 use Rattle.definitions.specs.Tape.{Tape, unread, ended, restLines}
-use Rattle.definitions.specs.Given.{Given, Carried}
+use Rattle.definitions.specs.Given.{Given, noGlobals}
 use Rattle.definitions.specs.Editor.{Ed, ed, beforeOf, afterOf, records, sources, furthest, journal, Target}
 use Rattle.definitions.specs.StepProgram.{runs}
 use Rattle.definitions.specs.Edit.{readUpTo}
@@ -134,14 +134,14 @@ all-read {st = st} e (unread ls) h =
     (reading {s = raised st (st .lines + 1)} (suc (length ls)) e (unread ls) h (placed-by st _ _) refl (omega (arith, shown-reach e (unread ls) h, unread-few e (unread ls) h)))
 all-read {st = st} e ended h = rw (next-ended 1) at (reading {s = raised st (st .lines + 1)} 1 e ended h (placed-by st _ _) refl (omega (arith, shown-reach e ended h)))
 
-module _ {j : List ℕ} {st : State} (g : Given) (c : Carried) (e : Ed) (t : Tape) (h : Shows j st e t) where
-  pub reads-line : (a : ℕ) → Came j (On (raised st a)) (runs g c (readUpTo (Target.line a)) e t)
+module _ {j : List ℕ} {st : State} (g : Given) (e : Ed) (t : Tape) (h : Shows j st e t) where
+  pub reads-line : (a : ℕ) → Came j (On (raised st a)) (runs g noGlobals (readUpTo (Target.line a)) e t)
   unfolding CameTo
-  reads-line a = rw (read-line g c a e t) (reading (a - sources (records e)) e t h (placed-by st _ _) refl (raise-line a e t h))
+  reads-line a = rw (read-line g a e t) (reading (a - sources (records e)) e t h (placed-by st _ _) refl (raise-line a e t h))
 
-  pub reads-eof : Came j (On (raised st (st .lines + 1))) (runs g c (readUpTo Target.eof) e t)
+  pub reads-eof : Came j (On (raised st (st .lines + 1))) (runs g noGlobals (readUpTo Target.eof) e t)
   unfolding CameTo
-  reads-eof = rw (read-eof g c e t) (all-read e t h)
+  reads-eof = rw (read-eof g e t) (all-read e t h)
 
 -- the furthest line is then EOF
 pub eof-far : {j : List ℕ} {st : State} (e : Ed) (t : Tape) → Shows j st e t → max (st .furthest) (min (st .lines + 1) (st .lines + 1)) ≡ st .lines + 1

@@ -243,3 +243,14 @@ start-of r b z g =
     let is : (B ++ enc r) ++ z ≡ B ++ (body r ++ (10 ∷ z)) = simp append-assoc in
     let long : length (B ++ enc r) - 1 ≡ length B + length (body r) = simp length-append (omega arith) in
     rw (is, long, back-over B (body r) (10 ∷ z) (body-no r g) (length (body r)) (omega arith)) (starts b (body r ++ (10 ∷ z)))
+
+-- ---- two lists of records
+
+pub enc-append : (m a : List Record) → encAll (m ++ a) ≡ encAll m ++ encAll a
+unfolding encAll
+enc-append [] a = refl
+enc-append (r ∷ m) a = ap (λ (z : List ℕ). enc r ++ z) (enc-append m a) ∙ sym (append-assoc (enc r) (encAll m) (encAll a))
+
+pub goods-append : (m a : List Record) → Goods m → Goods a → Goods (m ++ a)
+goods-append [] a g h = h
+goods-append (r ∷ m) a g h = (g .0, goods-append m a (g .1) h)

@@ -8,7 +8,7 @@ use lib.Dec.{leb, eqb}
 use Rattle.definitions.specs.Bytes.{Line}
 use Rattle.definitions.specs.Journal.{Record, kept, changed, deleted, erase, upToLine, afterLine, journalBytes, journalLength}
 use Rattle.definitions.specs.Tape.{Tape, unread, ended, restLines}
-use Rattle.definitions.specs.Given.{Given, given, Room, Carried}
+use Rattle.definitions.specs.Given.{Given, given, Room, Carried, noGlobals}
 use Rattle.definitions.specs.Editor.{Ed, ed, beforeOf, afterOf, sources, furthest, current, isLive, stopNumber, land, putBefore, Target, here, line, eof}
 use Rattle.definitions.specs.Reading.{Ran, gave, stopped}
 use Rattle.definitions.specs.StepProgram.{Program, runs, state, Did, Out, on, edited, halt, perform}
@@ -141,6 +141,17 @@ Performs j st op k r = (e : Ed) (c : Carried) (t : Tape) → Shows j st e t → 
 -- the same of what is left of one
 abbrev pub Completes : List ℕ → State → Program Did → List ℕ → Moved → Type 0
 Completes j st m k r = (e : Ed) (c : Carried) (t : Tape) → Shows j st e t → Answered k r (perform (lent j) m (state e c) t)
+
+-- ---- where no global stands: what a part of a step, a whole command or what is left of one comes to that may read
+
+abbrev pub DoesPlain : {A : Type 0} → List ℕ → State → Program A → List ℕ → Moved → Type 0
+DoesPlain j st m k r = (e : Ed) (t : Tape) → Shows j st e t → Came k r (runs (lent j) noGlobals m e t)
+
+abbrev pub PerformsPlain : List ℕ → State → Op → List ℕ → Moved → Type 0
+PerformsPlain j st op k r = (e : Ed) (t : Tape) → Shows j st e t → Answered k r (step (lent j) op (state e noGlobals) t)
+
+abbrev pub CompletesPlain : List ℕ → State → Program Did → List ℕ → Moved → Type 0
+CompletesPlain j st m k r = (e : Ed) (t : Tape) → Shows j st e t → Answered k r (perform (lent j) m (state e noGlobals) t)
 
 -- ---- moves of the gap
 

@@ -6,15 +6,16 @@ use Prim.Native.Nat.{ℕ, _+_, _≤_, _<_}
 use native.Mathlib.Omega.{arith}
 use lib.ListN.{length, getD}
 use Rattle.definitions.specs.Matching.{Qualified}
+use Rattle.definitions.specs.Bytes.{Line}
 use Rattle.definitions.specs.Search.{Search, one}
 use Rattle.definitions.specs.Editor.{Target, Through}
-use Rattle.definitions.specs.Edit.{is, isNot, isEof, Op, onlyStep, quit, test, begin, beginBack, find, findBack, findDelete, move, nextLine, previousLine, delete, replace, insert, copy, alter, split, join, point, pointStart, right, left, cutByte, recase}
+use Rattle.definitions.specs.Edit.{is, isNot, isEof, Op, onlyStep, quit, test, begin, beginBack, find, findBack, findDelete, move, nextLine, previousLine, delete, replace, insert, copy, alter, split, join, addGlobal, cancelGlobals, point, pointStart, right, left, cutByte, recase}
 use Rattle.definitions.specs.Control.{Opener, times, forever, bare, branch, loop, Item, simple, seek, opens, bracket, close, otherwise, leave, lineEnd}
 use Rattle.matching.specs.Words.{Encodes}
 use Rattle.matching.proofs.Running.{forward}
 use Rattle.matching.proofs.Keeping.{kept}
 use Rattle.items.specs.Kinds.{deleteKind, replaceKind}
-use Rattle.items.specs.Words.{Words1, Words2, SpanAt, OpAt, SearchAt, TimesAt, OpenerAt, ItemAt, ItemsAt}
+use Rattle.items.specs.Words.{Words1, Words2, SpanAt, TwoStringsAt, OpAt, SearchAt, TimesAt, OpenerAt, ItemAt, ItemsAt}
 use Rattle.items.proofs.Reading.{items-end}
 
 module _ (s w w′ : List ℕ) (n : ℕ) (same : (j : ℕ) → j < n → getD w′ j 0 ≡ getD w j 0) (long : n ≤ length w′) where
@@ -35,6 +36,12 @@ module _ (s w w′ : List ℕ) (n : ℕ) (same : (j : ℕ) → j < n → getD w�
   string-kept k m a q le h =
       let f = forward s w (k + 1) m (one q) (h .1) .0 in
       (same k (omega (arith, f)) ∙ h .0, encodes-kept (k + 1) m (one q) le (h .1))
+
+  -- and a second string's word
+  strings-kept : (k m a : ℕ) (q : Qualified) (new : Line) → m ≤ n → TwoStringsAt s w k m a q new → TwoStringsAt s w′ k m a q new
+  strings-kept k m a q new le h =
+      let f = forward s w (k + 1) (h .0) (one q) (h .3) .0 in
+      (h .0, h .1, same k (omega (arith, f, h .1)) ∙ h .2, encodes-kept (k + 1) (h .0) (one q) (omega (arith, h .1)) (h .3), rw (same (h .0) (omega (arith, h .1))) (h .4))
 
   pub op-kept : (k m place : ℕ) (op : Op) → m ≤ n → OpAt s w k m place op → OpAt s w′ k m place op
   unfolding OpAt
@@ -60,11 +67,11 @@ module _ (s w w′ : List ℕ) (n : ℕ) (same : (j : ℕ) → j < n → getD w�
         same (k + 1) (omega (arith, h .0)) ∙ h .2,
         rw (same (k + 2) (omega (arith, h .0)), same (k + 3) (omega (arith, h .0))) (h .3),
       )
-  op-kept k m place (alter c pointing q new) le h =
-      let f = forward s w (k + 1) (h .0) (one q) (h .3) .0 in
-      (h .0, h .1, same k (omega (arith, f, h .1)) ∙ h .2, encodes-kept (k + 1) (h .0) (one q) (omega (arith, h .1)) (h .3), rw (same (h .0) (omega (arith, h .1))) (h .4))
+  op-kept k m place (alter c pointing q new) le h = strings-kept k m _ q new le h
   op-kept k m place (split after q) le h = string-kept k m _ q le h
   op-kept k m place (join l) le h = (h .0, same k (omega (arith, h .0)) ∙ h .1, rw (same (k + 1) (omega (arith, h .0))) (h .2))
+  op-kept k m place (addGlobal c l new) le h = strings-kept k m _ _ new le h
+  op-kept k m place cancelGlobals le h = one-kept k m _ le h
   op-kept k m place (point after q) le h = string-kept k m _ q le h
   op-kept k m place onlyStep le h = h
   op-kept k m place (test c) le h = h

@@ -1,7 +1,7 @@
 -- What the words of a simple command say, by its kind. Assumes nothing.
 use mathlib.Core.Path.{_≡_, refl, ap, sym, _∙_, subst}
 use mathlib.Core.Logic.{_⊎_, inl, inr}
-use mathlib.Core.Bool.{Bool, true, false, cond, _&&_, _||_, false≢true}
+use mathlib.Core.Bool.{Bool, true, false, not, cond, _&&_, _||_, false≢true}
 use mathlib.Core.Option.{Option, none}
 use mathlib.Core.List.{List, [], _∷_}
 use Prim.Native.Nat.{ℕ, _+_, _*_, _/_, _%_, _<_}
@@ -10,21 +10,22 @@ use lib.ListN.{length, getD}
 use lib.Dec.{eqb}
 use borrow.Author.Tests.{ne-eqb, eqb-true}
 use Rattle.definitions.specs.Bytes.{Line, isLine, allLines}
-use Rattle.definitions.specs.Matching.{Qualified}
+use Rattle.definitions.specs.Matching.{Qualified, qualified}
 use Rattle.definitions.specs.Search.{one}
+use Rattle.definitions.specs.Strings.{noQualifiers, isEmpty}
 use Rattle.definitions.specs.Editor.{Target, Through, alone, upTo, toEof}
-use Rattle.definitions.specs.Edit.{Change, Op, onlyStep, quit, test, begin, beginBack, find, findBack, findDelete, move, nextLine, previousLine, delete, replace, insert, copy, alter, split, join, point, pointStart, right, left, cutByte, recase}
+use Rattle.definitions.specs.Edit.{Change, afterIt, beforeIt, exchange, Op, onlyStep, quit, test, begin, beginBack, find, findBack, findDelete, move, nextLine, previousLine, delete, replace, insert, copy, alter, split, join, addGlobal, cancelGlobals, point, pointStart, right, left, cutByte, recase}
 use Rattle.theorems.specs.Lines.{and-left, and-right}
 use Rattle.theorems.specs.GoodItems.{goodTarget, goodThrough, goodOption, goodQualified, goodOp}
 use Rattle.matching.specs.Words.{Encodes}
 use Rattle.matching.proofs.Reading.{ReadsAs, one-reads}
-use Rattle.items.specs.Kinds.{wordShape, pairShape, fourShape, stringShape, changeShape, shapeOf, quitKind, nextKind, previousKind, copyKind, pointStartKind, rightKind, leftKind, cutByteKind, moveKind, deleteKind, insertStringKind, joinKind, replaceKind, insertLinesKind, caseKind, pointKind, splitKind, changeKind}
+use Rattle.items.specs.Kinds.{wordShape, pairShape, fourShape, stringShape, changeShape, shapeOf, quitKind, nextKind, previousKind, copyKind, pointStartKind, rightKind, leftKind, cutByteKind, cancelKind, moveKind, deleteKind, insertStringKind, joinKind, replaceKind, insertLinesKind, caseKind, pointKind, splitKind, changeKind, globalKind, isGlobal}
 use Rattle.items.specs.Words.{head, kindAt, numberAt, targetCode, spotCode, endBit, lastCode, StringIn, LinesIn, SpanAt, OpAt}
 use Rattle.items.specs.Ends.{isOneWord}
 use Rattle.items.specs.Arguments.{spanFrom, spanThrough}
-use Rattle.items.specs.Simple.{byteOp, wordOp, CommandAt}
+use Rattle.items.specs.Simple.{byteOp, lineOp, wordOp, CommandAt}
 use Rattle.items.proofs.FirstWords.{head-kind, head-number}
-use Rattle.items.proofs.Reading.{case-shape, point-shape, split-shape, change-shape, op-reads}
+use Rattle.items.proofs.Reading.{case-shape, point-shape, split-shape, change-shape, global-shape, op-reads}
 
 -- how far D and R go, as it is read
 unfoldable pub throughCode : Through → ℕ
@@ -40,10 +41,18 @@ pub record SpanRead (w : List ℕ) (k : ℕ) (a : Target) (b : Through) : Type 0
   pub good-from : goodTarget a ≡ true
   pub good-through : goodThrough b ≡ true
 
+-- the strings of GE, GA and GB, as they are read
+pub record GlobalRead (s w : List ℕ) (k m : ℕ) (l new : Line) : Type 0 where
+  pub middle : ℕ
+  pub ends : m ≡ middle + 1
+  pub first : ReadsAs s w (k + 1) middle (qualified noQualifiers l)
+  pub second : StringIn s (getD w middle 0) new
+  pub good : isLine l && not (isEmpty l) && isLine new ≡ true
+
 -- ---- the forms of simple commands
 
 pub data Form : Type 0 where
-  words moving deleting stringing replacing lining changing aiming unknown : Form
+  words moving deleting stringing replacing lining changing adding aiming unknown : Form
 
 -- IS and CL
 abbrev pub takesString : ℕ → Bool
@@ -52,7 +61,7 @@ takesString kind = eqb kind insertStringKind || eqb kind joinKind
 unfoldable pub formOf : ℕ → Form
 formOf kind =
     cond (eqb (shapeOf kind) wordShape) words
-    (cond (eqb (shapeOf kind) changeShape) changing
+    (cond (eqb (shapeOf kind) changeShape) (cond (isGlobal kind) adding changing)
     (cond (eqb (shapeOf kind) stringShape) aiming
     (cond (eqb kind moveKind) moving
     (cond (eqb kind deleteKind) deleting
@@ -76,9 +85,27 @@ Means s w k m kind lining op =
 Means s w k m kind changing op =
     (c : Change) × (pointed : Bool) × (q : Qualified) × (new : Line) × (n : ℕ) × (op ≡ alter c pointed q new) × (kind ≡ changeKind c pointed) × (m ≡ n + 1)
     × ReadsAs s w (k + 1) n q × StringIn s (getD w n 0) new × (isLine new ≡ true)
+Means s w k m kind adding op = (c : Change) × (l : Line) × (new : Line) × (op ≡ addGlobal c l new) × (kind ≡ globalKind c) × GlobalRead s w k m l new
 Means s w k m kind aiming op =
     (after : Bool) × (q : Qualified) × ReadsAs s w (k + 1) m q × (((op ≡ point after q) × (kind ≡ pointKind after)) ⊎ ((op ≡ split after q) × (kind ≡ splitKind after)))
 Means s w k m kind unknown op = ⊥
+
+-- ---- which kinds of a change's shape are globals
+
+pub change-not : (c : Change) (pointed : Bool) → isGlobal (changeKind c pointed) ≡ false
+unfolding changeKind isGlobal
+change-not afterIt false = refl
+change-not afterIt true = refl
+change-not beforeIt false = refl
+change-not beforeIt true = refl
+change-not exchange false = refl
+change-not exchange true = refl
+
+pub global-is : (c : Change) → isGlobal (globalKind c) ≡ true
+unfolding globalKind isGlobal
+global-is afterIt = refl
+global-is beforeIt = refl
+global-is exchange = refl
 
 -- ---- a span
 
@@ -122,7 +149,7 @@ module _ (s w : List ℕ) (k m place : ℕ) where
   word kind op small shape e h = rw (kinds kind small (h .1), shape) (h .0, e)
 
   case-op : (up : Bool) → recase up ≡ wordOp (caseKind up)
-  unfolding caseKind wordOp byteOp
+  unfolding caseKind wordOp lineOp byteOp
   case-op false = refl
   case-op true = refl
 
@@ -142,7 +169,19 @@ module _ (s w : List ℕ) (k m place : ℕ) where
   changed : (c : Change) (pointed : Bool) (q : Qualified) (new : Line) (n : ℕ) → kindAt w k ≡ changeKind c pointed → shapeOf (changeKind c pointed) ≡ changeShape → m ≡ n + 1
       → ReadsAs s w (k + 1) n q → StringIn s (getD w n 0) new → isLine new ≡ true → Says (alter c pointed q new)
   unfolding formOf Means
-  changed c pointed q new n e shape ends reads x good = rw (e, shape) (c, pointed, q, new, n, refl, refl, ends, reads, x, good)
+  changed c pointed q new n e shape ends reads x good = rw (e, shape, change-not c pointed) (c, pointed, q, new, n, refl, refl, ends, reads, x, good)
+
+  -- GE, GA, GB: their strings, wherever the kind has been read
+  pub global-read : (c : Change) (l new : Line) → OpAt s w k m place (addGlobal c l new) → goodOp (addGlobal c l new) ≡ true → (kindAt w k ≡ globalKind c) × GlobalRead s w k m l new
+  unfolding OpAt goodOp
+  global-read c l new h good = (
+    kinds (globalKind c) (global-shape c .0) (h .2),
+    record { middle = h .0; ends = h .1; first = one-reads s w (k + 1) (h .0) (qualified noQualifiers l) (h .3); second = h .4; good = good },
+  )
+
+  added : (c : Change) (l new : Line) → (kindAt w k ≡ globalKind c) × GlobalRead s w k m l new → Says (addGlobal c l new)
+  unfolding formOf Means
+  added c l new h = rw (h .0, global-shape c .1, global-is c) (c, l, new, refl, refl, h .1)
 
   aimed-at : (kind : ℕ) (after : Bool) (q : Qualified) (op : Op) → kind < 256 → shapeOf kind ≡ stringShape
       → ((op ≡ point after q) × (kind ≡ pointKind after)) ⊎ ((op ≡ split after q) × (kind ≡ splitKind after))
@@ -152,7 +191,7 @@ module _ (s w : List ℕ) (k m place : ℕ) where
 
   -- THE LAW: the kind says which command it is
   pub means : (op : Op) → OpAt s w k m place op → goodOp op ≡ true → Means s w k m (kindAt w k) (formOf (kindAt w k)) op
-  unfolding OpAt wordOp byteOp goodOp formOf Means
+  unfolding OpAt wordOp lineOp byteOp goodOp formOf Means
   means quit h good = word quitKind quit (omega arith) refl refl h
   means nextLine h good = word nextKind nextLine (omega arith) refl refl h
   means previousLine h good = word previousKind previousLine (omega arith) refl refl h
@@ -180,6 +219,8 @@ module _ (s w : List ℕ) (k m place : ℕ) where
       changed c pointed q new (h .0) (kinds (changeKind c pointed) (x .0) (h .2)) (x .1) (h .1) (one-reads s w (k + 1) (h .0) q (h .3)) (h .4) (and-right (goodQualified q) (isLine new) good)
   means (split after q) h good = aimed-at (splitKind after) after q (split after q) (split-shape after .0) (split-shape after .1) (inr (refl, refl)) h
   means (join l) h good = rw (kinds joinKind (omega arith) (h .1)) (l, h .0, h .2, good, inr (refl, refl))
+  means (addGlobal c l new) h good = added c l new (global-read c l new h good)
+  means cancelGlobals h good = word cancelKind cancelGlobals (omega arith) refl refl h
   means (point after q) h good = aimed-at (pointKind after) after q (point after q) (point-shape after .0) (point-shape after .1) (inl (refl, refl)) h
   means onlyStep h good = absurd h
   means (test c) h good = absurd h
@@ -239,6 +280,24 @@ module _ (s w : List ℕ) (k m kind : ℕ) (op : Op) where
   is-join this (l, ends, x, good, inl which) = absurd (omega (arith, this, which .1))
   is-join this (l, ends, x, good, inr which) = (l, which .0, x)
 
+  -- CG, or another of one word
+  pub is-cancel : kind ≡ cancelKind → Means s w k m kind words op → op ≡ cancelGlobals
+  unfolding Means wordOp
+  is-cancel this h = h .1 ∙ rw this
+
+  pub is-on-lines : (kind ≡ cancelKind → ⊥) → Means s w k m kind words op → op ≡ lineOp kind
+  unfolding Means wordOp
+  is-on-lines other h = h .1 ∙ rw (ne-eqb kind cancelKind other)
+
+  -- GE, GA and GB, or a change
+  pub is-global : shapeOf kind ≡ changeShape → isGlobal kind ≡ true → Means s w k m kind (formOf kind) op → Means s w k m kind adding op
+  unfolding formOf
+  is-global shape this h = rw (shape, this) at h
+
+  pub is-change : shapeOf kind ≡ changeShape → isGlobal kind ≡ false → Means s w k m kind (formOf kind) op → Means s w k m kind changing op
+  unfolding formOf
+  is-change shape other h = rw (shape, other) at h
+
   -- of all simple commands
   pub shape-left : (shapeOf kind ≡ wordShape → ⊥) → (shapeOf kind ≡ pairShape → ⊥) → (shapeOf kind ≡ fourShape → ⊥) → (shapeOf kind ≡ stringShape → ⊥)
       → Means s w k m kind (formOf kind) op → shapeOf kind ≡ changeShape
@@ -248,7 +307,7 @@ module _ (s w : List ℕ) (k m kind : ℕ) (op : Op) where
       (rw (ne-eqb (shapeOf kind) wordShape a, ne-eqb (shapeOf kind) stringShape d) at h)
     where
       go : (z t u v x y : Bool) → eqb (shapeOf kind) changeShape ≡ z → eqb kind moveKind ≡ t → eqb kind deleteKind ≡ u → takesString kind ≡ v → eqb kind replaceKind ≡ x → eqb kind insertLinesKind ≡ y
-          → Meant (cond z changing (cond t moving (cond u deleting (cond v stringing (cond x replacing (cond y lining unknown)))))) → shapeOf kind ≡ changeShape
+          → Meant (cond z (cond (isGlobal kind) adding changing) (cond t moving (cond u deleting (cond v stringing (cond x replacing (cond y lining unknown)))))) → shapeOf kind ≡ changeShape
       go true t u v x y e e₁ e₂ e₃ e₄ e₅ p = eqb-true (shapeOf kind) changeShape e
       go false true u v x y e e₁ e₂ e₃ e₄ e₅ p = absurd (b (ap shapeOf (eqb-true kind moveKind e₁)))
       go false false true v x y e e₁ e₂ e₃ e₄ e₅ p = absurd (b (ap shapeOf (eqb-true kind deleteKind e₂)))

@@ -7,15 +7,16 @@ use Prim.Native.Nat.{ℕ, _+_, _≤_, _<_}
 use native.Mathlib.Omega.{arith}
 use lib.ListN.{length, getD}
 use lib.Dec.{ltb}
+use Rattle.definitions.specs.Bytes.{Line}
 use Rattle.definitions.specs.Matching.{Qualified}
 use Rattle.definitions.specs.Search.{Search, one}
-use Rattle.definitions.specs.Edit.{Change, afterIt, beforeIt, exchange, is, isNot, isEof, Op, onlyStep, quit, test, begin, beginBack, find, findBack, findDelete, move, nextLine, previousLine, delete, replace, insert, copy, alter, split, join, point, pointStart, right, left, cutByte, recase}
+use Rattle.definitions.specs.Edit.{Change, afterIt, beforeIt, exchange, is, isNot, isEof, Op, onlyStep, quit, test, begin, beginBack, find, findBack, findDelete, move, nextLine, previousLine, delete, replace, insert, copy, alter, split, join, addGlobal, cancelGlobals, point, pointStart, right, left, cutByte, recase}
 use Rattle.definitions.specs.Control.{Seek, forward, backward, deleting, Opener, times, forever, bare, branch, loop, Item, simple, seek, opens, bracket, close, otherwise, leave, lineEnd}
 use Rattle.matching.specs.Words.{endAt, flagsAt, Encodes}
 use Rattle.matching.proofs.Reading.{one-reads}
 use Rattle.matching.proofs.Running.{forward as ahead}
-use Rattle.items.specs.Kinds.{wordShape, pairShape, fourShape, stringShape, changeShape, searchShape, testShape, openerShape, longOpenerShape, shapeOf, lineEndKind, bracketKind, closeKind, elseKind, leaveKind, quitKind, nextKind, previousKind, copyKind, pointStartKind, rightKind, leftKind, cutByteKind, moveKind, deleteKind, insertStringKind, joinKind, replaceKind, insertLinesKind, ifKind, unlessKind, whileKind, untilKind, countKind, repeatKind, bareKind, ifEofKind, longCountKind, caseKind, pointKind, splitKind, changeKind, seekKind}
-use Rattle.items.specs.Words.{head, headWith, kindAt, placeAt, endBit, OpAt, SearchAt, TimesAt, OpenerAt, ItemAt, ItemsAt}
+use Rattle.items.specs.Kinds.{wordShape, pairShape, fourShape, stringShape, changeShape, searchShape, testShape, openerShape, longOpenerShape, shapeOf, lineEndKind, bracketKind, closeKind, elseKind, leaveKind, quitKind, nextKind, previousKind, copyKind, pointStartKind, rightKind, leftKind, cutByteKind, cancelKind, moveKind, deleteKind, insertStringKind, joinKind, replaceKind, insertLinesKind, ifKind, unlessKind, whileKind, untilKind, countKind, repeatKind, bareKind, ifEofKind, longCountKind, caseKind, pointKind, splitKind, changeKind, globalKind, seekKind}
+use Rattle.items.specs.Words.{head, headWith, kindAt, placeAt, endBit, TwoStringsAt, OpAt, SearchAt, TimesAt, OpenerAt, ItemAt, ItemsAt}
 use Rattle.items.specs.Ends.{classOf, classIn, classBy, placeOf, isOneWord, endIn, endBy, seenAt}
 use Rattle.items.specs.declared.ends.Seen.{Seen}
 use Rattle.items.proofs.FirstWords.{head-kind, head-place}
@@ -77,6 +78,12 @@ change-shape beforeIt true = (omega arith, refl)
 change-shape exchange false = (omega arith, refl)
 change-shape exchange true = (omega arith, refl)
 
+pub global-shape : (c : Change) → (globalKind c < 256) × (shapeOf (globalKind c) ≡ changeShape)
+unfolding globalKind
+global-shape afterIt = (omega arith, refl)
+global-shape beforeIt = (omega arith, refl)
+global-shape exchange = (omega arith, refl)
+
 pub seek-shape : (f : Seek) → (seekKind f < 256) × (shapeOf (seekKind f) ≡ searchShape)
 unfolding seekKind
 seek-shape forward = (omega arith, refl)
@@ -111,6 +118,13 @@ module _ (s w : List ℕ) (k m : ℕ) where
         reads-more w k m (simple place op) kind place 0 small (h .0 ∙ omega arith) refl stringShape shaped refl
         (one-reads s w (k + 1) m q (h .1) .ends) (omega (arith, ahead s w (k + 1) m (one q) (h .1)))
 
+    strings-read : (op : Op) (kind : ℕ) (q : Qualified) (new : Line) → kind < 256 → shapeOf kind ≡ changeShape → TwoStringsAt s w k m (head kind place) q new
+        → ReadsBack w k m (simple place op)
+    unfolding classIn endIn isOneWord classOf placeOf
+    strings-read op kind q new small shaped h =
+        reads-more w k m (simple place op) kind place 0 small (h .2 ∙ omega arith) refl changeShape shaped refl
+        (ap (λ (e : ℕ). e + 1) (one-reads s w (k + 1) (h .0) q (h .3) .ends) ∙ sym (h .1)) (omega (arith, h .1, ahead s w (k + 1) (h .0) (one q) (h .3)))
+
     pub op-reads : (op : Op) → OpAt s w k m place op → ReadsBack w k m (simple place op)
     unfolding OpAt classIn endIn isOneWord classOf placeOf
     op-reads quit h = plain-reads quit quitKind (omega arith) refl h
@@ -127,12 +141,11 @@ module _ (s w : List ℕ) (k m : ℕ) where
     op-reads (replace a b ls) h = four-reads (replace a b ls) replaceKind (endBit b) (omega arith) refl (h .0) (h .1 .first)
     op-reads (insert a ls) (inl h) = pair-reads (insert a ls) insertStringKind 0 (omega arith) refl (h .0) (h .1 ∙ omega arith)
     op-reads (insert a ls) (inr h) = four-reads (insert a ls) insertLinesKind 0 (omega arith) refl (h .0) (h .1 ∙ omega arith)
-    op-reads (alter c pointing q new) h =
-        let x = change-shape c pointing in
-        reads-more w k m (simple place (alter c pointing q new)) (changeKind c pointing) place 0 (x .0) (h .2 ∙ omega arith) refl changeShape (x .1) refl
-        (ap (λ (e : ℕ). e + 1) (one-reads s w (k + 1) (h .0) q (h .3) .ends) ∙ sym (h .1)) (omega (arith, h .1, ahead s w (k + 1) (h .0) (one q) (h .3)))
+    op-reads (alter c pointing q new) h = strings-read (alter c pointing q new) (changeKind c pointing) q new (change-shape c pointing .0) (change-shape c pointing .1) h
     op-reads (split after q) h = string-reads (split after q) (splitKind after) q (split-shape after .0) (split-shape after .1) h
     op-reads (join l) h = pair-reads (join l) joinKind 0 (omega arith) refl (h .0) (h .1 ∙ omega arith)
+    op-reads (addGlobal c l new) h = strings-read (addGlobal c l new) (globalKind c) _ new (global-shape c .0) (global-shape c .1) h
+    op-reads cancelGlobals h = plain-reads cancelGlobals cancelKind (omega arith) refl h
     op-reads (point after q) h = string-reads (point after q) (pointKind after) q (point-shape after .0) (point-shape after .1) h
     op-reads onlyStep h = absurd h
     op-reads (test c) h = absurd h

@@ -1,7 +1,8 @@
 -- The kinds of items: the one table. Each shape has sixteen kinds; an item's shape says how many words it has and what they hold. What a shape has free
 -- is for commands to come, and so are the shapes from 10 to 15.
-use mathlib.Core.Bool.{Bool, true, false}
+use mathlib.Core.Bool.{Bool, true, false, _||_}
 use Prim.Native.Nat.{ℕ, _+_, _*_, _/_}
+use lib.Dec.{eqb}
 use Rattle.definitions.specs.Edit.{Change, afterIt, beforeIt, exchange}
 use Rattle.definitions.specs.Control.{Seek, forward, backward, deleting}
 
@@ -95,6 +96,9 @@ lowerKind = 16 * wordShape + 8
 abbrev pub upperKind : ℕ
 upperKind = 16 * wordShape + 9
 
+abbrev pub cancelKind : ℕ
+cancelKind = 16 * wordShape + 10
+
 abbrev pub moveKind : ℕ
 moveKind = 16 * pairShape + 0
 
@@ -142,6 +146,15 @@ exchangeKind = 16 * changeShape + 4
 
 abbrev pub exchangePointingKind : ℕ
 exchangePointingKind = 16 * changeShape + 5
+
+abbrev pub globalAfterKind : ℕ
+globalAfterKind = 16 * changeShape + 6
+
+abbrev pub globalBeforeKind : ℕ
+globalBeforeKind = 16 * changeShape + 7
+
+abbrev pub globalExchangeKind : ℕ
+globalExchangeKind = 16 * changeShape + 8
 
 -- ---- searches and openers
 
@@ -207,6 +220,16 @@ changeKind beforeIt false = beforeKind
 changeKind beforeIt true = beforePointingKind
 changeKind exchange false = exchangeKind
 changeKind exchange true = exchangePointingKind
+
+-- GA, GB, GE (document 02, wish 2)
+unfoldable pub globalKind : Change → ℕ
+globalKind afterIt = globalAfterKind
+globalKind beforeIt = globalBeforeKind
+globalKind exchange = globalExchangeKind
+
+-- among the kinds of a change's shape
+unfoldable pub isGlobal : ℕ → Bool
+isGlobal kind = eqb kind globalAfterKind || (eqb kind globalBeforeKind || eqb kind globalExchangeKind)
 
 -- F, BF, DF
 unfoldable pub seekKind : Seek → ℕ

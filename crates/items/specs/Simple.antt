@@ -6,12 +6,12 @@ use Prim.Native.Nat.{ℕ, _≤_}
 use lib.ListN.{length}
 use lib.Dec.{eqb}
 use Rattle.definitions.specs.Table.{isScript}
-use Rattle.definitions.specs.Edit.{Op, quit, nextLine, previousLine, copy, pointStart, right, left, cutByte, recase}
+use Rattle.definitions.specs.Edit.{Op, quit, nextLine, previousLine, copy, cancelGlobals, pointStart, right, left, cutByte, recase}
 use Rattle.theorems.specs.GoodItems.{goodOp}
-use Rattle.items.specs.Kinds.{quitKind, nextKind, previousKind, copyKind, pointStartKind, rightKind, leftKind, cutByteKind, lowerKind}
+use Rattle.items.specs.Kinds.{quitKind, nextKind, previousKind, copyKind, pointStartKind, rightKind, leftKind, cutByteKind, lowerKind, cancelKind}
 use Rattle.items.specs.Words.{OpAt}
 
--- the command of one word, by its kind: on bytes of the current line, and all
+-- the command of one word, by its kind: on bytes of the current line; on lines, and those; all
 unfoldable pub byteOp : ℕ → Op
 byteOp kind =
     cond (eqb kind pointStartKind) pointStart
@@ -20,12 +20,15 @@ byteOp kind =
     (cond (eqb kind cutByteKind) cutByte
     (cond (eqb kind lowerKind) (recase false) (recase true)))))
 
-unfoldable pub wordOp : ℕ → Op
-wordOp kind =
+unfoldable pub lineOp : ℕ → Op
+lineOp kind =
     cond (eqb kind quitKind) quit
     (cond (eqb kind nextKind) nextLine
     (cond (eqb kind previousKind) previousLine
     (cond (eqb kind copyKind) copy (byteOp kind))))
+
+unfoldable pub wordOp : ℕ → Op
+wordOp kind = cond (eqb kind cancelKind) cancelGlobals (lineOp kind)
 
 -- the words from k on hold the simple command `op` of the script
 pub record CommandAt (script w : List ℕ) (k : ℕ) (op : Op) : Type 0 where

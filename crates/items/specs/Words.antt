@@ -6,12 +6,14 @@ use mathlib.Core.List.{List, [], _∷_}
 use Prim.Native.Nat.{ℕ, suc, _+_, _-_, _*_, _/_, _%_, _≤_, _<_}
 use lib.ListN.{length, take, drop, getD}
 use Rattle.definitions.specs.Bytes.{Line, linesOf}
+use Rattle.definitions.specs.Matching.{Qualified, qualified}
 use Rattle.definitions.specs.Search.{Search, one}
+use Rattle.definitions.specs.Strings.{noQualifiers}
 use Rattle.definitions.specs.Editor.{Target, here, line, eof, Through, alone, upTo, toEof}
-use Rattle.definitions.specs.Edit.{is, isNot, isEof, Op, onlyStep, quit, test, begin, beginBack, find, findBack, findDelete, move, nextLine, previousLine, delete, replace, insert, copy, alter, split, join, point, pointStart, right, left, cutByte, recase}
+use Rattle.definitions.specs.Edit.{is, isNot, isEof, Op, onlyStep, quit, test, begin, beginBack, find, findBack, findDelete, move, nextLine, previousLine, delete, replace, insert, copy, alter, split, join, addGlobal, cancelGlobals, point, pointStart, right, left, cutByte, recase}
 use Rattle.definitions.specs.Control.{Opener, times, forever, bare, branch, loop, Item, simple, seek, opens, bracket, close, otherwise, leave, lineEnd}
 use Rattle.matching.specs.Words.{Encodes}
-use Rattle.items.specs.Kinds.{lineEndKind, bracketKind, closeKind, elseKind, leaveKind, quitKind, nextKind, previousKind, copyKind, pointStartKind, rightKind, leftKind, cutByteKind, moveKind, deleteKind, insertStringKind, joinKind, replaceKind, insertLinesKind, ifKind, unlessKind, whileKind, untilKind, countKind, repeatKind, bareKind, ifEofKind, longCountKind, caseKind, pointKind, splitKind, changeKind, seekKind}
+use Rattle.items.specs.Kinds.{lineEndKind, bracketKind, closeKind, elseKind, leaveKind, quitKind, nextKind, previousKind, copyKind, pointStartKind, rightKind, leftKind, cutByteKind, cancelKind, moveKind, deleteKind, insertStringKind, joinKind, replaceKind, insertLinesKind, ifKind, unlessKind, whileKind, untilKind, countKind, repeatKind, bareKind, ifEofKind, longCountKind, caseKind, pointKind, splitKind, changeKind, globalKind, seekKind}
 
 -- ---- an item's first word: its kind, below 256, its place, below 32,768, and a number below 512
 
@@ -94,6 +96,10 @@ module _ (s w : List ℕ) where
     pub second : at (k + 1) ≡ targetCode a + 65536 * lastCode b
     pub before : targetCode a < 65536
 
+  -- a first word, the words of a qualified string, and a string's word
+  abbrev pub TwoStringsAt : ℕ → ℕ → ℕ → Qualified → Line → Type 0
+  TwoStringsAt k m first q new = (n : ℕ) × (m ≡ n + 1) × (at k ≡ first) × Encodes s w (k + 1) n (one q) × StringIn s (at n) new
+
   -- a simple command at `place`, in the words from k up to m
   unfoldable pub OpAt : ℕ → ℕ → ℕ → Op → Type 0
   OpAt k m place quit = Words1 k m (head quitKind place)
@@ -111,10 +117,11 @@ module _ (s w : List ℕ) where
   OpAt k m place (insert a ls) =
       ((m ≡ k + 2) × (at k ≡ head insertStringKind place) × (a ≡ none) × ((l : Line) × StringIn s (at (k + 1)) l × (ls ≡ l ∷ [])))
       ⊎ ((m ≡ k + 4) × (at k ≡ head insertLinesKind place) × (at (k + 1) ≡ spotCode a) × LinesIn s (at (k + 2)) (at (k + 3)) ls)
-  OpAt k m place (alter c pointing q new) =
-      (n : ℕ) × (m ≡ n + 1) × (at k ≡ head (changeKind c pointing) place) × Encodes s w (k + 1) n (one q) × StringIn s (at n) new
+  OpAt k m place (alter c pointing q new) = TwoStringsAt k m (head (changeKind c pointing) place) q new
   OpAt k m place (split after q) = (at k ≡ head (splitKind after) place) × Encodes s w (k + 1) m (one q)
   OpAt k m place (join l) = (m ≡ k + 2) × (at k ≡ head joinKind place) × StringIn s (at (k + 1)) l
+  OpAt k m place (addGlobal c l new) = TwoStringsAt k m (head (globalKind c) place) (qualified noQualifiers l) new
+  OpAt k m place cancelGlobals = Words1 k m (head cancelKind place)
   OpAt k m place (point after q) = (at k ≡ head (pointKind after) place) × Encodes s w (k + 1) m (one q)
   OpAt k m place onlyStep = ⊥
   OpAt k m place (test c) = ⊥

@@ -2,8 +2,11 @@
 ghost use mathlib.Core.Path.{_≡_};
 ghost use Prim.Native.Nat.{_≤_, _<_};
 ghost use lib.ListN.{length};
-ghost use Rattle.items.specs.Kinds.{shapeOf};
+ghost use Rattle.items.specs.Kinds.{shapeOf, isGlobal};
 ghost use Rattle.items.specs.Words.{head as «head-of», headWith, kindAt, placeAt, numberAt};
+use crate::kinds::GLOBAL_AFTER;
+use crate::kinds::GLOBAL_BEFORE;
+use crate::kinds::GLOBAL_EXCHANGE;
 
 // A first word without a number.
 pub fn head(kind: u32, place: usize) -> u32
@@ -49,4 +52,16 @@ pub fn shape_of(kind: u32) -> u32
     ensures { λ r. ⌜ r ≡ shapeOf kind ⌝ }
 {
     kind / 16
+}
+
+// GA, GB and GE, among the kinds of a change's shape.
+pub fn is_global(kind: u32) -> bool
+    ensures { λ r. ⌜ r ≡ isGlobal kind ⌝ }
+{
+    match kind {
+        GLOBAL_AFTER => true,
+        GLOBAL_BEFORE => true,
+        GLOBAL_EXCHANGE => true,
+        _ => false,
+    }
 }

@@ -57,6 +57,9 @@ pub const LOWER: u32 = 16 * WORDS + 8;
 
 pub const UPPER: u32 = 16 * WORDS + 9;
 
+// CG.
+pub const CANCEL: u32 = 16 * WORDS + 10;
+
 // M, D, IS, CL.
 pub const MOVE: u32 = 16 * PAIRS;
 
@@ -92,6 +95,13 @@ pub const BEFORE_POINTING: u32 = 16 * CHANGES + 3;
 pub const EXCHANGE: u32 = 16 * CHANGES + 4;
 
 pub const EXCHANGE_POINTING: u32 = 16 * CHANGES + 5;
+
+// GA, GB, GE.
+pub const GLOBAL_AFTER: u32 = 16 * CHANGES + 6;
+
+pub const GLOBAL_BEFORE: u32 = 16 * CHANGES + 7;
+
+pub const GLOBAL_EXCHANGE: u32 = 16 * CHANGES + 8;
 
 // Searches: F, BF, DF.
 pub const FIND: u32 = 16 * SEARCHES;

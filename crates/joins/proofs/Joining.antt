@@ -11,7 +11,7 @@ use borrow.Author.Tests.{lt-ltb, le-ltb}
 use Rattle.definitions.specs.Bytes.{Line, isLine}
 use Rattle.definitions.specs.Journal.{Record, kept}
 use Rattle.definitions.specs.Tape.{Tape, restLines}
-use Rattle.definitions.specs.Given.{Given, Carried, carried}
+use Rattle.definitions.specs.Given.{Given, Carried, noGlobals}
 use Rattle.definitions.specs.Editor.{Ed, ed, afterOf, current, firstLive, n20, n25, n30, stopNumber, strikeNext, retext}
 use Rattle.definitions.specs.Reading.{gave}
 use Rattle.definitions.specs.StepProgram.{Program, gives, _>>=_, _>>_, runs, state, Did, changes, perform}
@@ -19,7 +19,7 @@ use Rattle.definitions.specs.Edit.{Op, orStop, see, readPast, nextOr30, writeJo
 use Rattle.theorems.specs.Programs.{runs-assoc, runs-on, runs-pass, runs-halt, runs-some, runs-none}
 use Rattle.editor.specs.Records.{enc, encAll, Good}
 use Rattle.editor.specs.Shows.{Shows, pointOf, lent, Answered}
-use Rattle.editor.specs.Current.{currentLine, ShowsOf, ShownOf, PerformsOf}
+use Rattle.editor.specs.Current.{currentLine, ShowsOf, ShownOf}
 use Rattle.editor.specs.declared.State.{State}
 use Rattle.editor.specs.declared.Moved.{Moved}
 use Rattle.editor.specs.declared.Moved.the-variants.{Stop}
@@ -27,7 +27,7 @@ use Rattle.editor.proofs.Parts.{perform-as, perform-stop, perform-line, perform
 use Rattle.spans.specs.Spans.{NextAt, ReadsNext}
 use Rattle.spans.specs.declared.Next.{Next}
 use Rattle.spans.proofs.Nexts.{NextRead, next-read, NextRecord, next-none, next-some, next-text}
-use Rattle.joins.specs.Joining.{HasRecord, HasNext, JoinsText, JoinsLines}
+use Rattle.joins.specs.Joining.{HasRecord, HasNext, JoinsText, JoinsLines, Joins}
 use Rattle.joins.proofs.Parts.{joined-text, joined-line}
 use Rattle.joins.proofs.Both.{no-line, next-good, next-bytes}
 
@@ -80,87 +80,87 @@ module _ (g : Given) (c : Carried) (l : Line) (q : ℕ) (e : Ed) (t : Tape) wher
 
 module _ {table j : List ℕ} {st : State} (s : Line) where
   -- EOF is current
-  pub join-eof : length j ≤ st .back → PerformsOf table j st (Op.join s) j (Stop 20 st)
+  pub join-eof : length j ≤ st .back → Joins table j st s j (Stop 20 st)
   unfolding step program joining stopNumber
-  join-eof end e c t h = perform-no-line (lent j) c n20 (joining s) e t (h .shows) 20 refl end
+  join-eof end e t h = perform-no-line (lent j) noGlobals n20 (joining s) e t (h .shows) 20 refl end
 
   module _ (more : st .back < length j) (r : Next) (reads : ReadsNext j st r) where
-    read : (e : Ed) (c : Carried) (t : Tape) → ShowsOf table j st e t → NextRead j 1 r (runs (lent j) c (readPast 1) e t)
-    read e c t h = next-read (runs (lent j) c (readPast 1) e t) (reads e c t (h .shows))
+    read : (e : Ed) (t : Tape) → ShowsOf table j st e t → NextRead j 1 r (runs (lent j) noGlobals (readPast 1) e t)
+    read e t h = next-read (runs (lent j) noGlobals (readPast 1) e t) (reads e t (h .shows))
 
     -- once the next live line is read
-    joins-next : (e : Ed) (c : Carried) (t : Tape) (h : ShowsOf table j st e t)
-        → step (lent j) (Op.join s) (state e c) t
-        ≡ perform (lent j) (_>>=_ (orStop n30 (firstLive (drop 1 (afterOf (read e c t h .text))))) (λ m. writeJoined (currentLine e ++ (s ++ m)) (pointOf e))) (state (read e c t h .text) c) (read e c t h .tape)
+    joins-next : (e : Ed) (t : Tape) (h : ShowsOf table j st e t)
+        → step (lent j) (Op.join s) (state e noGlobals) t
+        ≡ perform (lent j) (_>>=_ (orStop n30 (firstLive (drop 1 (afterOf (read e t h .text))))) (λ m. writeJoined (currentLine e ++ (s ++ m)) (pointOf e))) (state (read e t h .text) noGlobals) (read e t h .tape)
     unfolding step program joining
-    joins-next e c t h =
-        let w : NextRead j 1 r (runs (lent j) c (readPast 1) e t) = read e c t h in
+    joins-next e t h =
+        let w : NextRead j 1 r (runs (lent j) noGlobals (readPast 1) e t) = read e t h in
         let k : Line → Program Did = λ m. writeJoined (currentLine e ++ (s ++ m)) (pointOf e) in
-        perform-line (lent j) c n20 (joining s) e t (h .shows) more
-        ∙ perform-as (lent j) c (_>>=_ nextOr30 k) (_>>=_ (orStop n30 (firstLive (drop 1 (afterOf (w .text))))) k) e (w .text) t (w .tape) (once-read (lent j) c e t (w .text) (w .tape) (w .is) k)
+        perform-line (lent j) noGlobals n20 (joining s) e t (h .shows) more
+        ∙ perform-as (lent j) noGlobals (_>>=_ nextOr30 k) (_>>=_ (orStop n30 (firstLive (drop 1 (afterOf (w .text))))) k) e (w .text) t (w .tape) (once-read (lent j) noGlobals e t (w .text) (w .tape) (w .is) k)
 
     -- there is none
-    pub join-none : length j ≤ r .at → PerformsOf table j st (Op.join s) j (Stop 30 (r .st))
+    pub join-none : length j ≤ r .at → Joins table j st s j (Stop 30 (r .st))
     unfolding stopNumber
-    join-none end e c t h =
-        let w : NextRead j 1 r (runs (lent j) c (readPast 1) e t) = read e c t h in
+    join-none end e t h =
+        let w : NextRead j 1 r (runs (lent j) noGlobals (readPast 1) e t) = read e t h in
         let k : Line → Program Did = λ m. writeJoined (currentLine e ++ (s ++ m)) (pointOf e) in
-        rw (joins-next e c t h)
-        (perform-stop (lent j) c (_>>=_ (orStop n30 (firstLive (drop 1 (afterOf (w .text))))) k) (w .text) (w .tape) j 30 (r .st)
-        (came-stop (runs-none (lent j) c n30 (firstLive (drop 1 (afterOf (w .text)))) k (w .text) (w .tape) (next-none (w .text) (w .tape) (w .next) end)) refl (w .shows)))
+        rw (joins-next e t h)
+        (perform-stop (lent j) noGlobals (_>>=_ (orStop n30 (firstLive (drop 1 (afterOf (w .text))))) k) (w .text) (w .tape) j 30 (r .st)
+        (came-stop (runs-none (lent j) noGlobals n30 (firstLive (drop 1 (afterOf (w .text)))) k (w .text) (w .tape) (next-none (w .text) (w .tape) (w .next) end)) refl (w .shows)))
 
     module _ (less : r .at < length j) where
       pub has-next : ShownOf table j st → HasNext j (r .st) (r .at)
       has-next (e, t, h) =
-          let w : NextRead j 1 r (runs (lent j) carried (readPast 1) e t) = read e carried t h in
+          let w : NextRead j 1 r (runs (lent j) noGlobals (readPast 1) e t) = read e t h in
           ((w .text, w .tape, w .shows, w .next), less)
 
-      here : (e : Ed) (c : Carried) (t : Tape) (h : ShowsOf table j st e t) → There j (r .at) (read e c t h .text)
-      here e c t h =
-          let w : NextRead j 1 r (runs (lent j) c (readPast 1) e t) = read e c t h in
+      here : (e : Ed) (t : Tape) (h : ShowsOf table j st e t) → There j (r .at) (read e t h .text)
+      here e t h =
+          let w : NextRead j 1 r (runs (lent j) noGlobals (readPast 1) e t) = read e t h in
           there (w .text) (w .tape) (w .shows) (w .next) less
 
       pub has-there : ShownOf table j st → HasRecord j (r .at)
       has-there (e, t, h) =
-          let x : There j (r .at) (read e carried t h .text) = here e carried t h in
+          let x : There j (r .at) (read e t h .text) = here e t h in
           (x .this, x .z, x .good, x .bytes)
 
       -- it stands there
-      joins-found : (e : Ed) (c : Carried) (t : Tape) (h : ShowsOf table j st e t)
-          → step (lent j) (Op.join s) (state e c) t
-          ≡ perform (lent j) (writeJoined (currentLine e ++ (s ++ current (here e c t h .this))) (pointOf e)) (state (read e c t h .text) c) (read e c t h .tape)
-      joins-found e c t h =
-          let w : NextRead j 1 r (runs (lent j) c (readPast 1) e t) = read e c t h in
-          let x : There j (r .at) (w .text) = here e c t h in
+      joins-found : (e : Ed) (t : Tape) (h : ShowsOf table j st e t)
+          → step (lent j) (Op.join s) (state e noGlobals) t
+          ≡ perform (lent j) (writeJoined (currentLine e ++ (s ++ current (here e t h .this))) (pointOf e)) (state (read e t h .text) noGlobals) (read e t h .tape)
+      joins-found e t h =
+          let w : NextRead j 1 r (runs (lent j) noGlobals (readPast 1) e t) = read e t h in
+          let x : There j (r .at) (w .text) = here e t h in
           let k : Line → Program Did = λ m. writeJoined (currentLine e ++ (s ++ m)) (pointOf e) in
-          joins-next e c t h
-          ∙ perform-as (lent j) c (_>>=_ (orStop n30 (firstLive (drop 1 (afterOf (w .text))))) k) (k (current (x .this))) (w .text) (w .text) (w .tape) (w .tape)
-          (runs-some (lent j) c n30 (firstLive (drop 1 (afterOf (w .text)))) (current (x .this)) k (w .text) (w .tape) (x .text))
+          joins-next e t h
+          ∙ perform-as (lent j) noGlobals (_>>=_ (orStop n30 (firstLive (drop 1 (afterOf (w .text))))) k) (k (current (x .this))) (w .text) (w .text) (w .tape) (w .tape)
+          (runs-some (lent j) noGlobals n30 (firstLive (drop 1 (afterOf (w .text)))) (current (x .this)) k (w .text) (w .tape) (x .text))
 
       module _ (d line : List ℕ) (len : ℕ) (did : JoinsText table j st (r .at) s d line len) where
         -- the joined line is too long
-        pub join-long : 255 < len → PerformsOf table j st (Op.join s) j (Stop 25 (r .st))
-        join-long long e c t h =
-            let w : NextRead j 1 r (runs (lent j) c (readPast 1) e t) = read e c t h in
-            let x : There j (r .at) (w .text) = here e c t h in
-            rw (joins-found e c t h)
-            (joined-long (lent j) c (currentLine e ++ (s ++ current (x .this))) (pointOf e) (w .text) (w .tape) j (r .st) (omega (arith, did e t (x .this) (x .z) h (x .good) (x .bytes) .0, long)) (w .shows))
+        pub join-long : 255 < len → Joins table j st s j (Stop 25 (r .st))
+        join-long long e t h =
+            let w : NextRead j 1 r (runs (lent j) noGlobals (readPast 1) e t) = read e t h in
+            let x : There j (r .at) (w .text) = here e t h in
+            rw (joins-found e t h)
+            (joined-long (lent j) noGlobals (currentLine e ++ (s ++ current (x .this))) (pointOf e) (w .text) (w .tape) j (r .st) (omega (arith, did e t (x .this) (x .z) h (x .good) (x .bytes) .0, long)) (w .shows))
 
         module _ (short : len ≤ 255) where
           pub has-text : isLine s ≡ true → ShownOf table j st → isLine (take len line) ≡ true
           has-text fine (e, t, h) =
-              let x : There j (r .at) (read e carried t h .text) = here e carried t h in
+              let x : There j (r .at) (read e t h .text) = here e t h in
               joined-line (r .at) s d line len did short e t (x .this) (x .z) h (x .good) (x .bytes) fine
 
-          pub join-done : (k : List ℕ) (m : Moved) → JoinsLines j (r .st) (r .at) (take len line) (st .p) k m → PerformsOf table j st (Op.join s) k m
-          join-done k m joins e c t h =
-              let w : NextRead j 1 r (runs (lent j) c (readPast 1) e t) = read e c t h in
-              let x : There j (r .at) (w .text) = here e c t h in
+          pub join-done : (k : List ℕ) (m : Moved) → JoinsLines j (r .st) (r .at) (take len line) (st .p) k m → Joins table j st s k m
+          join-done k m joins e t h =
+              let w : NextRead j 1 r (runs (lent j) noGlobals (readPast 1) e t) = read e t h in
+              let x : There j (r .at) (w .text) = here e t h in
               let l : Line = currentLine e ++ (s ++ current (x .this)) in
               rw (
-                joins-found e c t h,
-                joined-on (lent j) c l (pointOf e) (w .text) (w .tape) (omega (arith, did e t (x .this) (x .z) h (x .good) (x .bytes) .0, short)),
+                joins-found e t h,
+                joined-on (lent j) noGlobals l (pointOf e) (w .text) (w .tape) (omega (arith, did e t (x .this) (x .z) h (x .good) (x .bytes) .0, short)),
                 ← (joined-text (r .at) s d line len did short e t (x .this) (x .z) h (x .good) (x .bytes)),
                 ← (h .shows .p),
               )
-              (joins (w .text) c (w .tape) (w .shows) (w .next))
+              (joins (w .text) noGlobals (w .tape) (w .shows) (w .next))

@@ -8,9 +8,10 @@ use lib.Dec.{leb}
 use Rattle.definitions.specs.Bytes.{Line}
 use Rattle.definitions.specs.Journal.{Record}
 use Rattle.definitions.specs.Tape.{Tape}
-use Rattle.definitions.specs.Given.{Carried}
+use Rattle.definitions.specs.Given.{Carried, noGlobals}
 use Rattle.definitions.specs.Editor.{Ed, current, strikeNext, retext}
 use Rattle.definitions.specs.StepProgram.{gives, state, changes, perform}
+use Rattle.definitions.specs.Edit.{Op, step}
 use Rattle.editor.specs.Records.{enc, Good}
 use Rattle.editor.specs.Shows.{Shows, lent, Answered}
 use Rattle.editor.specs.Current.{currentLine, ShowsOf}
@@ -42,3 +43,9 @@ abbrev pub JoinsLines : List ℕ → State → ℕ → Line → ℕ → List ℕ
 JoinsLines j st at l q k r =
     (e : Ed) (c : Carried) (t : Tape) → Shows j st e t → NextAt j at 1 e t
     → Answered k r (perform (lent j) (gives (changes (retext l q ∷ strikeNext ∷ []))) (state e c) t)
+
+-- ---- CL
+
+-- CL with the string s, where no global stands
+abbrev pub Joins : List ℕ → List ℕ → State → Line → List ℕ → Moved → Type 0
+Joins table j st s k r = (e : Ed) (t : Tape) → ShowsOf table j st e t → Answered k r (step (lent j) (Op.join s) (state e noGlobals) t)

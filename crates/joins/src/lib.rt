@@ -6,10 +6,9 @@ ghost use mathlib.Core.Bool.{true};
 ghost use Prim.Native.Nat.{_≤_};
 ghost use lib.ListN.{length, take, drop};
 ghost use Rattle.definitions.specs.Bytes.{isLine};
-ghost use Rattle.definitions.specs.Edit.{Op};
 ghost use Rattle.editor.specs.Records.{LineIn};
-ghost use Rattle.editor.specs.Current.{ShownOf, PerformsOf};
-ghost use Rattle.joins.specs.Joining.{HasNext, JoinsLines};
+ghost use Rattle.editor.specs.Current.{ShownOf};
+ghost use Rattle.joins.specs.Joining.{HasNext, JoinsLines, Joins};
 use editor::Moved;
 use editor::State;
 
@@ -35,7 +34,7 @@ fn join_at(j: &mut [u8], st: State, at: usize, line: &[u8], len: usize, q: usize
 // CL: the string is the n bytes of s from `from` on.
 pub fn join(table: &[u8], j: &mut [u8], st: State, s: &[u8], from: usize, n: usize) -> Moved
     requires { ⌜ ShownOf (now table) (now j) st × LineIn (now s) from n ⌝ }
-    ensures { λ r. ⌜ PerformsOf (now (table .entry)) (now (j .entry)) st (Op.join (take n (drop from (now (s .entry))))) (now (j .exit)) r ⌝ }
+    ensures { λ r. ⌜ Joins (now (table .entry)) (now (j .entry)) st (take n (drop from (now (s .entry)))) (now (j .exit)) r ⌝ }
 {
     let here = st.back;
     if here >= j.len() {

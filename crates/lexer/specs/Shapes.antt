@@ -1,16 +1,16 @@
 -- The commands' shapes as the reader answers them.
 use mathlib.Core.Bool.{true, false}
-use Rattle.definitions.specs.Edit.{Change, afterIt, beforeIt, exchange, Op, quit, nextLine, previousLine, copy, pointStart, right, left, cutByte, recase}
+use Rattle.definitions.specs.Edit.{Change, afterIt, beforeIt, exchange, Op, quit, nextLine, previousLine, copy, cancelGlobals, pointStart, right, left, cutByte, recase}
 use Rattle.definitions.specs.Control.{Seek, forward, backward, deleting}
-use Rattle.definitions.specs.Commands.{Shape, plain, leaves, seeks, moves, deletes, insertsString, insertsLines, replaces, alters, points, splits, joins, repeats, branches, branchesEof, loops, unknown}
+use Rattle.definitions.specs.Commands.{Shape, plain, leaves, seeks, moves, deletes, insertsString, insertsLines, replaces, alters, points, splits, joins, globals, repeats, branches, branchesEof, loops, unknown}
 use Rattle.lexer.specs.declared.shapes.Plain.{Plain as PlainHere}
-use Rattle.lexer.specs.declared.shapes.Plain.the-variants.{Next, Previous, Copy, PointStart, Right, Left, CutByte, Lower, Upper, Quit}
+use Rattle.lexer.specs.declared.shapes.Plain.the-variants.{Next, Previous, Copy, PointStart, Right, Left, CutByte, Lower, Upper, Quit, Cancel}
 use Rattle.lexer.specs.declared.shapes.Seek.{Seek as SeekHere}
 use Rattle.lexer.specs.declared.shapes.Seek.the-variants.{Forward, Backward, Deleting}
 use Rattle.lexer.specs.declared.shapes.Change.{Change as ChangeHere}
 use Rattle.lexer.specs.declared.shapes.Change.the-variants.{After, Before, Exchange}
 use Rattle.lexer.specs.declared.shapes.Shape.{Shape as ShapeHere}
-use Rattle.lexer.specs.declared.shapes.Shape.the-variants.{Plain, Leaves, Seeks, Moves, Deletes, InsertsString, InsertsLines, Replaces, Alters, Points, Splits, Joins, Repeats, Branches, BranchesEof, Loops, Unknown}
+use Rattle.lexer.specs.declared.shapes.Shape.the-variants.{Plain, Leaves, Seeks, Moves, Deletes, InsertsString, InsertsLines, Replaces, Alters, Points, Splits, Joins, Globals, Repeats, Branches, BranchesEof, Loops, Unknown}
 
 unfoldable pub plainOf : PlainHere → Op
 plainOf Next = nextLine
@@ -23,6 +23,7 @@ plainOf CutByte = cutByte
 plainOf Lower = recase false
 plainOf Upper = recase true
 plainOf Quit = quit
+plainOf Cancel = cancelGlobals
 
 unfoldable pub seekOf : SeekHere → Seek
 seekOf Forward = forward
@@ -47,6 +48,7 @@ shapeIn (Alters c pointing) = alters (changeOf c) pointing
 shapeIn (Points after) = points after
 shapeIn (Splits after) = splits after
 shapeIn Joins = joins
+shapeIn (Globals c) = globals (changeOf c)
 shapeIn Repeats = repeats
 shapeIn (Branches b) = branches b
 shapeIn BranchesEof = branchesEof

@@ -15,6 +15,7 @@ pub enum Plain {
     Lower,
     Upper,
     Quit,
+    Cancel,
 }
 
 pub enum Seek {
@@ -53,6 +54,8 @@ pub enum Shape {
     Splits(bool),
     // CL: a string
     Joins,
+    // GE, GA, GB: two strings
+    Globals(Change),
     // RPT: a command or group
     Repeats,
     // IF (true), UL: a search expression, a command or group
@@ -115,6 +118,14 @@ pub fn command(letters: u32) -> Shape
         21314 => Shape::Splits(false),
         // CL
         17228 => Shape::Joins,
+        // GE
+        18245 => Shape::Globals(Change::Exchange),
+        // GA
+        18241 => Shape::Globals(Change::After),
+        // GB
+        18242 => Shape::Globals(Change::Before),
+        // CG
+        17223 => Shape::Plain(Plain::Cancel),
         // >
         62 => Shape::Plain(Plain::Right),
         // <

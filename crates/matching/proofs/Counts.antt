@@ -10,11 +10,11 @@ use Rattle.matching.specs.Quals.{foundOf}
 use Rattle.matching.specs.declared.Found.the-variants.{At, Nothing}
 
 module _ (st : ℕ → Bool) (w : ℕ) where
-  no-place : (k n j : ℕ) → occurrence st w k n 0 j ≡ none
+  pub no-place : (k n j : ℕ) → occurrence st w k n 0 j ≡ none
   unfolding occurrence
   no-place k n j = refl
 
-  found-here : (left j : ℕ) → st j ≡ true → occurrence st w 0 0 (suc left) j ≡ some j
+  pub found-here : (left j : ℕ) → st j ≡ true → occurrence st w 0 0 (suc left) j ≡ some j
   unfolding occurrence
   found-here left j e = rw (e, occurrence)
 

@@ -8,8 +8,8 @@ use lib.Seq.{length-take-le, take-append-le}
 use Rattle.definitions.specs.Bytes.{Line}
 use Rattle.definitions.specs.Journal.{Record, kept, inserted, journalLength}
 use Rattle.definitions.specs.Tape.{Tape, restLines}
-use Rattle.definitions.specs.Given.{Given, Carried}
-use Rattle.definitions.specs.Editor.{Ed, ed, beforeOf, afterOf, records, journal, sources, hasLive, land, struck, Target, Through, putBefore, strike, put, edit, edits}
+use Rattle.definitions.specs.Given.{Given, Carried, noGlobals}
+use Rattle.definitions.specs.Editor.{Ed, ed, beforeOf, afterOf, records, journal, hasLive, land, struck, Target, Through, putBefore, strike, put, edit, edits}
 use Rattle.definitions.specs.Reading.{Ran, gave}
 use Rattle.definitions.specs.StepProgram.{gives, _>>=_, _>>_, runs, state, changes, perform}
 use Rattle.definitions.specs.Edit.{readPast, span, Op, program, step}
@@ -23,12 +23,12 @@ use Rattle.editor.proofs.Reading.{next-rest, journal-is}
 use Rattle.editor.proofs.Parts.{perform-as}
 use Rattle.editor.proofs.Inserting.{held-journal, put-length}
 use Rattle.editor.proofs.Changing.{changes-on, changes-full, put-shows, strike-lands}
-use Rattle.spans.specs.Spans.{reachHere, changeHere, EndsAt, StrikesSpan, ReadsFrom}
+use Rattle.spans.specs.Spans.{reachHere, changeHere, EndsAt, StrikesSpan, Counts, ReadsFrom}
 use Rattle.spans.specs.declared.Next.{Next}
-use Rattle.spans.proofs.Struck.{span-held, span-place}
+use Rattle.spans.proofs.Struck.{span-held, span-place, counted-is}
 use Rattle.spans.proofs.Nexts.{land-same, NextRead, next-read}
 use Rattle.spans.proofs.Wholes.{Reached, here-by, struck-text}
-use Rattle.replacing.specs.Freed.{freed, Frees, Counts, replacing, replaceMany, Replaces}
+use Rattle.replacing.specs.Freed.{freed, Frees, replacing, replaceMany, Replaces}
 use Rattle.replacing.proofs.Freed.{length-both, strike-length}
 
 -- ---- the journal's length
@@ -79,13 +79,13 @@ same-text {y} {z} q =
     (a, ap (λ (x : Ran (Unit {0}) × Tape). x .1) q)
 
 -- the journal once the next live line is read and the records are struck
-struck-length : (g : Given) (c : Carried) (n : ℕ) (e : Ed) (t : Tape) (y : Ed) (v : Tape) → n ≤ length (afterOf e) → runs g c (readPast n) e t ≡ (gave tt y, v)
+struck-length : (g : Given) (n : ℕ) (e : Ed) (t : Tape) (y : Ed) (v : Tape) → n ≤ length (afterOf e) → runs g noGlobals (readPast n) e t ≡ (gave tt y, v)
     → journalLength (journal (edit (strike n) y) v) + freed (take n (afterOf e)) ≡ journalLength (journal e t)
 unfolding afterOf seenAll
-struck-length g c n (ed b a p) t y v few is =
+struck-length g n (ed b a p) t y v few is =
     let N : ℕ = lacking (hasLive (drop n a)) in
     let z : List Record = map kept ((readNext N t) .0) in
-    let q : (y ≡ ed b (a ++ z) p) × (v ≡ (readNext N t) .1) = same-text (sym is ∙ read-past g c n (ed b a p) t) in
+    let q : (y ≡ ed b (a ++ z) p) × (v ≡ (readNext N t) .1) = same-text (sym is ∙ read-past g n (ed b a p) t) in
     let longer : n ≤ length (a ++ z) = omega (arith, length-append a z, few) in
     rw (q .0, q .1)
     (omega (arith, strike-less n b (a ++ z) p ((readNext N t) .1) longer, ap freed (take-append-le n a z few), ap journalLength (read-same N b a p t)))
@@ -95,34 +95,29 @@ pub freed-is : {j : List ℕ} {st : State} {end r : ℕ} (e : Ed) (t : Tape) (n 
 unfolding afterOf
 freed-is (ed b a p) t n h w counts = counts b (take n a) (drop n a ++ map kept (restLines t)) (span-held b a p t h w) (span-place b a p t h w)
 
--- and the source lines before that place
-past-is : {j : List ℕ} {st : State} {end r : ℕ} (e : Ed) (t : Tape) (n : ℕ) → Shows j st e t → EndsAt j end n e t → Counts end j st r → r ≡ sources (beforeOf e) + sources (take n (afterOf e))
-unfolding beforeOf afterOf
-past-is (ed b a p) t n h w counts = counts b (take n a) (drop n a ++ map kept (restLines t)) (span-held b a p t h w) (span-place b a p t h w)
-
 -- ---- R of n records
 
-module _ {j : List ℕ} {st : State} {end : ℕ} (ls : List Line) (e : Ed) (c : Carried) (t : Tape) (n : ℕ) (h : Shows j st e t) (w : EndsAt j end n e t) where
+module _ {j : List ℕ} {st : State} {end : ℕ} (ls : List Line) (e : Ed) (t : Tape) (n : ℕ) (h : Shows j st e t) (w : EndsAt j end n e t) where
   -- the next live line is read, and the changes are what is left
-  many-is : (y : Ed) (v : Tape) → runs (lent j) c (readPast n) e t ≡ (gave tt y, v)
-      → perform (lent j) (replaceMany ls n) (state e c) t ≡ perform (lent j) (gives (changes (replacing ls n))) (state y c) v
+  many-is : (y : Ed) (v : Tape) → runs (lent j) noGlobals (readPast n) e t ≡ (gave tt y, v)
+      → perform (lent j) (replaceMany ls n) (state e noGlobals) t ≡ perform (lent j) (gives (changes (replacing ls n))) (state y noGlobals) v
   unfolding replaceMany _>>_
   many-is y v q =
-      perform-as (lent j) c (_>>=_ (readPast n) (λ u. gives (changes (replacing ls n)))) (gives (changes (replacing ls n))) e y t v
-      (runs-on (lent j) c (λ u. gives (changes (replacing ls n))) (readPast n) e t q)
+      perform-as (lent j) noGlobals (_>>=_ (readPast n) (λ u. gives (changes (replacing ls n)))) (gives (changes (replacing ls n))) e y t v
+      (runs-on (lent j) noGlobals (λ u. gives (changes (replacing ls n))) (readPast n) e t q)
 
   -- there is no room
   pub replace-full : (x : Next) (r past room : ℕ) → Frees end j st r → room ≡ journalLength (map inserted ls) → (st .back - st .front) + r < room
-      → Counts end j st past → ReadsFrom end past j st x → Answered j (Stop 26 (x .st)) (perform (lent j) (replaceMany ls n) (state e c) t)
+      → Counts end j st past → ReadsFrom end past j st x → Answered j (Stop 26 (x .st)) (perform (lent j) (replaceMany ls n) (state e noGlobals) t)
   unfolding edits
   replace-full x r past room counts is full passes reads =
-      let z : NextRead j n x (runs (lent j) c (readPast n) e t) = next-read (runs (lent j) c (readPast n) e t) (reads e c t n h w (past-is e t n h w passes)) in
+      let z : NextRead j n x (runs (lent j) noGlobals (readPast n) e t) = next-read (runs (lent j) noGlobals (readPast n) e t) (reads e t n h w (counted-is e t n h w passes)) in
       rw (many-is (z .text) (z .tape) (z .is))
-      (changes-full c (replacing ls n) (z .text) (z .tape) j j (x .st)
+      (changes-full noGlobals (replacing ls n) (z .text) (z .tape) j j (x .st)
       (omega (
         arith,
         put-more ls (edit (strike n) (z .text)) (z .tape),
-        struck-length (lent j) c n e t (z .text) (z .tape) (w .within) (z .is),
+        struck-length (lent j) n e t (z .text) (z .tape) (w .within) (z .is),
         shows-length e t h,
         freed-is e t n h w counts,
       ))
@@ -130,37 +125,37 @@ module _ {j : List ℕ} {st : State} {end : ℕ} (ls : List Line) (e : Ed) (c : 
 
   module _ (k : List ℕ) (l : State) (strikes : StrikesSpan end j st k l) (long : length k ≡ length j) where
     abbrev S : Type 0
-    S = (y : Ed) × (v : Tape) × (runs (lent j) c (readPast n) e t ≡ (gave tt y, v)) × Shows k l (edit (strike n) y) v
+    S = (y : Ed) × (v : Tape) × (runs (lent j) noGlobals (readPast n) e t ≡ (gave tt y, v)) × Shows k l (edit (strike n) y) v
 
     struck-at : S
-    struck-at = struck-text n (runs (lent j) c (readPast n) e t) (strikes e c t n h w)
+    struck-at = struck-text n (runs (lent j) noGlobals (readPast n) e t) (strikes e t n h w)
 
     -- the records are struck: the gap is wider by what is freed, so that there is room
     pub struck-ready : (room : ℕ) → room ≤ (st .back - st .front) + freed (take n (afterOf e)) → ((b : List Record) × (a : List Record) × Holds k l b a) × (l .front + room ≤ l .back)
     struck-ready room fits =
         let z : S = struck-at in
         let wide : l .back - l .front ≡ (st .back - st .front) + freed (take n (afterOf e)) =
-        omega (arith, shows-length (edit (strike n) (z .0)) (z .1) (z .3), struck-length (lent j) c n e t (z .0) (z .1) (w .within) (z .2), shows-length e t h) in
+        omega (arith, shows-length (edit (strike n) (z .0)) (z .1) (z .3), struck-length (lent j) n e t (z .0) (z .1) (w .within) (z .2), shows-length e t h) in
         ((_, _, z .3 .holds), omega (arith, wide, z .3 .holds .order))
 
-    pub replace-on : (i : List ℕ) (r : State) → length i ≡ length k → Puts ls k l i r → Answered i (On r) (perform (lent j) (replaceMany ls n) (state e c) t)
+    pub replace-on : (i : List ℕ) (r : State) → length i ≡ length k → Puts ls k l i r → Answered i (On r) (perform (lent j) (replaceMany ls n) (state e noGlobals) t)
     unfolding edits
     replace-on i r same puts =
         let z : S = struck-at in
         rw (many-is (z .0) (z .1) (z .2))
-        (changes-on c (replacing ls n) (z .0) (z .1) j i r (same ∙ long) (put-shows ls (edit (strike n) (z .0)) (z .1) (z .3) puts))
+        (changes-on noGlobals (replacing ls n) (z .0) (z .1) j i r (same ∙ long) (put-shows ls (edit (strike n) (z .0)) (z .1) (z .3) puts))
 
 -- ---- from the current line on, and from what M names
 
-pub replace-here : {j : List ℕ} {end : ℕ} {s : State} (k : List ℕ) (r : Moved) (c : Carried) (ls : List Line) (b : Through) (e : Ed) (t : Tape)
-    → Reached j end s (runs (lent j) c (reachHere b) e t) → Replaces end ls j s k r → Answered k r (perform (lent j) (changeHere (replacing ls) b) (state e c) t)
-replace-here {j} {end} {s} k r c ls b e t w does =
+pub replace-here : {j : List ℕ} {end : ℕ} {s : State} (k : List ℕ) (r : Moved) (ls : List Line) (b : Through) (e : Ed) (t : Tape)
+    → Reached j end s (runs (lent j) noGlobals (reachHere b) e t) → Replaces end ls j s k r → Answered k r (perform (lent j) (changeHere (replacing ls) b) (state e noGlobals) t)
+replace-here {j} {end} {s} k r ls b e t w does =
     let n : ℕ = w .many in
     let x = readNext (lacking (hasLive (drop n (afterOf (w .text))))) (w .tape) in
     let y : Ed = seenAll (x .0) (w .text) in
-    let q : runs (lent j) c (readPast n) (w .text) (w .tape) ≡ (gave tt y, x .1) = read-past (lent j) c n (w .text) (w .tape) in
-    here-by c (replacing ls) b e t j k r n (w .text) y (w .tape) (x .1) (w .is) q
-    (rw (many-is ls (w .text) c (w .tape) n (w .shows) (w .ends) y (x .1) q) at (does (w .text) c (w .tape) n (w .shows) (w .ends)))
+    let q : runs (lent j) noGlobals (readPast n) (w .text) (w .tape) ≡ (gave tt y, x .1) = read-past (lent j) n (w .text) (w .tape) in
+    here-by noGlobals (replacing ls) b e t j k r n (w .text) y (w .tape) (x .1) (w .is) q
+    (rw (many-is ls (w .text) (w .tape) n (w .shows) (w .ends) y (x .1) q) at (does (w .text) (w .tape) n (w .shows) (w .ends)))
 
 pub replace-is : (g : Given) (ls : List Line) (a : Target) (b : Through) (e : Ed) (c : Carried) (t : Tape)
     → step g (Op.replace a b ls) (state e c) t ≡ perform g (_>>=_ (span a b) (λ n. gives (changes (replacing ls n)))) (state e c) t

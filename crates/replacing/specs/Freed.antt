@@ -6,8 +6,8 @@ use lib.ListN.{length}
 use Rattle.definitions.specs.Bytes.{Line}
 use Rattle.definitions.specs.Journal.{Record}
 use Rattle.definitions.specs.Tape.{Tape}
-use Rattle.definitions.specs.Given.{Carried}
-use Rattle.definitions.specs.Editor.{Ed, sources, strike, put}
+use Rattle.definitions.specs.Given.{noGlobals}
+use Rattle.definitions.specs.Editor.{Ed, strike, put}
 use Rattle.definitions.specs.Editor.{Edit as Editing}
 use Rattle.definitions.specs.StepProgram.{Program, gives, _>>=_, _>>_, state, Did, changes, perform}
 use Rattle.definitions.specs.Edit.{readPast}
@@ -26,11 +26,6 @@ abbrev pub Frees : ℕ → List ℕ → State → ℕ → Type 0
 Frees end j st r =
     (c : List Record) (m : List Record) (d : List Record) → Holds j st c (m ++ d) → end + length (encAll d) ≡ length j → r ≡ freed m
 
--- r source lines stand before the place `end`
-abbrev pub Counts : ℕ → List ℕ → State → ℕ → Type 0
-Counts end j st r =
-    (c : List Record) (m : List Record) (d : List Record) → Holds j st c (m ++ d) → end + length (encAll d) ≡ length j → r ≡ sources c + sources m
-
 -- ---- R
 
 -- what R changes: n records are struck, and the lines are put
@@ -46,4 +41,4 @@ replaceMany ls n = do
 -- R of the records up to the place `end`
 abbrev pub Replaces : ℕ → List Line → List ℕ → State → List ℕ → Moved → Type 0
 Replaces end ls j st k r =
-    (e : Ed) (c : Carried) (t : Tape) (n : ℕ) → Shows j st e t → EndsAt j end n e t → Answered k r (perform (lent j) (replaceMany ls n) (state e c) t)
+    (e : Ed) (t : Tape) (n : ℕ) → Shows j st e t → EndsAt j end n e t → Answered k r (perform (lent j) (replaceMany ls n) (state e noGlobals) t)

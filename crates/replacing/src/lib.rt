@@ -7,7 +7,7 @@ use spans::Found;
 ghost use Rattle.definitions.specs.Bytes.{linesOf};
 ghost use Rattle.definitions.specs.Edit.{Op};
 ghost use Rattle.items.specs.Words.{partOf};
-ghost use Rattle.editor.specs.Shows.{ShowsText, Performs, Completes, targetNumbered};
+ghost use Rattle.editor.specs.Shows.{ShowsText, PerformsPlain, CompletesPlain, targetNumbered};
 ghost use Rattle.inserts.specs.Lines.{Insertable};
 ghost use Rattle.spans.specs.Spans.{throughOf, changeHere, Spanned};
 ghost use Rattle.replacing.specs.Freed.{replacing, Replaces};
@@ -23,7 +23,7 @@ fn replace_to(j: &mut [u8], st: State, to: usize, s: &[u8], start: usize, end: u
     if gap < room {
         let freed = crate::room::freed_to(j, st, to);
         if gap + freed < room {
-            let past = crate::room::past_to(j, st, to);
+            let past = spans::finding::past_to(j, st, to);
             let next = spans::finding::next_from(j, st, to, past);
             let u = next.st;
             return Moved::Stop(26, u);
@@ -34,7 +34,7 @@ fn replace_to(j: &mut [u8], st: State, to: usize, s: &[u8], start: usize, end: u
 }
 
 // R from the current line on.
-fn replace_here(
+pub fn replace_here(
     j: &mut [u8],
     st: State,
     through: usize,
@@ -43,7 +43,7 @@ fn replace_here(
     end: usize,
 ) -> Moved
     requires { ⌜ ShowsText (now j) st × Insertable (now s) start end ⌝ }
-    ensures { λ r. ⌜ Completes (now (j .entry)) st (changeHere (replacing (linesOf (partOf (now (s .entry)) start end))) (throughOf through)) (now (j .exit)) r ⌝ }
+    ensures { λ r. ⌜ CompletesPlain (now (j .entry)) st (changeHere (replacing (linesOf (partOf (now (s .entry)) start end))) (throughOf through)) (now (j .exit)) r ⌝ }
 {
     let found = spans::finding::span_end(j, st, through);
     match found {
@@ -63,7 +63,7 @@ pub fn replace_span(
     end: usize,
 ) -> Moved
     requires { ⌜ ShowsText (now j) st × Insertable (now s) start end ⌝ }
-    ensures { λ r. ⌜ Performs (now (j .entry)) st (Op.replace (targetNumbered from) (throughOf through) (linesOf (partOf (now (s .entry)) start end))) (now (j .exit)) r ⌝ }
+    ensures { λ r. ⌜ PerformsPlain (now (j .entry)) st (Op.replace (targetNumbered from) (throughOf through) (linesOf (partOf (now (s .entry)) start end))) (now (j .exit)) r ⌝ }
 {
     let moved = editor::moves::go_to(j, st, from);
     match moved {

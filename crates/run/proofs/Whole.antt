@@ -1,40 +1,50 @@
--- The whole run: refusals in their order, the opening journal, the end. Assumes nothing.
+-- The whole run: refusals in their order, the opening journal, the unread lines, the end. Assumes nothing.
 use mathlib.Core.Path.{_≡_, refl, sym, _∙_}
+use mathlib.Core.Logic.{inl}
 use mathlib.Core.Bool.{Bool, true, false, not}
 use mathlib.Core.List.{List, [], _∷_, _++_, map, reverseAux}
 use Prim.Native.Nat.{ℕ, zero, suc, _+_, _-_, _*_, _≤_, _<_}
 use native.Mathlib.Omega.{arith}
-use lib.ListN.{length, replicate, length-append}
+use lib.ListN.{length, set, replicate, length-append}
 use lib.Dec.{leb}
 use borrow.Author.Tests.{le-leb, lt-leb, leb-true}
 use Rattle.definitions.specs.Bytes.{Line, linesOf, lineBytes, linesBytes}
 use Rattle.definitions.specs.Table.{isTable, isScript}
 use Rattle.definitions.specs.Journal.{Record, kept, recordLength, journalLength, journalBytes}
 use Rattle.definitions.specs.Tape.{Tape, unread, bind}
-use Rattle.definitions.specs.Given.{Given, carried}
-use Rattle.definitions.specs.Editor.{Ed, ed, beforeOf, afterOf, journal}
-use Rattle.definitions.specs.Reading.{opening}
+use Rattle.definitions.specs.Given.{noGlobals}
+use Rattle.definitions.specs.Editor.{Ed, ed, beforeOf, afterOf, journal, furthest, Stop as StopNumber, n20, n21, n22, n23, n24, n25, n26, n27, n28, n30, n31, stopNumber}
+use Rattle.definitions.specs.Reading.{Ran as Read-so, gave, stopped, opening}
 use Rattle.definitions.specs.StepProgram.{state, textOf}
 use Rattle.definitions.specs.Edit.{step}
 use Rattle.definitions.specs.Control.{Item, running}
 use Rattle.definitions.specs.Script.{Script, items, refusedAt, readScript}
-use Rattle.definitions.specs.Run.{End, end, run, runItems, Answer, refusal, answerOf, ranItems, openingLength, workLength, ranTable, ranScript, runAnswer, answerNumber, answerSteps, answerFurthest, answerPlace, answerLength, bufferAfter, outcome, outcomeFrom, outcomeOf}
+use Rattle.definitions.specs.Run.{End, end, run, runItems, Answer, answer, refusal, restPassed, answerOf, ranItems, openingLength, workLength, ranTable, ranScript, runAnswer, answerNumber, answerSteps, answerFurthest, answerPlace, answerLength, bufferAfter, outcomeFrom, outcomeOf}
 use Rattle.theorems.specs.GoodScripts.{good-commands}
 use Rattle.theorems.specs.JournalBytes.{lines-back}
 use Rattle.answers.specs.declared.Answer.{Answer as Read}
 use Rattle.answers.proofs.Taking.{Refusal, refusal-values, is-done}
 use Rattle.script.specs.Reading.{ScriptRead}
+use Rattle.items.specs.Reserve.{reserve}
+use Rattle.items.proofs.Keeping.{items-kept}
+use Rattle.globals.specs.Standing.{OnlyGlobals}
+use Rattle.globals.proofs.Standing.{forgotten, forgets-only}
 use Rattle.control.proofs.Scripts.{startable}
 use Rattle.editor.specs.declared.State.{State}
-use Rattle.editor.specs.Shows.{Holds, Shows, Opens, ClosesJournal, lent, restOf}
+use Rattle.editor.specs.declared.Moved.{Moved}
+use Rattle.editor.specs.declared.Moved.the-variants.{On, Stop}
+use Rattle.editor.specs.Shows.{Holds, ShowsText, Opens, ClosesJournal, lent, restOf}
 use Rattle.editor.proofs.Reading.{journal-is}
+use Rattle.editor.proofs.Parts.{lent-same}
 use Rattle.editor.specs.Current.{PointIn, Ready}
 use Rattle.editor.proofs.Opening.{table-last}
 use Rattle.editor.proofs.Tables.{opens-table}
+use Rattle.reading.specs.Carrying.{SomeStand}
+use Rattle.tail.specs.Rest.{HoldsAll, RestLeft, PassesRest}
 use Rattle.run.specs.Answers.{valuesOf, outcomeWith, caseOf, refusedBy, Gives, Ran}
 use Rattle.run.specs.declared.Answer.{Answer as Answer-of}
-use Rattle.run.specs.Items.{Runnable, Ends, EndsAs, Opening}
-use Rattle.run.specs.declared.items.Ended.{Ended}
+use Rattle.run.specs.Items.{Runnable, NoneStands, Ends, EndsAs, EndsIn, PassesUnread, GivesClosed, Opening}
+use Rattle.run.specs.declared.decoded.Ended.{Ended}
 use Rattle.run.specs.declared.Answer.the-variants.{Done, Stopped, Refused}
 
 -- ---- the opening journal
@@ -70,62 +80,142 @@ pub opened-ready : {j : List ℕ} {st : State} (table : List ℕ) → isTable ta
     → Ready table j st ((opening (unread (linesOf table))) .0) ((opening (unread (linesOf table))) .1)
 opened-ready table good h = record { shows = h; point = opening-point (linesOf table); old = opens-table table good }
 
--- neither 7 nor 9
-opened-runs : (buffer table : List ℕ) → Opening table buffer → (budget : ℕ) (is : List Item)
-    → ranScript table budget (length buffer) (items is) ≡ ranItems (step (lent buffer)) budget is (linesOf table)
-unfolding ranScript ranTable lent
-opened-runs buffer table h budget is = rw (h .0, le-leb (openingLength (linesOf table)) (length buffer) (h .1))
+-- the words of items stay where none stands from now on
+forgotten-runnable : (s w v : List ℕ) (n : ℕ) (is : List Item) → OnlyGlobals w v → Runnable s w n is → Runnable s v n is
+forgotten-runnable s w v n is only h =
+    let room : n + reserve ≤ length w = omega (arith, h .start .ready .room) in
+    record {
+      form = h .form;
+      start = record {
+        ready = record {
+          lie = items-kept s w v n (λ i less. only .same i (inl (omega (arith, less, room)))) (omega (arith, room, only .as-long)) 0 is (h .start .ready .lie);
+          room = rw (only .as-long) (h .start .ready .room);
+          short = h .start .ready .short;
+        };
+        proper = h .start .proper;
+      };
+      good = h .good;
+    }
+
+pub runnable-room : (s w : List ℕ) (n : ℕ) (is : List Item) → Runnable s w n is → n + reserve ≤ length w
+runnable-room s w n is h = omega (arith, h .start .ready .room)
+
+-- no global stands as the run begins
+pub begins : (s w v : List ℕ) (n : ℕ) (is : List Item) → v ≡ set w (length w - reserve) 0 → Runnable s w n is → Runnable s v n is × NoneStands s v n
+begins s w v n is q h =
+    let room = runnable-room s w n is h in
+    rw q (forgotten-runnable s w (set w (length w - reserve) 0) n is (forgets-only w (omega (arith, room))) h, forgotten s w n room)
+
+pub opened-ends : (s v k : List ℕ) (r : Ended) (buffer j table : List ℕ) (budget : ℕ) (is : List Item) → length j ≡ length buffer
+    → EndsAs s v k r (run (step (lent j)) budget 0 (running is []) (state ((opening (unread (linesOf table))) .0) noGlobals) ((opening (unread (linesOf table))) .1))
+    → EndsAs s v k r (runItems (step (lent buffer)) budget is (unread (linesOf table)))
+unfolding runItems bind
+opened-ends s v k r buffer j table budget is long h = rw (lent-same buffer j long) at h
 
 -- ---- the end
 
--- the buffer holds its records
-pub ends-holds : (j : List ℕ) (r : Ended) (x : End) (t : Tape) → Ends j r x t → (b : List Record) × (a : List Record) × Holds j (r .st) b a
-unfolding Ends
-ends-holds j r (end number steps place s) t (a, b, c, w) = (beforeOf (textOf s), restOf (textOf s) t, w .holds)
-
--- they are the journal
+-- the buffer holds the records of a text that it shows
 shown-journal : (e : Ed) (t : Tape) → reverseAux (beforeOf e) (restOf e t) ≡ journal e t
 unfolding beforeOf afterOf
 shown-journal (ed b a p) t = journal-is b a p t
 
-module _ (buffer j k : List ℕ) (r : Ended) (n : ℕ) (long : length j ≡ length buffer) (closes : ClosesJournal j (r .st) k n) where
-  -- the journal's length, and the buffer's bytes
-  closed : (e : Ed) (t : Tape) → Shows j (r .st) e t → (n ≡ journalLength (journal e t)) × (k ≡ journalBytes (journal e t) ++ replicate (length buffer - journalLength (journal e t)) 0)
-  closed e t w = rw (shown-journal e t, long) at (closes (beforeOf e) (restOf e t) (w .holds))
+-- globals stand in the words, and the buffer shows a text
+pub ends-stand : (s w j : List ℕ) (r : Ended) (x : End) (t : Tape) → Ends s w j r x t → SomeStand s w × ShowsText j (r .st)
+unfolding Ends
+ends-stand s w j r (end number steps place (state e c)) t (a, b, d, shows, stand) = ((c, stand), (e, t, shows))
 
-  -- the values that the answer has, and the buffer's bytes
-  ended-outcome : (x : End) (t : Tape) → Ends j r x t → outcome (r .number) (r .steps) (r .st .furthest) n (r .place) k ≡ outcomeFrom buffer (answerOf x t)
-  unfolding Ends answerOf outcomeFrom answerNumber answerSteps answerFurthest answerPlace answerLength bufferAfter
-  ended-outcome (end number steps place s) t (a, b, c, w) =
-      let z = closed (textOf s) t w in
-      rw (a, b, c, w .furthest, z .0, z .1)
+-- a stop has a number
+stop-some : (i : StopNumber) → stopNumber i ≡ 0 → ⊥
+unfolding stopNumber
+stop-some n20 q = omega (arith, q)
+stop-some n21 q = omega (arith, q)
+stop-some n22 q = omega (arith, q)
+stop-some n23 q = omega (arith, q)
+stop-some n24 q = omega (arith, q)
+stop-some n25 q = omega (arith, q)
+stop-some n26 q = omega (arith, q)
+stop-some n27 q = omega (arith, q)
+stop-some n28 q = omega (arith, q)
+stop-some n30 q = omega (arith, q)
+stop-some n31 q = omega (arith, q)
 
-  ended-done : (x : End) (t : Tape) → Ends j r x t → r .number ≡ 0 → Done (r .steps) (r .st .furthest) n ≡ caseOf (answerOf x t)
-  unfolding Ends answerOf caseOf
-  ended-done (end number steps place s) t (a, b, c, w) none =
-      let z = closed (textOf s) t w in
-      rw (sym a ∙ none, b, w .furthest, z .0)
+-- the unread lines: the run has stopped, or they pass
+module _ (s w j : List ℕ) (r : Ended) where
+  pub unread-kept : 0 < r .number → PassesUnread s w j r j r
+  unfolding Ends answerOf EndsIn textOf
+  unread-kept some (end zero steps place (state e c)) t (a, b, d, shows, stand) = absurd (omega (arith, a))
+  unread-kept some (end (suc n) steps place (state e c)) t (a, b, d, shows, stand) =
+      (a, b, shows .furthest, d, (beforeOf e, restOf e t, shows .holds, shown-journal e t), λ q. absurd (omega (arith, q)))
 
-  ended-stopped : (x : End) (t : Tape) → Ends j r x t → (r .number ≡ 0 → ⊥) → Stopped (r .number) (r .steps) (r .st .furthest) n (r .place) ≡ caseOf (answerOf x t)
-  unfolding Ends answerOf caseOf
-  ended-stopped (end zero steps place s) t (a, b, c, w) some = absurd (some a)
-  ended-stopped (end (suc number) steps place s) t (a, b, c, w) some =
-      let z = closed (textOf s) t w in
-      rw (a, b, c, w .furthest, z .0)
+  module _ (k : List ℕ) (none : r .number ≡ 0) (m : Moved) (passes : PassesRest s w j (r .st) k m) where
+    module _ (last : State) (steps : ℕ) (e : Ed) (t : Tape) (same : r .steps ≡ steps) (far : r .st .furthest ≡ furthest e t) where
+      all-pass : (o : Read-so (Unit {0})) → RestLeft k (On last) (journal e t) o
+          → EndsIn k (r .st .furthest) (record { number = 0; steps = r .steps; place = 0; st = last }) (restPassed steps (length s) e t o)
+      unfolding RestLeft restPassed EndsIn
+      all-pass (gave u all) h = (refl, same, far, refl, h, λ q. refl)
+      all-pass (stopped i all) h = absurd h
 
-  module _ (table : List ℕ) (opens : Opening table buffer) (budget : ℕ) (g : Given) (same : g ≡ lent buffer) (is : List Item)
-      (ends : EndsAs j r (run (step g) budget 0 (running is []) (state ((opening (unread (linesOf table))) .0) carried) ((opening (unread (linesOf table))) .1))) where
-    pub gives-done : r .number ≡ 0 → (r .number ≡ 0 → r .place ≡ 0) → Gives buffer (ranScript table budget (length buffer) (items is)) (Done (r .steps) (r .st .furthest) n) k
-    unfolding ranItems runItems bind outcomeWith valuesOf
-    gives-done none at =
-        rw (opened-runs buffer table opens budget is)
-        record { values = rw (none, at none) at (ended-outcome _ _ (rw same at ends)); case = ended-done _ _ (rw same at ends) none }
+      none-passes : (n : ℕ) (o : Read-so (Unit {0})) → RestLeft k (Stop n last) (journal e t) o
+          → EndsIn k (r .st .furthest) (record { number = n; steps = r .steps; place = length s; st = last }) (restPassed steps (length s) e t o)
+      unfolding RestLeft restPassed EndsIn
+      none-passes n (gave u all) h = absurd h
+      none-passes n (stopped i all) h = (h .0, same, far, refl, h .1, λ q. absurd (stop-some i q))
 
-    pub gives-stopped : (r .number ≡ 0 → ⊥) → Gives buffer (ranScript table budget (length buffer) (items is)) (Stopped (r .number) (r .steps) (r .st .furthest) n (r .place)) k
-    unfolding ranItems runItems bind outcomeWith valuesOf
-    gives-stopped some =
-        rw (opened-runs buffer table opens budget is)
-        record { values = ended-outcome _ _ (rw same at ends); case = ended-stopped _ _ (rw same at ends) some }
+    pub unread-passed : (last : State) → m ≡ On last → PassesUnread s w j r k (record { number = 0; steps = r .steps; place = 0; st = last })
+    unfolding Ends answerOf
+    unread-passed last q (end (suc n) steps place (state e c)) t (a, b, d, shows, stand) = absurd (omega (arith, a))
+    unread-passed last q (end zero steps place (state e c)) t (a, b, d, shows, stand) =
+        all-pass last steps e t b (shows .furthest) _ (rw q at (passes e c t stand shows))
+
+    pub unread-stops : (n : ℕ) (last : State) → m ≡ Stop n last → PassesUnread s w j r k (record { number = n; steps = r .steps; place = length s; st = last })
+    unfolding Ends answerOf
+    unread-stops n last q (end (suc i) steps place (state e c)) t (a, b, d, shows, stand) = absurd (omega (arith, a))
+    unread-stops n last q (end zero steps place (state e c)) t (a, b, d, shows, stand) =
+        none-passes last steps e t b (shows .furthest) n _ (rw q at (passes e c t stand shows))
+
+-- some records are held
+pub end-holds : (j : List ℕ) (f : ℕ) (r : Ended) (a : Answer) → EndsIn j f r a → (b : List Record) × (c : List Record) × Holds j (r .st) b c
+unfolding EndsIn
+end-holds j f r (answer number steps far place rs) h = (h .4 .0, h .4 .1, h .4 .2)
+end-holds j f r (refusal number place) h = absurd h
+
+-- the journal is closed
+module _ (j k : List ℕ) (f : ℕ) (r : Ended) (n : ℕ) (closes : ClosesJournal j (r .st) k n) where
+  -- its length, and the buffer's bytes
+  closed : (buffer : List ℕ) (rs : List Record) → length buffer ≡ length j → HoldsAll j (r .st) rs → (n ≡ journalLength rs) × (k ≡ journalBytes rs ++ replicate (length buffer - journalLength rs) 0)
+  closed buffer rs long h = rw (h .3, ← long) at (closes (h .0) (h .1) (h .2))
+
+  pub closes-done : r .number ≡ 0 → GivesClosed j f r (Done (r .steps) f n) k
+  unfolding EndsIn outcomeWith valuesOf outcomeFrom answerNumber answerSteps answerFurthest answerPlace answerLength bufferAfter caseOf
+  closes-done none buffer (answer zero steps far place rs) long (a, b, d, e, h, at) =
+      let z = closed buffer rs long h in
+      let p : place ≡ 0 = at refl in
+      record { values = rw (b, d, p, z .0, z .1); case = rw (b, d, z .0) }
+  closes-done none buffer (answer (suc i) steps far place rs) long (a, b, d, e, h, at) = absurd (omega (arith, a, none))
+  closes-done none buffer (refusal number place) long h = absurd h
+
+  pub closes-stopped : (r .number ≡ 0 → ⊥) → GivesClosed j f r (Stopped (r .number) (r .steps) f n (r .place)) k
+  unfolding EndsIn outcomeWith valuesOf outcomeFrom answerNumber answerSteps answerFurthest answerPlace answerLength bufferAfter caseOf
+  closes-stopped some buffer (answer zero steps far place rs) long (a, b, d, e, h, at) = absurd (some a)
+  closes-stopped some buffer (answer (suc i) steps far place rs) long (a, b, d, e, h, at) =
+      let z = closed buffer rs long h in
+      record { values = rw (a, b, d, e, z .0, z .1); case = rw (a, b, d, e, z .0) }
+  closes-stopped some buffer (refusal number place) long h = absurd h
+
+-- neither 7 nor 9
+opened-runs : (buffer table : List ℕ) → Opening table buffer → (place budget : ℕ) (is : List Item)
+    → ranScript table place budget (length buffer) (items is) ≡ ranItems (lent buffer) place budget is (linesOf table)
+unfolding ranScript ranTable lent
+opened-runs buffer table h place budget is = rw (h .0, le-leb (openingLength (linesOf table)) (length buffer) (h .1))
+
+-- the run from the opening journal to the closed one
+pub table-gives : (script table buffer v j k : List ℕ) (budget : ℕ) (is : List Item) (r z : Ended) (a : Answer-of) (bytes : List ℕ)
+    → Opening table buffer → length j ≡ length buffer → length k ≡ length j → EndsAs script v j r (runItems (step (lent buffer)) budget is (unread (linesOf table)))
+    → PassesUnread script v j r k z → GivesClosed k (r .st .furthest) z a bytes → Gives buffer (ranScript table (length script) budget (length buffer) (items is)) a bytes
+unfolding ranItems
+table-gives script table buffer v j k budget is r z a bytes opens long as-long ends passes closes =
+    rw (opened-runs buffer table opens (length script) budget is)
+    (closes buffer _ (sym (as-long ∙ long)) (rw (lent-same buffer j long) at (passes _ _ ends)))
 
 -- ---- refusals
 
@@ -141,13 +231,13 @@ module _ (buffer table : List ℕ) (good : isTable table ≡ true) (n : ℕ) (li
   pub has-room : v ≡ true → openingLength (linesOf table) ≤ length buffer
   has-room is = leb-true (openingLength (linesOf table)) (length buffer) (room-as ∙ is)
 
-  pub no-room : (budget : ℕ) (is : List Item) → v ≡ false → Gives buffer (ranScript table budget (length buffer) (items is)) (Refused 9 0) buffer
+  pub no-room : (place budget : ℕ) (is : List Item) → v ≡ false → Gives buffer (ranScript table place budget (length buffer) (items is)) (Refused 9 0) buffer
   unfolding ranScript ranTable
-  no-room budget is q = refused buffer 9 0 _ (rw (good, room-as, q))
+  no-room place budget is q = refused buffer 9 0 _ (rw (good, room-as, q))
 
-pub not-table : (buffer table : List ℕ) (budget : ℕ) (is : List Item) → isTable table ≡ false → Gives buffer (ranScript table budget (length buffer) (items is)) (Refused 7 0) buffer
+pub not-table : (buffer table : List ℕ) (place budget : ℕ) (is : List Item) → isTable table ≡ false → Gives buffer (ranScript table place budget (length buffer) (items is)) (Refused 7 0) buffer
 unfolding ranScript
-not-table buffer table budget is q = refused buffer 7 0 _ (rw q)
+not-table buffer table place budget is q = refused buffer 7 0 _ (rw q)
 
 module _ (table script : List ℕ) (budget work : ℕ) (buffer : List ℕ) where
   ran-as : (r : Answer-of) (k : List ℕ) → Gives buffer (runAnswer table script budget work (length buffer)) r k → Ran table script budget work buffer r k
@@ -164,17 +254,17 @@ module _ (table script : List ℕ) (budget work : ℕ) (buffer : List ℕ) where
     small-work less = ran-as _ _ (refused buffer 8 0 _ (rw (form, lt-leb (2 * length script + 64) work less)))
 
     module _ (enough : 2 * length script + 64 ≤ work) where
-      read-as : (x : Script) → readScript script ≡ x → runAnswer table script budget work (length buffer) ≡ ranScript table budget (length buffer) x
+      read-as : (x : Script) → readScript script ≡ x → runAnswer table script budget work (length buffer) ≡ ranScript table (length script) budget (length buffer) x
       unfolding runAnswer workLength
       read-as x q = rw (form, le-leb (2 * length script + 64) work enough, q)
 
       -- the script does not decode
       pub refused-script : (d : Read) → Refusal (λ n at. readScript script ≡ refusedAt n at) d → (r : Answer-of) → r ≡ refusedBy d → Ran table script budget work buffer r buffer
       unfolding ranScript refusedBy
-      refused-script d gave r is =
-          rw (is, refusal-values gave .0, refusal-values gave .1) (ran-as _ _ (refused buffer (gave .number) (gave .place) _ (read-as (refusedAt (gave .number) (gave .place)) (gave .holds))))
+      refused-script d said r is =
+          rw (is, refusal-values said .0, refusal-values said .1) (ran-as _ _ (refused buffer (said .number) (said .place) _ (read-as (refusedAt (said .number) (said .place)) (said .holds))))
 
-      pub read-items : (is : List Item) → readScript script ≡ items is → (r : Answer-of) (k : List ℕ) → Gives buffer (ranScript table budget (length buffer) (items is)) r k → Ran table script budget work buffer r k
+      pub read-items : (is : List Item) → readScript script ≡ items is → (r : Answer-of) (k : List ℕ) → Gives buffer (ranScript table (length script) budget (length buffer) (items is)) r k → Ran table script budget work buffer r k
       read-items is q r k g = ran-as r k (rw (read-as (items is) q) g)
 
 -- the two ways of a test that is turned round

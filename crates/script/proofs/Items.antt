@@ -25,7 +25,7 @@ use Rattle.lexer.specs.Shapes.{plainOf}
 use Rattle.lexer.proofs.Digits.{capped-small, capped-large}
 use Rattle.lexer.proofs.Given.{goes-on, passed-up}
 use Rattle.lexer.specs.declared.shapes.Plain.{Plain}
-use Rattle.lexer.specs.declared.shapes.Plain.the-variants.{Next, Previous, Copy, PointStart, Right, Left, CutByte, Lower, Upper, Quit}
+use Rattle.lexer.specs.declared.shapes.Plain.the-variants.{Next, Previous, Copy, PointStart, Right, Left, CutByte, Lower, Upper, Quit, Cancel}
 use Rattle.items.specs.Words.{head, targetCode, OpAt, TimesAt, OpenerAt, ItemAt, headWith}
 use Rattle.items.specs.Kinds.{caseKind, moveKind, countKind, longCountKind}
 use Rattle.items.specs.Depth.{openAfter}
@@ -148,6 +148,7 @@ plain-item s w k place CutByte e = (refl, e)
 plain-item s w k place Lower e = (refl, e)
 plain-item s w k place Upper e = (refl, e)
 plain-item s w k place Quit e = (refl, e)
+plain-item s w k place Cancel e = (refl, e)
 
 -- ---- line numbers
 

@@ -1,18 +1,21 @@
 -- Commands with qualified strings in words. Assumes nothing.
 use mathlib.Core.Path.{_≡_, refl, _∙_}
-use mathlib.Core.Bool.{Bool, false}
+use mathlib.Core.Bool.{false}
 use mathlib.Core.List.{List, [], _∷_}
 use Prim.Native.Nat.{ℕ, suc, _+_, _-_, _≤_, _<_}
 use native.Mathlib.Omega.{arith}
 use lib.ListN.{length, take, drop, getD, set, length-set}
+use denote.Enum.Declared.{tagOf}
+use types.Run.{OneOf}
 use lib.Seq.{sets, length-sets, getD-set-same, getD-set-other}
+use Rattle.definitions.specs.Bytes.{Line}
 use Rattle.definitions.specs.Matching.{Qualified, qualified}
 use Rattle.definitions.specs.Search.{one}
-use Rattle.definitions.specs.Edit.{Change, Op, alter, split, point}
+use Rattle.definitions.specs.Edit.{Op, alter, split, addGlobal, point}
 use Rattle.definitions.specs.Control.{simple}
 use Rattle.definitions.specs.Reader.{Cursor, got, refused, andThen}
-use Rattle.definitions.specs.Strings.{pair, startQualifiers, qualifiedString, twoStrings}
-use Rattle.definitions.specs.Commands.{whole, Shape, alters, alterOp, decode}
+use Rattle.definitions.specs.Strings.{startQualifiers, qualifiedString, twoStrings, twoPlainStrings}
+use Rattle.definitions.specs.Commands.{whole, Shape, alters, globals, alterOp, decode}
 use Rattle.matching.specs.Quals.{qualifiersOf}
 use Rattle.matching.specs.Words.{stringWords, Encodes, Writable}
 use Rattle.matching.specs.declared.Quals.{Quals}
@@ -20,16 +23,17 @@ use Rattle.matching.proofs.Keeping.{string-encodes, kept-behind}
 use Rattle.answers.specs.declared.Answer.{Answer}
 use Rattle.answers.specs.declared.Follow.{Follow}
 use Rattle.answers.specs.Answers.{CommandOr}
+use Rattle.answers.proofs.Answer.{the-type}
+use Rattle.answers.proofs.Taking.{not-strings, is-strings, no-strings, up-command}
 use Rattle.lexer.specs.Places.{cursorAt}
 use Rattle.lexer.proofs.Given.{goes-on, passed-up}
-use Rattle.strings.specs.Answers.{StringAt, QuotedAt, PairedAt}
+use Rattle.strings.specs.Answers.{StringAt, QuotedAt, PairAt}
 use Rattle.strings.proofs.Callers.{string-few, string-writable}
-use Rattle.items.specs.Words.{head, OpAt, ItemAt, stringWord}
-use Rattle.items.specs.Kinds.{changeKind}
+use Rattle.items.specs.Words.{head, TwoStringsAt, OpAt, ItemAt, stringWord}
 use Rattle.items.specs.Depth.{openAfter}
-use Rattle.items.proofs.Reading.{point-shape, split-shape}
+use Rattle.items.proofs.Reading.{point-shape, split-shape, change-shape, global-shape}
 use Rattle.script.specs.Reading.{CommandRoom, Unwritten, CommandIs, CommandRead}
-use Rattle.script.specs.Commands.{Aims, of-points, of-splits}
+use Rattle.script.specs.Commands.{Aims, of-points, of-splits, Pairs, of-alters, of-globals}
 use Rattle.script.proofs.Keeping.{kept-set}
 use Rattle.script.proofs.Items.{one-stays, one-is}
 use Rattle.script.proofs.Inserting.{string-in}
@@ -129,23 +133,25 @@ module _ (s w : List ℕ) (place at k : ℕ) (r : CommandRoom s w place at k) wh
           ),
         ))
 
-  -- ---- A, B, E, AP, BP, EP
+  -- ---- A, B, E, AP, BP, EP; GA, GB, GE
 
-  module _ (change : Change) (pointing : Bool) where
-    pub alters-refused : (n p : ℕ) → twoStrings (cursorAt s at) ≡ refused n p → decode false place (alters change pointing) (cursorAt s at) ≡ refused n p
-    unfolding decode
-    alters-refused n p e = passed-up (twoStrings (cursorAt s at)) _ n p e
+  module _ (kind : ℕ) (shape : Shape) (op : Op) (q : Quals) (start end second second-end next : ℕ) (stands : PairAt s at q start end second second-end next) where
+    abbrev first-string : Qualified
+    first-string = qualified (qualifiersOf q) (take (end - start) (drop start s))
 
-    pub alters-written : (q : Quals) (start end second second-end next : ℕ) → PairedAt s at (startQualifiers false (cursorAt s at)) (qualifiedString false (cursorAt s at)) (twoStrings (cursorAt s at)) q start end second second-end next → (v m u : ℕ) (w' : List ℕ)
-        → v ≡ head (changeKind change pointing) place
+    abbrev second-string : Line
+    second-string = take (second-end - second) (drop second s)
+
+    strings-written : decode false place shape (cursorAt s at) ≡ got (whole (simple place op)) (cursorAt s next)
+        → ((w₁ : List ℕ) (m : ℕ) → TwoStringsAt s w₁ k m (head kind place) first-string second-string → OpAt s w₁ k m place op) → (v m u : ℕ) (w' : List ℕ)
+        → v ≡ head kind place
         → w' ≡ sets (set w k v) (k + 1) (stringWords (qualifiersOf q) start (end - start)) → m ≡ k + 1 + length (stringWords (qualifiersOf q) start (end - start))
         → u ≡ stringWord second (second-end - second)
-        → CommandRead s w (set w' m u) place k (decode false place (alters change pointing) (cursorAt s at)) (Answer.Command Follow.Nothing next (m + 1))
-    unfolding decode ItemAt OpAt CommandIs alterOp openAfter
-    alters-written q start end second second-end next (read, stands, first) v m u w' hd we me wd =
+        → CommandRead s w (set w' m u) place k (decode false place shape (cursorAt s at)) (Answer.Command Follow.Nothing next (m + 1))
+    unfolding ItemAt CommandIs openAfter
+    strings-written read lies v m u w' hd we me wd =
         let few = string-few s at q start end second (stands .first) in
         let room = string-room q start end second (stands .first) in
-        let l : Qualified = qualified (qualifiersOf q) (take (end - start) (drop start s)) in
         let n : ℕ = k + 1 + length (stringWords (qualifiersOf q) start (end - start)) in
         let w2 : List ℕ = sets (set w k v) (k + 1) (stringWords (qualifiersOf q) start (end - start)) in
         let inside : n < length w2 = rw (length-sets (set w k v) (k + 1) (stringWords (qualifiersOf q) start (end - start)), length-set w k v) (omega (arith, room)) in
@@ -153,21 +159,53 @@ module _ (s w : List ℕ) (place at k : ℕ) (r : CommandRoom s w place at k) wh
         rw (we, me) (CommandOr.read Follow.Nothing next (n + 1) (
           kept-set k 16 n u w w2 (omega arith) (omega (arith, room)) (string-stays q start end second (stands .first) v),
           (
-            simple place (alter change pointing l (take (second-end - second) (drop second s))),
-            goes-on (twoStrings (cursorAt s at)) _ (pair l (take (second-end - second) (drop second s))) (cursorAt s next) read,
+            simple place op,
+            read,
             record {
               passed = omega (arith, r .named, stands .first .after, stands .first .ordered, stands .first .ends, stands .ordered, stands .ends);
               inside = stands .within;
               forth = omega arith;
               two = omega (arith, r .named, few, stands .first .after, stands .first .ordered, stands .first .ends, stands .ordered, stands .ends, stands .within);
               opening = λ n. omega arith;
-              item = (
+              item = lies (set w2 n u) (n + 1) (
                 n,
                 refl,
                 getD-set-other w2 n k u 0 (λ e. omega (arith, e)) ∙ string-head q start end second (stands .first) v ∙ hd,
-                kept-behind s w2 (k + 1) n (one l) there n u (omega arith),
+                kept-behind s w2 (k + 1) n (one first-string) there n u (omega arith),
                 rw (getD-set-same w2 n u 0 inside) (string-in s u second second-end (stands .ordered) (omega (arith, stands .ends, stands .within)) wd),
               );
             },
           ),
         ))
+
+  module _ {kind : ℕ} {both : Answer} where
+    -- what is no two strings is a refusal
+    pub pairs-refused : {shape : Shape} → Pairs s at kind both shape → OneOf not-strings (tagOf the-type both) → CommandRead s w w place k (decode false place shape (cursorAt s at)) both
+    unfolding decode
+    pairs-refused (of-alters c pointing e h) t = up-command (no-strings h t) (passed-up (twoStrings (cursorAt s at)) _)
+    pairs-refused (of-globals c e h) t = up-command (no-strings h t) (passed-up (twoPlainStrings (cursorAt s at)) _)
+
+    module _ (q : Quals) (start end second second-end next : ℕ) (is : both ≡ Answer.TwoStrings q start end second second-end next) where
+      -- where they lie
+      pub pairs-stand : {shape : Shape} → Pairs s at kind both shape → PairAt s at q start end second second-end next
+      pairs-stand (of-alters c pointing e h) = is-strings h is .1
+      pairs-stand (of-globals c e h) = is-strings h is .stand
+
+      pub pairs-written : {shape : Shape} → Pairs s at kind both shape → (v m u : ℕ) (w' : List ℕ)
+          → v ≡ head kind place
+          → w' ≡ sets (set w k v) (k + 1) (stringWords (qualifiersOf q) start (end - start)) → m ≡ k + 1 + length (stringWords (qualifiersOf q) start (end - start))
+          → u ≡ stringWord second (second-end - second)
+          → CommandRead s w (set w' m u) place k (decode false place shape (cursorAt s at)) (Answer.Command Follow.Nothing next (m + 1))
+      unfolding decode OpAt alterOp
+      pairs-written (of-alters c pointing e h) =
+          let x = is-strings h is in
+          strings-written kind (alters c pointing) (alter c pointing _ _) q start end second second-end next (x .1)
+          (goes-on (twoStrings (cursorAt s at)) _ _ (cursorAt s next) (x .0)) (λ w₁ m two. rw e at two)
+      pairs-written (of-globals c e h) =
+          let x = is-strings h is in
+          strings-written kind (globals c) (addGlobal c _ _) q start end second second-end next (x .stand)
+          (goes-on (twoPlainStrings (cursorAt s at)) _ _ (cursorAt s next) (x .both)) (λ w₁ m two. rw (e, x .unqualified) at two)
+
+pub pairs-small : {s : List ℕ} {at kind : ℕ} {both : Answer} → (shape : Shape) × Pairs s at kind both shape → kind < 256
+pairs-small (_, of-alters c pointing e h) = omega (arith, e, change-shape c pointing .0)
+pairs-small (_, of-globals c e h) = omega (arith, e, global-shape c .0)

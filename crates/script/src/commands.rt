@@ -18,6 +18,7 @@ use items::arguments::span_head;
 use items::arguments::span_word;
 use items::heads::head;
 use items::heads::head_with;
+use items::kinds::CANCEL;
 use items::kinds::COPY;
 use items::kinds::COUNT;
 use items::kinds::CUT_BYTE;
@@ -73,6 +74,7 @@ pub fn plain_kind(p: Plain) -> u32
         Plain::CutByte => CUT_BYTE,
         Plain::Lower => LOWER,
         Plain::Upper => UPPER,
+        Plain::Cancel => CANCEL,
     }
 }
 

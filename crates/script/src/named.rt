@@ -18,6 +18,7 @@ use crate::inserts::quotes;
 use crate::inserts::replaces;
 use crate::qualified::aims;
 use crate::qualified::alters;
+use crate::qualified::globals;
 use crate::qualified::point_kind;
 use crate::qualified::split_kind;
 use crate::rounds::finish;
@@ -61,6 +62,7 @@ fn decode(
         Shape::Points(after) => aims(s, w, k, place, at, point_kind(after)),
         Shape::Splits(after) => aims(s, w, k, place, at, split_kind(after)),
         Shape::Joins => quotes(s, w, k, place, at, JOIN),
+        Shape::Globals(change) => globals(s, w, k, place, at, change),
         Shape::Repeats => prefix_word(w, k, REPEAT, place, at, false),
         Shape::Branches(holds) => branches(s, w, k, place, at, holds),
         Shape::BranchesEof => prefix_word(w, k, IF_EOF, place, skip_then(s, at), true),

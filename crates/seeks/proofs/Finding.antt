@@ -3,27 +3,33 @@ use mathlib.Core.Path.{_≡_, refl, sym, ap, _∙_}
 use mathlib.Core.Bool.{Bool, true, false}
 use Prim.Native.Nat.{ℕ, _≤_, _<_}
 use mathlib.Core.List.{List, [], _∷_}
+use native.Mathlib.Omega.{arith}
 use lib.ListN.{length}
+use lib.Dec.{eqb}
 use Rattle.definitions.specs.Bytes.{Line}
 use Rattle.definitions.specs.Journal.{Record}
 use Rattle.definitions.specs.Tape.{Tape}
-use Rattle.definitions.specs.Given.{Given, Carried}
+use Rattle.definitions.specs.Given.{Given, Carried, carried}
 use Rattle.definitions.specs.Editor.{Ed, n21, stopNumber, Move, struckBack, strikeBack, edits}
 use Rattle.definitions.specs.StepProgram.{Program, gives, _>>=_, _>>_, runs, state, Did, answers, changes, perform}
 use Rattle.definitions.specs.Search.{Search, holds}
 use Rattle.definitions.specs.Edit.{program, step, either, go, goAhead, goesOn, lineOr, lookOn, lookBack, searchHolds}
 use Rattle.definitions.specs.Control.{Seek, forward, backward, deleting, lookOp}
-use Rattle.editor.specs.Shows.{Holds, Stays, Shows, lent, Came}
+use Rattle.editor.specs.Shows.{Holds, Stays, Shows, lent, Came, DoesPlain}
 use Rattle.editor.specs.declared.State.{State}
 use Rattle.editor.specs.declared.Moved.{Moved}
 use Rattle.editor.specs.declared.Moved.the-variants.{On, Stop as Stopped}
 use Rattle.editor.proofs.Parts.{line-on, line-stop, perform-as}
 use Rattle.editor.proofs.Changing.{changes-on, strike-back-shows}
+use Rattle.items.specs.Reserve.{reserve}
+use Rattle.globals.specs.Standing.{StandingBelow, standing}
+use Rattle.globals.proofs.Standing.{none-stand}
+use Rattle.reading.specs.Carrying.{DoesPartBy, SomeStand}
 use Rattle.seeks.specs.declared.Looked.{Looked}
 use Rattle.seeks.specs.declared.Looked.the-variants.{Yes, No, Stop}
 use Rattle.seeks.specs.declared.Way.{Way}
 use Rattle.seeks.specs.declared.Way.the-variants.{Forward, Backward, Deleting}
-use Rattle.seeks.specs.Looks.{LooksAs, LooksBy, seekOf, eofStop, whereFound, whereNot}
+use Rattle.seeks.specs.Looks.{LooksAs, LooksBy, LooksCarrying, seekOf, eofStop, whereFound, whereNot}
 use Rattle.seeks.proofs.Texts.{line-holds}
 use Rattle.seeks.proofs.Looking.{says-yes, says-no, says-stop, then-looks, then-stops, performed}
 
@@ -48,6 +54,32 @@ module _ (g : Given) (c : Carried) (e : Ed) (t : Tape) (k : List ℕ) (s : State
   unfolding lookOn _>>_
   look-on-stop r n q w = then-stops g c goAhead (λ a. _>>=_ (lineOr n21) (λ b. gives (answers false))) e t k n s (rw q at w)
 
+-- ---- the same with globals
+
+-- the reserve is there
+pub reserve-in : (s w : List ℕ) → SomeStand s w → reserve ≤ length w
+unfolding StandingBelow
+reserve-in s w (carried gs, h) = omega (arith, h .below .0)
+
+module _ (s w j : List ℕ) (st : State) (i : List ℕ) (q : Moved) {k : List ℕ} {r : Moved} (same : k ≡ i) (moved : r ≡ q) where
+  -- none stands
+  pub none-goes : (v : Bool) → v ≡ eqb (standing w) 0 → v ≡ true → DoesPlain j st goAhead i q → DoesPartBy s w j st goAhead k r
+  none-goes v is yes-none f e c t stands h = rw (same, moved, none-stand s w c (sym is ∙ yes-none) stands) (f e t h)
+
+  -- some do
+  pub some-goes : DoesPartBy s w j st goAhead i q → DoesPartBy s w j st goAhead k r
+  some-goes f e c t stands h = rw (same, moved) (f e c t stands h)
+
+module _ (s w j : List ℕ) (st : State) (k : List ℕ) (r : Moved) (goes : DoesPartBy s w j st goAhead k r) (z : State) where
+  pub on-eof : r ≡ On z → length k ≤ z .back → LooksCarrying s w j st lookOn k (Stop 21 z)
+  on-eof q end e c t stands h = look-on-eof (lent j) c e t k z r q end (goes e c t stands h)
+
+  pub on-line : r ≡ On z → z .back < length k → LooksCarrying s w j st lookOn k (No z)
+  on-line q more e c t stands h = look-on-line (lent j) c e t k z r q more (goes e c t stands h)
+
+  pub on-stop : (n : ℕ) → r ≡ Stopped n z → LooksCarrying s w j st lookOn k (Stop n z)
+  on-stop n q e c t stands h = look-on-stop (lent j) c e t k z r n q (goes e c t stands h)
+
 -- ---- back to the previous one
 
 module _ (g : Given) (k : List ℕ) (s : State) (r : Moved) (e : Ed) (c : Carried) (t : Tape) (w : Came k r (runs g c (go Move.back) e t)) where
@@ -62,8 +94,13 @@ module _ (g : Given) (k : List ℕ) (s : State) (r : Moved) (e : Ed) (c : Carrie
 
 -- ---- by the search
 
-pub not-by : (j : List ℕ) (st : State) (k : List ℕ) (r : Looked) (f : Seek) {m : Program Did} → whereNot f ≡ m → LooksBy j st m k r → LooksBy j st (whereNot f) k r
-not-by j st k r f q h = rw q h
+module _ (s w : List ℕ) {j : List ℕ} {st : State} (k : List ℕ) (r : Looked) (f : Seek) {m : Program Did} (is : whereNot f ≡ m) where
+  pub not-by : LooksCarrying s w j st m k r → LooksCarrying s w j st (whereNot f) k r
+  not-by h = rw is h
+
+  -- where nothing is read
+  pub not-back : LooksBy j st m k r → LooksCarrying s w j st (whereNot f) k r
+  not-back h e c t stands shows = rw is (h e c t shows)
 
 pub goes-forward : (w : Way) → w ≡ Forward → whereNot (seekOf w) ≡ lookOn
 unfolding seekOf whereNot

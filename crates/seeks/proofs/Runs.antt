@@ -5,8 +5,9 @@ use Prim.Native.Nat.{ℕ, zero, suc, _+_, _-_, _≤_}
 use native.Mathlib.Omega.{arith}
 use mathlib.Core.List.{List}
 use Rattle.definitions.specs.Tape.{Tape, bind}
-use Rattle.definitions.specs.Given.{Given}
-use Rattle.definitions.specs.StepProgram.{RunState, textOf, Out, on, edited, halt}
+use Rattle.definitions.specs.Given.{Given, Carried}
+use Rattle.definitions.specs.Editor.{Ed}
+use Rattle.definitions.specs.StepProgram.{RunState, state, textOf, Out, on, edited, halt}
 use Rattle.definitions.specs.Search.{Search}
 use Rattle.definitions.specs.Edit.{Op, step}
 use Rattle.definitions.specs.Control.{Seek, forward, backward, deleting, Item, Frame, running, seeking, lookOp, pull}
@@ -14,7 +15,8 @@ use Rattle.definitions.specs.Run.{End, end, choose, endPlace, spent, stepped, s
 use Rattle.editor.specs.Shows.{lent}
 use Rattle.editor.specs.Current.{TableOf, TableOut}
 use Rattle.editor.proofs.Tables.{keeps-table}
-use Rattle.seeks.specs.Looks.{Steps, further, stepsOf}
+use Rattle.seeks.specs.Looks.{carriedOf, Steps, further, stepsOf}
+use Rattle.seeks.proofs.Carrying.{LeavesOp, step-leaves}
 
 -- ---- how the run goes on after the steps of a search
 
@@ -130,3 +132,18 @@ unfolding stepsOf
 steps-table i op table n zero s t h = h
 steps-table i op table n (suc left) s t h =
     table-on table (stepsOf (lent i) op (suc n) left) (steps-table i op table (suc n) left) ((step (lent i) (op n) s t) .0) ((step (lent i) (op n) s t) .1) (keeps-table table i (op n) s t h)
+
+-- the globals stand
+carried-on : (c : Carried) (f : RunState → Tape → Steps) → ((e : Ed) (t : Tape) → carriedOf ((f (state e c) t) .0 .0) ≡ c)
+    → (o : Out) (t : Tape) → carriedOf o ≡ c → carriedOf ((further f o t) .0 .0) ≡ c
+unfolding further carriedOf
+carried-on c f keeps (on true (state e d)) t h = h
+carried-on c f keeps (on false (state e d)) t h = rw h (keeps e t)
+carried-on c f keeps (edited (state e d)) t h = h
+carried-on c f keeps (halt n (state e d)) t h = h
+
+pub steps-carried : (g : Given) (op : ℕ → Op) → ((n : ℕ) → LeavesOp (op n)) → (i left : ℕ) (e : Ed) (c : Carried) (t : Tape) → carriedOf ((stepsOf g op i left (state e c) t) .0 .0) ≡ c
+unfolding stepsOf carriedOf
+steps-carried g op leaves i zero e c t = refl
+steps-carried g op leaves i (suc left) e c t =
+    carried-on c (stepsOf g op (suc i) left) (λ e t. steps-carried g op leaves (suc i) left e c t) ((step g (op i) (state e c) t) .0) ((step g (op i) (state e c) t) .1) (step-leaves g (op i) e c t (leaves i))

@@ -14,6 +14,7 @@ use Rattle.matching.specs.Words.{Encodes}
 use Rattle.editor.specs.Shows.{Shows, lent}
 use Rattle.editor.specs.Current.{PointOut, Ready}
 use Rattle.editor.specs.declared.State.{State}
+use Rattle.globals.specs.Standing.{Standing}
 use Rattle.seeks.specs.declared.Way.{Way}
 use Rattle.seeks.specs.declared.Way.the-variants.{Forward, Backward, Deleting}
 use Rattle.seeks.specs.declared.Looked.{Looked}
@@ -43,9 +44,19 @@ LooksAs j r x = Looks j r (x .0) (x .1)
 abbrev pub LooksBy : List ℕ → State → Program Did → List ℕ → Looked → Type 0
 LooksBy j st m k r = (e : Ed) (c : Carried) (t : Tape) → Shows j st e t → LooksAs k r (perform (lent j) m (state e c) t)
 
--- the same of a whole step
+-- the same of one that is told the standing globals: script and work area hold them (document 02, wish 2)
+abbrev pub LooksCarrying : List ℕ → List ℕ → List ℕ → State → Program Did → List ℕ → Looked → Type 0
+LooksCarrying s w j st m k r = (e : Ed) (c : Carried) (t : Tape) → Standing s w c → Shows j st e t → LooksAs k r (perform (lent j) m (state e c) t)
+
+-- as `LooksBy`, of a whole step
 abbrev pub LooksOnce : List ℕ → State → Op → List ℕ → Looked → Type 0
 LooksOnce j st op k r = (e : Ed) (c : Carried) (t : Tape) → Shows j st e t → LooksAs k r (step (lent j) op (state e c) t)
+
+-- the globals that stand after a step
+unfoldable pub carriedOf : Out → Carried
+carriedOf (on b (state e c)) = c
+carriedOf (edited (state e c)) = c
+carriedOf (halt n (state e c)) = c
 
 -- ---- a step with a search, which lies in the words from k up to m
 
@@ -61,6 +72,12 @@ module _ (script words : List ℕ) (k m : ℕ) (table j : List ℕ) (st : State)
   -- what a function answers that made the step `op` with it, the buffer being i then
   abbrev pub LooksFor : (Search → Op) → List ℕ → Looked → Type 0
   LooksFor op i r = (se : Search) (e : Ed) (c : Carried) (t : Tape) → Encodes script words k m se → Ready table j st e t → LooksAs i r (step (lent j) (op se) (state e c) t)
+
+  -- the same of one that is told the standing globals
+  abbrev pub LooksForCarrying : (Search → Op) → List ℕ → Looked → Type 0
+  LooksForCarrying op i r =
+      (se : Search) (e : Ed) (c : Carried) (t : Tape) → Encodes script words k m se → Standing script words c → Ready table j st e t
+      → LooksAs i r (step (lent j) (op se) (state e c) t)
 
 -- the test of IF and WH (v is true), or of UL and UT
 unfoldable pub testOf : Bool → Search → Test
@@ -114,8 +131,8 @@ stepsOf g op i (suc n) s t = further (stepsOf g op (suc i) n) ((step g (op i) s 
 abbrev pub Seeks : List ℕ → Sought → Steps → Type 0
 Seeks j r x = LooksAs j (r .looked) (x .0) × PointOut (x .0 .0) × (r .made ≡ x .1)
 
--- what a function answers that made the steps of `f` with the search in the words from k up to m
+-- what a function answers that made the steps of `f` with the search in the words from k up to m, told the standing globals
 abbrev pub SeeksFor : List ℕ → List ℕ → ℕ → ℕ → List ℕ → List ℕ → State → Seek → ℕ → ℕ → List ℕ → Sought → Type 0
 SeeksFor script words k m table j st f passed left i r =
-    (se : Search) (e : Ed) (c : Carried) (t : Tape) → Encodes script words k m se → Ready table j st e t
+    (se : Search) (e : Ed) (c : Carried) (t : Tape) → Encodes script words k m se → Standing script words c → Ready table j st e t
     → Seeks i r (stepsOf (lent j) (lookOp f se) passed left (state e c) t)

@@ -6,7 +6,9 @@ ghost use Rattle.definitions.specs.Editor.{stopNumber};
 ghost use Rattle.definitions.specs.Edit.{Op, Test, lookOn, lookBack};
 ghost use Rattle.definitions.specs.Control.{lookOp};
 ghost use Rattle.editor.specs.Shows.{ShowsText};
-ghost use Rattle.seeks.specs.Looks.{LooksBy, LooksOnce, Searchable, Tells, LooksFor, testOf, seekOf, eofStop, whereFound, whereNot, SeeksFor};
+ghost use Rattle.reading.specs.Carrying.{SomeStand};
+ghost use Rattle.seeks.specs.Looks.{LooksBy, LooksCarrying, LooksOnce, Searchable, Tells, LooksFor, LooksForCarrying};
+ghost use Rattle.seeks.specs.Looks.{testOf, seekOf, eofStop, whereFound, whereNot, SeeksFor};
 use editor::Moved;
 use editor::State;
 
@@ -111,12 +113,16 @@ pub fn begin_back(j: &mut [u8], st: State) -> Looked
     }
 }
 
-// F and DF: on to the next live line.
-fn look_on(j: &mut [u8], st: State) -> Looked
-    requires { ⌜ ShowsText (now j) st × (st .back < length (now j)) ⌝ }
-    ensures { λ r. ⌜ LooksBy (now (j .entry)) st lookOn (now (j .exit)) r ⌝ }
+// F and DF: on to the next live line, which is read through the globals that stand. EOF stops them.
+fn look_on(script: &[u8], words: &[u32], j: &mut [u8], st: State) -> Looked
+    requires { ⌜ SomeStand (now script) (now words) × ShowsText (now j) st × (st .back < length (now j)) ⌝ }
+    ensures { λ r. ⌜ LooksCarrying (now (script .entry)) (now (words .entry)) (now (j .entry)) st lookOn (now (j .exit)) r ⌝ }
 {
-    let r = editor::moves::go_ahead(j, st);
+    let r = if globals::none_stands(words) {
+        editor::moves::go_ahead(j, st)
+    } else {
+        spans::ahead::go_ahead(script, words, j, st)
+    };
     match r {
         Moved::On(s) => {
             let at = s.back;
@@ -142,14 +148,14 @@ fn look_back(j: &mut [u8], st: State) -> Looked
 }
 
 // The current line does not match: on to the next one.
-fn look_further(j: &mut [u8], st: State, way: Way) -> Looked
-    requires { ⌜ ShowsText (now j) st × (st .back < length (now j)) ⌝ }
-    ensures { λ r. ⌜ LooksBy (now (j .entry)) st (whereNot (seekOf way)) (now (j .exit)) r ⌝ }
+fn look_further(script: &[u8], words: &[u32], j: &mut [u8], st: State, way: Way) -> Looked
+    requires { ⌜ SomeStand (now script) (now words) × ShowsText (now j) st × (st .back < length (now j)) ⌝ }
+    ensures { λ r. ⌜ LooksCarrying (now (script .entry)) (now (words .entry)) (now (j .entry)) st (whereNot (seekOf way)) (now (j .exit)) r ⌝ }
 {
     match way {
-        Way::Forward => look_on(j, st),
+        Way::Forward => look_on(script, words, j, st),
         Way::Backward => look_back(j, st),
-        Way::Deleting => look_on(j, st),
+        Way::Deleting => look_on(script, words, j, st),
     }
 }
 
@@ -188,8 +194,8 @@ fn look(
     way: Way,
     lines: usize,
 ) -> Looked
-    requires { ⌜ Searchable (now script) (now words) k m (now table) (now j) st ⌝ }
-    ensures { λ r. ⌜ LooksFor (now (script .entry)) (now (words .entry)) k m (now (table .entry)) (now (j .entry)) st (λ se. lookOp (seekOf way) se lines) (now (j .exit)) r ⌝ }
+    requires { ⌜ SomeStand (now script) (now words) × Searchable (now script) (now words) k m (now table) (now j) st ⌝ }
+    ensures { λ r. ⌜ LooksForCarrying (now (script .entry)) (now (words .entry)) k m (now (table .entry)) (now (j .entry)) st (λ se. lookOp (seekOf way) se lines) (now (j .exit)) r ⌝ }
 {
     let at = st.back;
     if at >= j.len() {
@@ -198,7 +204,7 @@ fn look(
     if holds_here(script, words, k, m, table, j, st) {
         return found(j, st, way, lines);
     }
-    look_further(j, st, way)
+    look_further(script, words, j, st, way)
 }
 
 // F, BF or DF: live lines are tested until one matches, the current line first, at most `left` of them, `lines` being passed before.
@@ -214,7 +220,7 @@ pub fn seek(
     lines: usize,
     left: usize,
 ) -> Sought
-    requires { ⌜ Searchable (now script) (now words) k m (now table) (now j) st × (lines + left ≤ 18446744073709551615) ⌝ }
+    requires { ⌜ SomeStand (now script) (now words) × Searchable (now script) (now words) k m (now table) (now j) st × (lines + left ≤ 18446744073709551615) ⌝ }
     ensures { λ r. ⌜ SeeksFor (now (script .entry)) (now (words .entry)) k m (now (table .entry)) (now (j .entry)) st (seekOf way) lines left (now (j .exit)) r ⌝ }
 {
     let mut s = st;

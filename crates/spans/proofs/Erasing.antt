@@ -15,7 +15,7 @@ use Rattle.theorems.specs.RecordLaws.{old-append}
 use Rattle.editor.specs.Records.{enc, encAll, encBefore, mark, Goods, oldBytes, zeroPlace}
 use Rattle.editor.specs.Shows.{Holds, Stays}
 use Rattle.editor.specs.declared.State.{State}
-use Rattle.editor.proofs.Records.{text-place, line-text, three-bytes, enc-length}
+use Rattle.editor.proofs.Records.{text-place, line-text, three-bytes, enc-length, enc-append, goods-append}
 use Rattle.editor.proofs.Held.{held-length}
 use Rattle.editor.proofs.Striking.{mark-set}
 use Rattle.spans.specs.Spans.{freedBy, Stands, StandsAt, widened, ClosesHole}
@@ -87,11 +87,6 @@ hole-closed P M H Z b f t lp lm lh =
 
 -- ---- records at a place behind the gap
 
-all-both : (m c : List Record) → encAll (m ++ c) ≡ encAll m ++ encAll c
-unfolding encAll
-all-both [] c = refl
-all-both (r ∷ m) c = ap (λ (z : List ℕ). enc r ++ z) (all-both m c) ∙ sym (append-assoc (enc r) (encAll m) (encAll c))
-
 goods-first : (m c : List Record) → Goods (m ++ c) → Goods m
 goods-first [] c g = tt
 goods-first (r ∷ m) c g = (g .0, goods-first m c (g .1))
@@ -99,10 +94,6 @@ goods-first (r ∷ m) c g = (g .0, goods-first m c (g .1))
 goods-later : (m c : List Record) → Goods (m ++ c) → Goods c
 goods-later [] c g = g
 goods-later (r ∷ m) c g = goods-later m c (g .1)
-
-goods-both : (m c : List Record) → Goods m → Goods c → Goods (m ++ c)
-goods-both [] c g h = h
-goods-both (r ∷ m) c g h = (g .0, goods-both m c (g .1) h)
 
 module _ {j : List ℕ} {st : State} (b m c : List Record) (h : Holds j st b (m ++ c)) (at : ℕ) (is : at + length (encAll c) ≡ length j) where
   -- the bytes up to the gap's end
@@ -116,7 +107,7 @@ module _ {j : List ℕ} {st : State} (b m c : List Record) (h : Holds j st b (m 
   at-place = omega (arith, held-length h, all-append m c)
 
   at-bytes : j ≡ P ++ (encAll m ++ encAll c)
-  at-bytes = h .bytes ∙ sym (append-assoc (encBefore b) (zeros (st .back - st .front)) (encAll (m ++ c))) ∙ ap (λ (z : List ℕ). P ++ z) (all-both m c)
+  at-bytes = h .bytes ∙ sym (append-assoc (encBefore b) (zeros (st .back - st .front)) (encAll (m ++ c))) ∙ ap (λ (z : List ℕ). P ++ z) (enc-append m c)
 
   at-long : length (P ++ encAll m) ≡ at
   at-long = omega (arith, length-append P (encAll m), front-long, at-place)
@@ -138,11 +129,11 @@ module _ {j : List ℕ} {st : State} (b m c : List Record) (h : Holds j st b (m 
       let wide : s .back - s .front ≡ g + n = omega (arith, h .order) in
       let two : zeros (g + n) ≡ zeros g ++ zeros n = sym (replicate-append-replicate {A = ℕ} g n 0) in
       record {
-        bytes = q ∙ rw (wide, two, all-both m d) (simp append-assoc);
+        bytes = q ∙ rw (wide, two, enc-append m d) (simp append-assoc);
         front = h .front ∙ sym sf;
         order = omega (arith, h .order);
         past-good = h .past-good;
-        good = goods-both m d (goods-first m c (h .good)) good;
+        good = goods-append m d (goods-first m c (h .good)) good;
         past = sp ∙ h .past;
         lines = rw same at (sl ∙ h .lines);
         source = so ∙ h .source;

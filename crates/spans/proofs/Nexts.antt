@@ -12,7 +12,7 @@ use Rattle.text.specs.Feeds.{lineLength}
 use Rattle.definitions.specs.Bytes.{Line}
 use Rattle.definitions.specs.Journal.{Record, kept, changed, deleted, inserted, erase}
 use Rattle.definitions.specs.Tape.{Tape, unread, ended, restLines}
-use Rattle.definitions.specs.Given.{Given, Carried}
+use Rattle.definitions.specs.Given.{Given, noGlobals}
 use Rattle.definitions.specs.Editor.{Ed, ed, beforeOf, afterOf, sources, current, isLive, hasLive, firstLive, land, struckNext, strikeNext, edit}
 use Rattle.definitions.specs.Reading.{Ran, gave, stopped}
 use Rattle.definitions.specs.StepProgram.{runs}
@@ -259,16 +259,16 @@ no-next (r ∷ a) x c q = let z : _≡_ {A = ℕ} 0 1 = cc in omega arith
 -- THE LAW: the first live record after those up to the place `end` is found, and its line, or the one before it, or EOF, is read
 pub next-reads : {j : List ℕ} {st : State} {end past : ℕ} (r : Next) (l : Live) → ((b a : List Record) → Stands j end a → past ≡ sources b → LiveAt j l b a) → r .at ≡ l .at
     → ((b a : List Record) → Stands j (l .at) a → l .past ≡ sources b → r .st ≡ raised st (lineAt b a))
-    → (g : Given) (c : Carried) (e : Ed) (t : Tape) (n : ℕ) → Shows j st e t → EndsAt j end n e t → past ≡ sources (beforeOf e) + sources (take n (afterOf e))
-    → let x = runs g c (readPast n) e t in
+    → (g : Given) (e : Ed) (t : Tape) (n : ℕ) → Shows j st e t → EndsAt j end n e t → past ≡ sources (beforeOf e) + sources (take n (afterOf e))
+    → let x = runs g noGlobals (readPast n) e t in
     NextBy j n r (x .0) (x .1)
 unfolding NextBy beforeOf afterOf
-next-reads {j} r l finds place reads g c (ed b a p) t n h w q =
+next-reads {j} r l finds place reads g (ed b a p) t n h w q =
     let B : List Record = reverseAux (take n a) b in
     let D : List Record = drop n a ++ map kept (restLines t) in
     let f : LiveAt j l B D = finds B D (past-stands b a p t n h w) (q ∙ (let s : sources b + sources (take n a) ≡ sources B = omega (arith, sources-reverse (take n a) b) in s)) in
     let is : r .st ≡ raised _ (lineAt (beforeOf (land B D)) (afterOf (land B D))) = reads (beforeOf (land B D)) (afterOf (land B D)) (f .0) (f .1) in
-    rw (read-past g c n (ed b a p) t) (next-shows b a p t n h w is, next-at b a p t n h w (rw place (f .0)))
+    rw (read-past g n (ed b a p) t) (next-shows b a p t n h w is, next-at b a p t n h w (rw place (f .0)))
 
 -- ---- after the current line
 

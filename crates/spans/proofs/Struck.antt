@@ -7,7 +7,7 @@ use lib.ListN.{length, take, drop, getD, length-append, take-append-drop}
 use lib.Seq.{length-take-le, drop-append-le}
 use Rattle.definitions.specs.Journal.{Record, kept, changed, deleted, inserted, erase}
 use Rattle.definitions.specs.Tape.{Tape, restLines}
-use Rattle.definitions.specs.Given.{Given, Carried}
+use Rattle.definitions.specs.Given.{Given, noGlobals}
 use Rattle.definitions.specs.Editor.{Ed, ed, beforeOf, afterOf, sources, land, struckBack, strike, edit}
 use Rattle.definitions.specs.StepProgram.{runs}
 use Rattle.definitions.specs.Edit.{readPast}
@@ -20,7 +20,7 @@ use Rattle.editor.proofs.Held.{stays-still, stays-on, holds-lists, held-length,
 use Rattle.editor.proofs.Reading.{reachOf, shown-reach}
 use Rattle.editor.proofs.Reaching.{landRead}
 use Rattle.editor.proofs.Changing.{strike-shows}
-use Rattle.spans.specs.Spans.{EndsAt, Spanned, Until, PassesTo, backLive, StruckBy}
+use Rattle.spans.specs.Spans.{EndsAt, Spanned, Until, PassesTo, backLive, StruckBy, Counts}
 
 pub all-append : (a b : List Record) → length (encAll (a ++ b)) ≡ length (encAll a) + length (encAll b)
 unfolding encAll
@@ -250,13 +250,18 @@ module _ {j : List ℕ} {st : State} {end n : ℕ} (b a : List Record) (p : ℕ)
 pub spanned-until : {j : List ℕ} {st : State} {end : ℕ} → Spanned j st end → Until j st end
 spanned-until (ed b a p, t, n, h, w) = (b, take n a, drop n a ++ map kept (restLines t), span-held b a p t h w, span-place b a p t h w)
 
+-- the source lines before that place, counted in the buffer
+pub counted-is : {j : List ℕ} {st : State} {end r : ℕ} (e : Ed) (t : Tape) (n : ℕ) → Shows j st e t → EndsAt j end n e t → Counts end j st r → r ≡ sources (beforeOf e) + sources (take n (afterOf e))
+unfolding beforeOf afterOf
+counted-is (ed b a p) t n h w counts = counts b (take n a) (drop n a ++ map kept (restLines t)) (span-held b a p t h w) (span-place b a p t h w)
+
 -- the records are struck, deleted ones after them passed, and the line that is current then is read
-pub struck-span : {j k i : List ℕ} {st gone l s : State} {end : ℕ} (g : Given) (c : Carried) (e : Ed) (t : Tape) (n : ℕ) → Shows j st e t → EndsAt j end n e t
+pub struck-span : {j k i : List ℕ} {st gone l s : State} {end : ℕ} (g : Given) (e : Ed) (t : Tape) (n : ℕ) → Shows j st e t → EndsAt j end n e t
     → PassesTo strikeOver end j st k gone → Lands k gone i l → ((b : List Record) (a : List Record) → Holds i l b a → s ≡ raised l (lineAt b a))
-    → let x = runs g c (readPast n) e t in
+    → let x = runs g noGlobals (readPast n) e t in
     StruckBy i s n (x .0) (x .1)
 unfolding StruckBy afterOf beforeOf
-struck-span {j} {k} {i} {st} {gone} {l} {s} g c (ed b a p) t n h w passes landed reads =
+struck-span {j} {k} {i} {st} {gone} {l} {s} g (ed b a p) t n h w passes landed reads =
     let m : List Record = take n a in
     let d : List Record = drop n a in
     let U : List Record = map kept (restLines t) in
@@ -268,4 +273,4 @@ struck-span {j} {k} {i} {st} {gone} {l} {s} g c (ed b a p) t n h w passes landed
     let far : l .furthest ≡ reachOf (l .lines) t = landed .1 ∙ passes .1 .furthest ∙ shown-reach (ed b a p) t h ∙ ap (λ (z : ℕ). reachOf z t) (sym lines) in
     let shows : Shows i s (edit (strike (length m)) (seenAll ((landRead d t) .0) (ed b (m ++ d) p))) ((landRead d t) .1) =
     strike-shows b m d p t total far x (landed .3) (reads (beforeOf (land (strikeOver m b) (d ++ U))) (afterOf (land (strikeOver m b) (d ++ U))) x) in
-    rw (read-past g c n (ed b a p) t) (rw (span-many b a p t h w, whole) at shows)
+    rw (read-past g n (ed b a p) t) (rw (span-many b a p t h w, whole) at shows)

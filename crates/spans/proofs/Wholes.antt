@@ -4,20 +4,20 @@ use Prim.Native.Nat.{ℕ}
 use mathlib.Core.List.{List, [], _∷_}
 use lib.ListN.{length}
 use Rattle.definitions.specs.Tape.{Tape}
-use Rattle.definitions.specs.Given.{Given, Carried}
+use Rattle.definitions.specs.Given.{Given, Carried, noGlobals}
 use Rattle.definitions.specs.Editor.{Ed, n20, Target, Through, strike, edit, edits}
 use Rattle.definitions.specs.Editor.{Stop as StopNumber, Edit as Editing}
 use Rattle.definitions.specs.Reading.{Ran, gave, stopped}
 use Rattle.definitions.specs.StepProgram.{gives, _>>=_, _>>_, runs, state, changes, perform}
 use Rattle.definitions.specs.Edit.{readPast, goTo, lineOr, reach, span, Op, program, step}
 use Rattle.theorems.specs.Programs.{runs-assoc, runs-on, runs-stop}
-use Rattle.editor.specs.Shows.{Shows, lent, Came, Answered, Completes}
+use Rattle.editor.specs.Shows.{Shows, lent, Came, Answered}
 use Rattle.editor.specs.declared.State.{State}
 use Rattle.editor.specs.declared.Moved.{Moved}
 use Rattle.editor.specs.declared.Moved.the-variants.{On, Stop}
 use Rattle.editor.proofs.Parts.{lent-same, Halted, came-stop, perform-as, perform-then, perform-halt}
 use Rattle.editor.proofs.Changing.{changes-on}
-use Rattle.spans.specs.Spans.{reachHere, spanHere, changeHere, EndsAt, Spanned, FoundBy, StruckBy}
+use Rattle.spans.specs.Spans.{reachHere, spanHere, changeHere, EndsAt, Spanned, FoundBy, StruckBy, StrikesSpan}
 use Rattle.spans.specs.declared.Found.{Found}
 use Rattle.spans.specs.declared.Found.the-variants.{To}
 use Rattle.spans.specs.declared.Found.the-variants.{Stop as FoundStop}
@@ -38,7 +38,7 @@ unfolding FoundBy
 reached (gave n e, t) q h = let y = rw q at h in record { many = n; text = e; tape = t; is = refl; shows = y .0; ends = y .1 }
 reached (stopped n e, t) q h = absurd (rw q at h)
 
-reached-stop : {j : List ℕ} {m : ℕ} {s : State} {r : Found} (x : Ran ℕ × Tape) → r ≡ FoundStop m s → FoundBy j r (x .0) (x .1) → Halted j m s x
+pub reached-stop : {j : List ℕ} {m : ℕ} {s : State} {r : Found} (x : Ran ℕ × Tape) → r ≡ FoundStop m s → FoundBy j r (x .0) (x .1) → Halted j m s x
 unfolding FoundBy
 reached-stop (gave n e, t) q h = absurd (rw q at h)
 reached-stop (stopped n e, t) q h = let y = rw q at h in record { number = n; text = e; tape = t; is = refl; same = y .0; shows = y .1 }
@@ -51,7 +51,7 @@ reached-spanned w = (w .text, w .tape, w .many, w .shows, w .ends)
 
 module _ (g : Given) (c : Carried) (b : Through) (e : Ed) (t : Tape) where
   -- `spanHere` is `reachHere`, and then the next live line is read
-  here-then : runs g c (spanHere b) e t ≡ runs g c (_>>=_ (reachHere b) (λ n. _>>_ (readPast n) (gives n))) e t
+  pub here-then : runs g c (spanHere b) e t ≡ runs g c (_>>=_ (reachHere b) (λ n. _>>_ (readPast n) (gives n))) e t
   unfolding spanHere reachHere _>>_
   here-then = sym (runs-assoc g c (λ x. reach b) (λ n. _>>=_ (readPast n) (λ u. gives n)) (lineOr n20) e t)
 
@@ -60,7 +60,7 @@ module _ (g : Given) (c : Carried) (b : Through) (e : Ed) (t : Tape) where
   span-on n x y u v q w =
       here-then ∙ runs-on g c (λ n. _>>=_ (readPast n) (λ z. gives n)) (reachHere b) e t q ∙ runs-on g c (λ z. gives n) (readPast n) x u w
 
-  span-stop : {n : StopNumber} {x : Ed} {u : Tape} → runs g c (reachHere b) e t ≡ (stopped n x, u) → runs g c (spanHere b) e t ≡ (stopped n x, u)
+  pub span-stop : {n : StopNumber} {x : Ed} {u : Tape} → runs g c (reachHere b) e t ≡ (stopped n x, u) → runs g c (spanHere b) e t ≡ (stopped n x, u)
   span-stop q = here-then ∙ runs-stop g c (λ n. _>>_ (readPast n) (gives n)) (reachHere b) e t q
 
 module _ (c : Carried) (f : ℕ → List Editing) (b : Through) (e : Ed) (t : Tape) (j : List ℕ) where
@@ -87,15 +87,15 @@ unfolding StruckBy
 struck-text n (gave u e, t) h = (e, t, refl, h)
 struck-text n (stopped m e, t) h = absurd h
 
-pub delete-on : {j : List ℕ} {end : ℕ} {s : State} (k : List ℕ) (r : State) (c : Carried) (b : Through) (e : Ed) (t : Tape) → length k ≡ length j → Reached j end s (runs (lent j) c (reachHere b) e t)
-    → ((e : Ed) (c : Carried) (t : Tape) (n : ℕ) → Shows j s e t → EndsAt j end n e t → (let x = runs (lent j) c (readPast n) e t in StruckBy k r n (x .0) (x .1)))
-    → Answered k (On r) (perform (lent j) (changeHere (λ n. strike n ∷ []) b) (state e c) t)
+pub delete-on : {j : List ℕ} {end : ℕ} {s : State} (k : List ℕ) (r : State) (b : Through) (e : Ed) (t : Tape) → length k ≡ length j → Reached j end s (runs (lent j) noGlobals (reachHere b) e t)
+    → StrikesSpan end j s k r
+    → Answered k (On r) (perform (lent j) (changeHere (λ n. strike n ∷ []) b) (state e noGlobals) t)
 unfolding edits
-delete-on {j} {end} {s} k r c b e t long w strikes =
-    let z : (y : Ed) × (v : Tape) × (runs (lent j) c (readPast (w .many)) (w .text) (w .tape) ≡ (gave tt y, v)) × Shows k r (edit (strike (w .many)) y) v =
-    struck-text (w .many) (runs (lent j) c (readPast (w .many)) (w .text) (w .tape)) (strikes (w .text) c (w .tape) (w .many) (w .shows) (w .ends)) in
-    here-by c (λ n. strike n ∷ []) b e t j k (On r) (w .many) (w .text) (z .0) (w .tape) (z .1) (w .is) (z .2)
-    (changes-on c (strike (w .many) ∷ []) (z .0) (z .1) j k r long (z .3))
+delete-on {j} {end} {s} k r b e t long w strikes =
+    let z : (y : Ed) × (v : Tape) × (runs (lent j) noGlobals (readPast (w .many)) (w .text) (w .tape) ≡ (gave tt y, v)) × Shows k r (edit (strike (w .many)) y) v =
+    struck-text (w .many) (runs (lent j) noGlobals (readPast (w .many)) (w .text) (w .tape)) (strikes (w .text) (w .tape) (w .many) (w .shows) (w .ends)) in
+    here-by noGlobals (λ n. strike n ∷ []) b e t j k (On r) (w .many) (w .text) (z .0) (w .tape) (z .1) (w .is) (z .2)
+    (changes-on noGlobals (strike (w .many) ∷ []) (z .0) (z .1) j k r long (z .3))
 
 -- ---- from what M names
 
@@ -107,11 +107,12 @@ module _ (c : Carried) (f : ℕ → List Editing) (a : Target) (b : Through) (e 
       perform-as (lent j) c (_>>=_ (span a b) (λ n. gives (changes (f n)))) (_>>=_ (goTo a) (λ u. changeHere f b)) e e t t
       (runs-assoc (lent j) c (λ u. spanHere b) (λ n. gives (changes (f n))) (goTo a) e t)
 
-  pub from-on : {i : List ℕ} {s : State} {m : Moved} (k : List ℕ) (r : Moved) → m ≡ On s → Came i m (runs (lent j) c (goTo a) e t) → length i ≡ length j → Completes i s (changeHere f b) k r
+  pub from-on : {i : List ℕ} {s : State} {m : Moved} (k : List ℕ) (r : Moved) → m ≡ On s → Came i m (runs (lent j) c (goTo a) e t) → length i ≡ length j
+      → ((x : Ed) (u : Tape) → Shows i s x u → Answered k r (perform (lent i) (changeHere f b) (state x c) u))
       → Answered k r (perform (lent j) (_>>=_ (span a b) (λ n. gives (changes (f n)))) (state e c) t)
   from-on {i} k r q h long rest =
       rw from-then
-      (perform-then (lent j) c (goTo a) (λ u. changeHere f b) e t k r (rw q at h) (λ v x u w. rw (lent-same j i long) at (rest x c u w)))
+      (perform-then (lent j) c (goTo a) (λ u. changeHere f b) e t k r (rw q at h) (λ v x u w. rw (lent-same j i long) at (rest x u w)))
 
   pub from-stop : (i : List ℕ) {n : ℕ} {s : State} {m : Moved} → m ≡ Stop n s → Came i m (runs (lent j) c (goTo a) e t)
       → Answered i (Stop n s) (perform (lent j) (_>>=_ (span a b) (λ n. gives (changes (f n)))) (state e c) t)

@@ -4,19 +4,21 @@ use mathlib.Core.Bool.{false, cond}
 use mathlib.Core.List.{List, [], _∷_, _++_, map, reverseAux}
 use Prim.Native.Nat.{ℕ, zero, suc, _+_, _-_, _≤_}
 use lib.ListN.{length, take, drop}
-use lib.Dec.{eqb}
+use lib.Dec.{eqb, leb}
 use Rattle.definitions.specs.Journal.{Record, kept, changed, deleted, inserted, erase}
 use Rattle.definitions.specs.Tape.{Tape, restLines}
-use Rattle.definitions.specs.Given.{Carried}
-use Rattle.definitions.specs.Editor.{Ed, beforeOf, afterOf, sources, hasLive, land, n20, stopNumber, Through, alone, upTo, toEof, struckBack, strike, edit}
+use Rattle.definitions.specs.Given.{Carried, noGlobals}
+use Rattle.definitions.specs.Editor.{Ed, beforeOf, afterOf, sources, hasLive, land, n20, n28, stopNumber, Target, Through, alone, upTo, toEof, struckBack, strike, edit}
 use Rattle.definitions.specs.Editor.{Edit as Editing}
 use Rattle.definitions.specs.Reading.{Ran, gave, stopped}
 use Rattle.definitions.specs.StepProgram.{Program, gives, _>>=_, _>>_, runs, Did, changes}
-use Rattle.definitions.specs.Edit.{readPast, lineOr, reach}
+use Rattle.definitions.specs.Edit.{stopIf, see, readUpTo, readPast, lineOr, reach}
 use Rattle.gap.specs.Gap.{movedUp, cleared}
 use Rattle.editor.specs.Records.{encAll, Goods, mark}
-use Rattle.editor.specs.Shows.{Holds, Stays, Shows, restOf, GroundedAt, lent}
+use Rattle.editor.specs.Shows.{Holds, Stays, Shows, restOf, GroundedAt, lent, Came}
 use Rattle.editor.specs.declared.State.{State}
+use Rattle.editor.specs.declared.Moved.{Moved}
+use Rattle.globals.specs.Standing.{Standing}
 use Rattle.spans.specs.declared.Found.{Found}
 use Rattle.spans.specs.declared.Found.the-variants.{To, Stop}
 use Rattle.spans.specs.declared.finding.Live.{Live}
@@ -50,6 +52,21 @@ changeHere f b = do
   k ← spanHere b
   gives (changes (f k))
 
+-- what `reach` reads: "28 line b is before the current line" is tested before b is read
+unfoldable pub readThrough : Through → Program (Unit {0})
+readThrough alone = gives tt
+readThrough (upTo b) = do
+  n ← see (λ e. sources (beforeOf e))
+  stopIf n28 (leb b n)
+  readUpTo (Target.line b)
+readThrough toEof = readUpTo Target.eof
+
+-- the same from the current line on
+unfoldable pub readHere : Through → Program (Unit {0})
+readHere b = do
+  lineOr n20
+  readThrough b
+
 -- ---- the records that are taken
 
 -- the n records from the current one on, which are read, end at the place `end` of the buffer
@@ -70,7 +87,7 @@ FoundBy j (Stop m s) (stopped n e) t = (m ≡ stopNumber n) × Shows j s e t
 
 abbrev pub Finds : List ℕ → State → Through → Found → Type 0
 Finds j st b r =
-    (e : Ed) (c : Carried) (t : Tape) → Shows j st e t → let x = runs (lent j) c (reachHere b) e t in
+    (e : Ed) (t : Tape) → Shows j st e t → let x = runs (lent j) noGlobals (reachHere b) e t in
     FoundBy j r (x .0) (x .1)
 
 -- the records `rs` stand in the buffer from the place `at` to its end
@@ -162,7 +179,7 @@ StruckBy j s n (stopped m e) t = ⊥
 -- the records up to the place `end` are struck, and the next live line after them, which is read, is current
 abbrev pub StrikesSpan : ℕ → List ℕ → State → List ℕ → State → Type 0
 StrikesSpan end j st k r =
-    (e : Ed) (c : Carried) (t : Tape) (n : ℕ) → Shows j st e t → EndsAt j end n e t → let x = runs (lent j) c (readPast n) e t in
+    (e : Ed) (t : Tape) (n : ℕ) → Shows j st e t → EndsAt j end n e t → let x = runs (lent j) noGlobals (readPast n) e t in
     StruckBy k r n (x .0) (x .1)
 
 -- ---- the next live line
@@ -190,15 +207,25 @@ abbrev pub CountedTo : List ℕ → State → ℕ → ℕ → Type 0
 CountedTo j st end past =
     (c : List Record) × (m : List Record) × (d : List Record) × Holds j st c (m ++ d) × (end + length (encAll d) ≡ length j) × (past ≡ sources c + sources m)
 
+-- r source lines stand before the place `end`
+abbrev pub Counts : ℕ → List ℕ → State → ℕ → Type 0
+Counts end j st r =
+    (c : List Record) (m : List Record) (d : List Record) → Holds j st c (m ++ d) → end + length (encAll d) ≡ length j → r ≡ sources c + sources m
+
 -- the next live line after them is found and read
 abbrev pub ReadsFrom : ℕ → ℕ → List ℕ → State → Next → Type 0
 ReadsFrom end past j st r =
-    (e : Ed) (c : Carried) (t : Tape) (n : ℕ) → Shows j st e t → EndsAt j end n e t → past ≡ sources (beforeOf e) + sources (take n (afterOf e))
-    → let x = runs (lent j) c (readPast n) e t in
+    (e : Ed) (t : Tape) (n : ℕ) → Shows j st e t → EndsAt j end n e t → past ≡ sources (beforeOf e) + sources (take n (afterOf e))
+    → let x = runs (lent j) noGlobals (readPast n) e t in
     NextBy j n r (x .0) (x .1)
 
 -- the next live line after the current one is found and read
 abbrev pub ReadsNext : List ℕ → State → Next → Type 0
 ReadsNext j st r =
-    (e : Ed) (c : Carried) (t : Tape) → Shows j st e t → let x = runs (lent j) c (readPast 1) e t in
+    (e : Ed) (t : Tape) → Shows j st e t → let x = runs (lent j) noGlobals (readPast 1) e t in
     NextBy j 1 r (x .0) (x .1)
+
+-- with the script s and the work area w, the next live line after the records up to the place `end` is read through the globals that stand
+abbrev pub ReadsAfter : List ℕ → List ℕ → ℕ → List ℕ → State → List ℕ → Moved → Type 0
+ReadsAfter s w end j st k r =
+    (e : Ed) (c : Carried) (t : Tape) (n : ℕ) → Standing s w c → Shows j st e t → EndsAt j end n e t → Came k r (runs (lent j) c (readPast n) e t)

@@ -9,7 +9,7 @@ ghost use lib.ListN.{length};
 ghost use Rattle.definitions.specs.Journal.{Record};
 ghost use Rattle.definitions.specs.Editor.{sources};
 ghost use Rattle.editor.specs.Shows.{Holds, ShowsText};
-ghost use Rattle.spans.specs.Spans.{throughOf, Finds, SourceAt, Stands, LiveAt, CountedTo, ReadsFrom, ReadsNext};
+ghost use Rattle.spans.specs.Spans.{throughOf, Finds, SourceAt, Stands, LiveAt, Until, Counts, CountedTo, ReadsFrom, ReadsNext};
 
 // Where the record of source line b starts, which stands from the current record on.
 fn source_at(j: &[u8], st: State, b: usize) -> usize
@@ -84,6 +84,22 @@ fn live_from(j: &[u8], from: usize, past: usize) -> Live
         n += 1;
         at = editor::walk::record_end(j, at);
     }
+}
+
+// How many source lines stand before the place `end`.
+pub fn past_to(j: &[u8], st: State, end: usize) -> usize
+    requires { ⌜ Until (now j) st end ⌝ }
+    ensures { λ r. ⌜ Counts end (now (j .entry)) st r ⌝ }
+{
+    let mut at = st.back;
+    let mut n = st.past;
+    while at < end {
+        if j[at] != 43 {
+            n += 1;
+        }
+        at = editor::walk::record_end(j, at);
+    }
+    n
 }
 
 // The next live line after the records up to the place `end`, before which `past` source lines stand, is found and read.

@@ -1,6 +1,7 @@
 // The commands over several lines of the journal buffer.
 use editor::State;
 
+pub mod ahead;
 pub mod deleting;
 pub mod finding;
 pub mod striking;

@@ -8,18 +8,18 @@ use Rattle.definitions.specs.Search.{Search}
 use Rattle.definitions.specs.StepProgram.{state}
 use Rattle.definitions.specs.Edit.{test, step}
 use Rattle.control.specs.declared.Wanted.{Wanted}
-use Rattle.control.specs.Shown.{SearchOf, Asks}
+use Rattle.control.specs.Shown.{SearchOf}
 use Rattle.editor.specs.declared.State.{State}
 use Rattle.editor.specs.Shows.{lent}
 use Rattle.seeks.specs.declared.Looked.{Looked}
 use Rattle.seeks.specs.Looks.{LooksAs, LooksFor, testOf}
-use Rattle.steps.specs.Steps.{askTest, LooksAsked}
+use Rattle.steps.specs.Steps.{askTest, LooksAsked, AsksSome}
 use Rattle.steps.proofs.Views.{asks-test}
 
 pub as-test : (s w : List ℕ) (x : Wanted) (table j k : List ℕ) (st : State) (r : Looked) (m : ℕ) → m ≡ getD w (x .item + 1) 0 → (v : Bool) → x .what ≡ askTest v
-    → LooksFor s w (x .item + 2) m table j st (λ se. test (testOf v se)) k r → LooksAsked (Asks s w x) table j st k r
+    → LooksFor s w (x .item + 2) m table j st (λ se. test (testOf v se)) k r → LooksAsked (AsksSome s w x) table j st k r
 unfolding SearchOf
-as-test s w x table j k st r m q v what f op e c t a h = by (asks-test s w x op a v what)
+as-test s w x table j k st r m q v what f op e c t (end, a) h = by (asks-test s w end x op a v what)
   where
     by : (se : Search) × SearchOf s w (x .item) se × (op ≡ test (testOf v se)) → LooksAs k r (step (lent j) op (state e c) t)
     by (se, en, o) = rw o (f se e c t (rw q en) h)

@@ -31,7 +31,7 @@ module _ (s w : List ℕ) (item : ℕ) (h : (se : Search) × SearchOf s w item s
   unfolding SearchOf
   search-words m q = (h .0, rw q (h .1))
 
-module _ (s w : List ℕ) (x : Wanted) where
+module _ (s w : List ℕ) (end : ℕ) (x : Wanted) where
   -- the operation, and what stands in the words
   abbrev pub Means : Ask → Op → Type 0
   Means Round op = op ≡ onlyStep
@@ -43,9 +43,9 @@ module _ (s w : List ℕ) (x : Wanted) where
   Means Find op = (se : Search) × SearchOf s w (x .item) se × (op ≡ find se)
   Means FindBack op = (se : Search) × SearchOf s w (x .item) se × (op ≡ findBack se)
   Means FindDelete op = (se : Search) × SearchOf s w (x .item) se × (op ≡ findDelete se (x .lines))
-  Means Command op = (m : ℕ) × OpAt s w (x .item) m (x .place) op × (m ≤ length w)
+  Means Command op = (m : ℕ) × OpAt s w (x .item) m (x .place) op × (m ≤ end)
 
-  means : (op : Op) → Asks s w x op → Means (x .what) op
+  means : (op : Op) → Asks s w end x op → Means (x .what) op
   means _ (a-round n) = rw n refl
   means _ (holds se n h) = rw n (se, h, refl)
   means _ (holds-not se n h) = rw n (se, h, refl)
@@ -57,7 +57,7 @@ module _ (s w : List ℕ) (x : Wanted) where
   means _ (deletes se k n q h) = rw (n, q) (se, h, refl)
   means _ (simply op m n h i) = rw n (m, h, i)
 
-  module _ (op : Op) (a : Asks s w x op) where
+  module _ (op : Op) (a : Asks s w end x op) where
     pub asks-as : (k : Ask) → x .what ≡ k → Means k op
     asks-as k q = rw q at (means op a)
 
@@ -73,5 +73,6 @@ module _ (s w : List ℕ) (x : Wanted) where
     asks-look Deleting q = asks-as FindDelete q
 
 -- the answer, where it is known what is asked
-pub as-asked : (s w : List ℕ) (x : Wanted) (table j k : List ℕ) (st : State) (left : ℕ) (r : Sought) (ask : Ask) → x .what ≡ ask → Made s w x table j st left k r ask → AnswersStep s w x table j st left k r
-as-asked s w x table j k st left r ask q f = subst (λ (a : Ask). Made s w x table j st left k r a) (sym q) f
+pub as-asked : (s w : List ℕ) (x : Wanted) (table j w′ k : List ℕ) (st : State) (left : ℕ) (r : Sought) (ask : Ask) → x .what ≡ ask → Made s w x table j st left w′ k r ask
+    → AnswersStep s w x table j st left w′ k r
+as-asked s w x table j w′ k st left r ask q f = subst (λ (a : Ask). Made s w x table j st left w′ k r a) (sym q) f

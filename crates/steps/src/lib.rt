@@ -2,13 +2,15 @@
 ghost use mathlib.Core.Path.{_≡_};
 ghost use Prim.Native.Nat.{_+_, _≤_, _<_};
 ghost use lib.ListN.{length, getD};
-ghost use Rattle.control.specs.Shown.{Asks};
-ghost use Rattle.items.specs.Simple.{CommandAt};
-ghost use Rattle.steps.specs.Steps.{askTest, askLook, Asking, LooksAsked, Wanting, AnswersStep};
+ghost use Rattle.globals.specs.Standing.{OnlyGlobals};
+ghost use Rattle.steps.specs.Steps.{askTest, askLook, Asking, LooksAsked, AsksSome, Commanding, Commanded, Wanting, AnswersStep};
 use control::Ask;
 use control::Wanted;
 use editor::Moved;
 use editor::State;
+use items::heads::is_global;
+use items::heads::kind_of;
+use items::kinds::CANCEL;
 use seeks::Looked;
 use seeks::Sought;
 use seeks::Way;
@@ -38,8 +40,8 @@ fn test<'a>(
     st: State,
     holds: bool,
 ) -> Looked
-    requires { ⌜ Asking (Asks (now script) (now w) x) (now table) (now j) st × (x .what ≡ askTest holds) ⌝ }
-    ensures { λ r. ⌜ LooksAsked (Asks (now (script .entry)) (now (w .entry)) x) (now (table .entry)) (now (j .entry)) st (now (j .entry)) r ⌝ }
+    requires { ⌜ Asking (AsksSome (now script) (now w) x) (now table) (now j) st × (x .what ≡ askTest holds) ⌝ }
+    ensures { λ r. ⌜ LooksAsked (AsksSome (now (script .entry)) (now (w .entry)) x) (now (table .entry)) (now (j .entry)) st (now (j .entry)) r ⌝ }
 {
     let item = x.item;
     let k = item + 2;
@@ -59,7 +61,7 @@ fn search(
     left: usize,
 ) -> Sought
     requires { ⌜ Wanting (now script) (now w) x (now table) (now j) st × (x .what ≡ askLook way) × (1 ≤ left) × (x .lines + left ≤ 18446744073709551615) ⌝ }
-    ensures { λ r. ⌜ AnswersStep (now (script .entry)) (now (w .entry)) x (now (table .entry)) (now (j .entry)) st left (now (j .exit)) r ⌝ }
+    ensures { λ r. ⌜ AnswersStep (now (script .entry)) (now (w .entry)) x (now (table .entry)) (now (j .entry)) st left (now (w .entry)) (now (j .exit)) r ⌝ }
 {
     let item = x.item;
     let k = item + 2;
@@ -75,12 +77,31 @@ fn search(
     }
 }
 
-// A simple command.
-fn command(script: &[u8], table: &[u8], w: &[u32], x: Wanted, j: &mut [u8], st: State) -> Looked
-    requires { ⌜ Asking (CommandAt (now script) (now w) (x .item)) (now table) (now j) st ⌝ }
-    ensures { λ r. ⌜ LooksAsked (CommandAt (now (script .entry)) (now (w .entry)) (x .item)) (now (table .entry)) (now (j .entry)) st (now (j .exit)) r ⌝ }
+// A simple command. GE, GA, GB and CG change the globals that stand, and nothing else; a seventeenth stops with 31.
+fn command(
+    script: &[u8],
+    table: &[u8],
+    w: &mut [u32],
+    item: usize,
+    j: &mut [u8],
+    st: State,
+) -> Looked
+    requires { ⌜ Commanding (now script) (now w) item (now table) (now j) st ⌝ }
+    ensures { λ r. ⌜ Commanded (now (script .entry)) (now (w .entry)) item (now (table .entry)) (now (j .entry)) st (now (w .exit)) (now (j .exit)) r ⌝ }
+    ensures { λ r. ⌜ OnlyGlobals (now (w .entry)) (now (w .exit)) ⌝ }
 {
-    let r = commands::perform(script, table, w, x.item, j, st);
+    let kind = kind_of(w, item);
+    if is_global(kind) {
+        if globals::keep(w, item) {
+            return Looked::Yes(st);
+        }
+        return Looked::Stop(31, st);
+    }
+    if kind == CANCEL {
+        globals::forget(w);
+        return Looked::Yes(st);
+    }
+    let r = commands::perform(script, table, w, item, j, st);
     match r {
         Moved::On(s) => Looked::Yes(s),
         Moved::Stop(n, s) => Looked::Stop(n, s),
@@ -91,14 +112,15 @@ fn command(script: &[u8], table: &[u8], w: &[u32], x: Wanted, j: &mut [u8], st: 
 pub fn answer_step(
     script: &[u8],
     table: &[u8],
-    w: &[u32],
+    w: &mut [u32],
     x: Wanted,
     j: &mut [u8],
     st: State,
     left: usize,
 ) -> Sought
     requires { ⌜ Wanting (now script) (now w) x (now table) (now j) st × (1 ≤ left) × (x .lines + left ≤ 18446744073709551615) ⌝ }
-    ensures { λ r. ⌜ AnswersStep (now (script .entry)) (now (w .entry)) x (now (table .entry)) (now (j .entry)) st left (now (j .exit)) r ⌝ }
+    ensures { λ r. ⌜ AnswersStep (now (script .entry)) (now (w .entry)) x (now (table .entry)) (now (j .entry)) st left (now (w .exit)) (now (j .exit)) r ⌝ }
+    ensures { λ r. ⌜ OnlyGlobals (now (w .entry)) (now (w .exit)) ⌝ }
 {
     let what = x.what;
     match what {
@@ -111,6 +133,6 @@ pub fn answer_step(
         Ask::Find => search(script, table, w, x, j, st, Way::Forward, left),
         Ask::FindBack => search(script, table, w, x, j, st, Way::Backward, left),
         Ask::FindDelete => search(script, table, w, x, j, st, Way::Deleting, left),
-        Ask::Command => once(command(script, table, w, x, j, st)),
+        Ask::Command => once(command(script, table, w, x.item, j, st)),
     }
 }

@@ -4,3 +4,4 @@ pub mod Opening
 pub mod Quoting
 pub mod Lines
 pub mod Callers
+pub mod Unqualified

@@ -89,7 +89,7 @@ module _ (s : List ℕ) (start end d next : ℕ) (passed : advance (length (stri
       by (inl e) (inl is) = absurd (false≢true (sym (passes s end d is (rw (← e) at closed)) ∙ rw (← is, next-at s end, e) digit))
 
 -- a string that is as long as a line at most
-short : (s : List ℕ) (start end d : ℕ) → stringNext d (cursorAt s start) ≡ part start end s → end ≤ length s → Short s → end ≤ start + 255
+pub short : (s : List ℕ) (start end d : ℕ) → stringNext d (cursorAt s start) ≡ part start end s → end ≤ length s → Short s → end ≤ start + 255
 short s start end d e h lines = omega (arith, lines d start, ap length e ∙ part-length s start end h)
 
 -- `from` is where the qualifiers begin, `at` where the opening delimiter stands

@@ -6,10 +6,10 @@ use mathlib.Core.Option.{Option}
 use Prim.Native.Nat.{ℕ, suc, _+_, _≤_, _<_}
 use lib.Dec.{leb}
 use lib.ListN.{length, getD}
-use Rattle.definitions.specs.Bytes.{isDigit}
+use Rattle.definitions.specs.Bytes.{Line, isDigit}
 use Rattle.definitions.specs.Matching.{Qualifiers, Qualified, qualified}
-use Rattle.definitions.specs.Reader.{Cursor, Got, got, refused, andThen, placeAt, nextByte, afterByte, expect, skipSpaces, number, stringNext}
-use Rattle.definitions.specs.Strings.{added, setColumns, qualifierByte, readQualifier, startQualifiers, qualifiedString, Pair, pair, twoStrings}
+use Rattle.definitions.specs.Reader.{Cursor, Got, got, refused, andThen, placeAt, nextByte, afterByte, expect, skipSpaces, number, stringNext, quoted}
+use Rattle.definitions.specs.Strings.{noQualifiers, added, setColumns, qualifierByte, readQualifier, startQualifiers, qualifiedString, Pair, pair, twoStrings, twoPlainStrings}
 use Rattle.text.specs.Lines.{part}
 use Rattle.matching.specs.declared.Quals.{Quals}
 use Rattle.matching.specs.Quals.{qualifiersOf}
@@ -144,3 +144,17 @@ Paired s at y x z = StringsOr (PairedAt s at y x z) (Refuses z)
 -- a qualified string and a second string were read at `at`
 abbrev pub PairRead : List ℕ → ℕ → Answer → Type 0
 PairRead s at = Paired s at (startQualifiers false (cursorAt s at)) (qualifiedString false (cursorAt s at)) (twoStrings (cursorAt s at))
+
+-- Two unqualified strings, for which no qualifiers are answered: x is the reading of the first, which starts after its opening delimiter, and z that of
+-- both (document 02, wish 2; W2.1).
+pub record PlainAt (s : List ℕ) (at : ℕ) (x : Got Line) (z : Got (Line × Line)) (q : Quals) (start end second secondEnd next : ℕ) : Type 0 where
+  pub unqualified : qualifiersOf q ≡ noQualifiers
+  pub starts : start ≡ suc (placeAt (skipSpaces (cursorAt s at)))
+  pub first : x ≡ got (part start end s) (cursorAt s second)
+  pub both : z ≡ got (part start end s, part second secondEnd s) (cursorAt s next)
+  pub stand : PairAt s at q start end second secondEnd next
+
+-- they were read at `at`
+abbrev pub PlainRead : List ℕ → ℕ → Answer → Type 0
+PlainRead s at =
+    StringsOr (PlainAt s at (quoted (skipSpaces (cursorAt s at))) (twoPlainStrings (cursorAt s at))) (Refuses (twoPlainStrings (cursorAt s at)))

@@ -4,9 +4,12 @@ mod letters; // letters.rt: which qualifiers may stand together
 mod qualifiers; // qualifiers.rt: the qualifiers of a string
 
 use answers::Answer;
+use lexer::spaces::skip_spaces;
 use lexer::strings::past_delimiter;
+use lexer::strings::quoted;
 use lexer::strings::string_end;
 use matching::Quals;
+use qualifiers::no_qualifiers;
 use qualifiers::read_qualifiers;
 ghost use mathlib.Core.Path.{_≡_};
 ghost use Prim.Native.Nat.{ℕ, _≤_};
@@ -16,7 +19,7 @@ ghost use Rattle.definitions.specs.Reader.{Got, andThen};
 ghost use Rattle.definitions.specs.Strings.{wantsBytes, readString, startQualifiers, qualifiedString, secondString};
 ghost use Rattle.matching.specs.Quals.{qualifiersOf};
 ghost use Rattle.lexer.specs.Places.{cursorAt};
-ghost use Rattle.strings.specs.Answers.{OpenAt, Quoted, Paired, PairRead};
+ghost use Rattle.strings.specs.Answers.{OpenAt, Quoted, Paired, PairRead, PlainRead};
 
 // The qualifiers with one more; or that it cannot stand with them, or that there is none such.
 pub enum Added {
@@ -104,4 +107,26 @@ pub fn two_strings(s: &[u8], at: usize) -> Answer
         return quals;
     };
     with_second(s, read_string(s, open, q), s[open])
+}
+
+// Two strings without qualifiers at the place; the first has a byte at least.
+pub fn two_plain_strings(s: &[u8], at: usize) -> Answer
+    requires { ⌜ at ≤ length (now s) ⌝ }
+    ensures { λ r. ⌜ PlainRead (now (s .entry)) at r ⌝ }
+{
+    let open = skip_spaces(s, at);
+    let string = quoted(s, open);
+    let Answer::Two(start, end, next) = string else {
+        return string;
+    };
+    if start == end {
+        return Answer::Refused(4, open);
+    }
+    let first = Answer::OneString {
+        quals: no_qualifiers(),
+        start,
+        end,
+        next,
+    };
+    with_second(s, first, s[open])
 }

@@ -115,7 +115,7 @@ fn read_qualifier(s: &[u8], at: usize, q: Quals, in_search: bool) -> Answer
     added_at(add_letter(q, upper(b), in_search), at, at + 1)
 }
 
-fn no_qualifiers() -> Quals
+pub fn no_qualifiers() -> Quals
     ensures { λ r. ⌜ (qualifiersOf r ≡ noQualifiers) × Small r × (r .from ≡ 0) ⌝ }
 {
     Quals {

@@ -8,8 +8,8 @@ use Prim.Native.Nat.{ℕ, _+_}
 use native.Mathlib.Omega.{arith}
 use lib.ListN.{length, length-append}
 use lib.Dec.{eqb, leb}
-use borrow.Author.Tests.{eq-eqb, ne-eqb, eqb-true, leb-true}
-use Rattle.definitions.specs.Bytes.{Line, eqLine, isText, linesOf, before, lastByte, allText, isLine, allLines, areLines, lineBytes, linesBytes}
+use borrow.Author.Tests.{ne-eqb, eqb-true}
+use Rattle.definitions.specs.Bytes.{Line, isText, linesOf, before, lastByte, allText, isLine, allLines, areLines, lineBytes, linesBytes}
 use Rattle.theorems.specs.Lines.{text-not-lf, lines-other}
 use Rattle.text.specs.Lines.{upToLF, cutAt}
 
@@ -148,21 +148,3 @@ lines-back (b ∷ c ∷ bs) h = go (eqb b 10) refl (lines-back (c ∷ bs) h)
     go : (t : Bool) → eqb b 10 ≡ t → linesBytes (linesOf (c ∷ bs)) ≡ c ∷ bs → linesBytes (linesOf (b ∷ c ∷ bs)) ≡ b ∷ c ∷ bs
     go true e k = let f : b ≡ 10 = eqb-true b 10 e in rw f (ap (λ (r : List ℕ). 10 ∷ r) k)
     go false e k = ap linesBytes (lines-other b (c ∷ bs) e) ∙ ahead b c bs (linesOf (c ∷ bs)) k
-
--- ---- equal lines
-
-pub equal-itself : (l : Line) → eqLine l l ≡ true
-unfolding eqLine
-equal-itself [] = refl
-equal-itself (x ∷ l) = rw (eq-eqb x x refl, equal-itself l)
-
-pub equal-is : (a b : Line) → eqLine a b ≡ true → a ≡ b
-unfolding eqLine
-equal-is [] [] h = refl
-equal-is [] (y ∷ b) h = absurd (let z : _≡_ {A = ℕ} 0 1 = cc in omega arith)
-equal-is (x ∷ a) [] h = absurd (let z : _≡_ {A = ℕ} 0 1 = cc in omega arith)
-equal-is (x ∷ a) (y ∷ b) h =
-    let t = and-true (eqb x y) (eqLine a b) h in
-    let p : x ≡ y = eqb-true x y (t .0) in
-    let q : a ≡ b = equal-is a b (t .1) in
-    cc

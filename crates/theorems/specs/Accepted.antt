@@ -2,17 +2,20 @@
 use mathlib.Core.Path.{_≡_, refl, ap, _∙_}
 use mathlib.Core.Bool.{Bool, true, false, cond}
 use mathlib.Core.List.{List}
-use Prim.Native.Nat.{ℕ, _≤_}
+use Prim.Native.Nat.{ℕ, zero, suc, _≤_}
+use lib.ListN.{length}
 use lib.Dec.{leb}
 use borrow.Author.Tests.{leb-true, le-leb}
 use Rattle.definitions.specs.Bytes.{linesOf}
 use Rattle.definitions.specs.Table.{isTable, isScript}
 use Rattle.definitions.specs.Tape.{Tape}
-use Rattle.definitions.specs.Given.{given, bytes}
-use Rattle.definitions.specs.Edit.{step}
+use Rattle.definitions.specs.Given.{Given, given, bytes}
+use Rattle.definitions.specs.Editor.{Ed, eof}
+use Rattle.definitions.specs.Reading.{Ran, gave, stopped, readTo}
+use Rattle.definitions.specs.StepProgram.{state}
 use Rattle.definitions.specs.Control.{Item}
 use Rattle.definitions.specs.Script.{Script, items, refusedAt, readScript}
-use Rattle.definitions.specs.Run.{End, end, Answer, refusal, answerOf, ranItems, openingLength, workLength, ranTable, ranScript, runAnswer}
+use Rattle.definitions.specs.Run.{End, end, Answer, refusal, restPassed, answerOf, ranItems, openingLength, workLength, ranTable, ranScript, runAnswer}
 use Rattle.theorems.specs.Demand3.{IsTableAccepted, IsAccepted}
 
 -- what is not refused is no refusal
@@ -26,32 +29,32 @@ unfolding IsAccepted
 cond-passed true a n at h = refl
 cond-passed false a n at h = absurd h
 
-ran-table : (table : List ℕ) (budget size : ℕ) (is : List Item) → IsAccepted (ranTable table budget size is) → ranTable table budget size is ≡ ranItems (step (given (bytes size))) budget is (linesOf table)
+ran-table : (table script : List ℕ) (budget size : ℕ) (is : List Item) → IsAccepted (ranTable table (length script) budget size is) → ranTable table (length script) budget size is ≡ ranItems (given (bytes size)) (length script) budget is (linesOf table)
 unfolding ranTable
-ran-table table budget size is h = cond-accepted (leb (openingLength (linesOf table)) size) (ranItems (step (given (bytes size))) budget is (linesOf table)) 9 0 h
+ran-table table script budget size is h = cond-accepted (leb (openingLength (linesOf table)) size) (ranItems (given (bytes size)) (length script) budget is (linesOf table)) 9 0 h
 
-ran-script : (table : List ℕ) (budget size : ℕ) (is : List Item) → IsAccepted (ranScript table budget size (items is))
-    → ranScript table budget size (items is) ≡ ranItems (step (given (bytes size))) budget is (linesOf table)
+ran-script : (table script : List ℕ) (budget size : ℕ) (is : List Item) → IsAccepted (ranScript table (length script) budget size (items is))
+    → ranScript table (length script) budget size (items is) ≡ ranItems (given (bytes size)) (length script) budget is (linesOf table)
 unfolding ranScript
-ran-script table budget size is h =
-    let e : cond (isTable table) (ranTable table budget size is) (refusal 7 0) ≡ ranTable table budget size is = cond-accepted (isTable table) (ranTable table budget size is) 7 0 h in
-    e ∙ ran-table table budget size is (rw e at h)
+ran-script table script budget size is h =
+    let e : cond (isTable table) (ranTable table (length script) budget size is) (refusal 7 0) ≡ ranTable table (length script) budget size is = cond-accepted (isTable table) (ranTable table (length script) budget size is) 7 0 h in
+    e ∙ ran-table table script budget size is (rw e at h)
 
 ran-answer : (table script : List ℕ) (budget work size : ℕ) → IsAccepted (runAnswer table script budget work size)
-    → runAnswer table script budget work size ≡ ranScript table budget size (readScript script)
+    → runAnswer table script budget work size ≡ ranScript table (length script) budget size (readScript script)
 unfolding runAnswer
 ran-answer table script budget work size h =
-    let a : Answer = ranScript table budget size (readScript script) in
+    let a : Answer = ranScript table (length script) budget size (readScript script) in
     let b : Answer = cond (leb (workLength script) work) a (refusal 8 0) in
     let e : cond (isScript script) b (refusal 1 0) ≡ b = cond-accepted (isScript script) b 1 0 h in
     e ∙ cond-accepted (leb (workLength script) work) a 8 0 (rw e at h)
 
 -- the answer of an accepted run is that of the script's items
 pub ran-accepted : (table script : List ℕ) (budget work size : ℕ) (is : List Item) → readScript script ≡ items is
-    → IsAccepted (runAnswer table script budget work size) → runAnswer table script budget work size ≡ ranItems (step (given (bytes size))) budget is (linesOf table)
+    → IsAccepted (runAnswer table script budget work size) → runAnswer table script budget work size ≡ ranItems (given (bytes size)) (length script) budget is (linesOf table)
 ran-accepted table script budget work size is e h =
-    let q : runAnswer table script budget work size ≡ ranScript table budget size (items is) = ran-answer table script budget work size h ∙ ap (ranScript table budget size) e in
-    q ∙ ran-script table budget size is (rw q at h)
+    let q : runAnswer table script budget work size ≡ ranScript table (length script) budget size (items is) = ran-answer table script budget work size h ∙ ap (ranScript table (length script) budget size) e in
+    q ∙ ran-script table script budget size is (rw q at h)
 
 -- the script of an accepted run has items
 pub no-refusal : (table script : List ℕ) (budget work size n at : ℕ) → readScript script ≡ refusedAt n at → IsAccepted (runAnswer table script budget work size) → ⊥
@@ -60,29 +63,29 @@ no-refusal table script budget work size n at e h = rw (ran-answer table script 
 
 -- the script's items are read; then come the table's test and the buffer's
 of-script : (table script : List ℕ) (budget work size : ℕ) (is : List Item) → readScript script ≡ items is
-    → IsAccepted (runAnswer table script budget work size) → IsAccepted (cond (isTable table) (ranTable table budget size is) (refusal 7 0))
+    → IsAccepted (runAnswer table script budget work size) → IsAccepted (cond (isTable table) (ranTable table (length script) budget size is) (refusal 7 0))
 unfolding ranScript
-of-script table script budget work size is e h = rw (ran-answer table script budget work size h ∙ ap (ranScript table budget size) e) at h
+of-script table script budget work size is e h = rw (ran-answer table script budget work size h ∙ ap (ranScript table (length script) budget size) e) at h
 
 -- its table is one
 pub is-table : (table script : List ℕ) (budget work size : ℕ) (is : List Item) → readScript script ≡ items is
     → IsAccepted (runAnswer table script budget work size) → isTable table ≡ true
-is-table table script budget work size is e h = cond-passed (isTable table) (ranTable table budget size is) 7 0 (of-script table script budget work size is e h)
+is-table table script budget work size is e h = cond-passed (isTable table) (ranTable table (length script) budget size is) 7 0 (of-script table script budget work size is e h)
 
 -- its journal buffer has room for the opening journal
 pub has-room : (table script : List ℕ) (budget work size : ℕ) (is : List Item) → readScript script ≡ items is
     → IsAccepted (runAnswer table script budget work size) → openingLength (linesOf table) ≤ size
 unfolding ranTable
 has-room table script budget work size is e h =
-    let h₁ : IsAccepted (cond (isTable table) (ranTable table budget size is) (refusal 7 0)) = of-script table script budget work size is e h in
-    let h₂ : IsAccepted (ranTable table budget size is) = rw (cond-accepted (isTable table) (ranTable table budget size is) 7 0 h₁) at h₁ in
-    leb-true (openingLength (linesOf table)) size (cond-passed (leb (openingLength (linesOf table)) size) (ranItems (step (given (bytes size))) budget is (linesOf table)) 9 0 h₂)
+    let h₁ : IsAccepted (cond (isTable table) (ranTable table (length script) budget size is) (refusal 7 0)) = of-script table script budget work size is e h in
+    let h₂ : IsAccepted (ranTable table (length script) budget size is) = rw (cond-accepted (isTable table) (ranTable table (length script) budget size is) 7 0 h₁) at h₁ in
+    leb-true (openingLength (linesOf table)) size (cond-passed (leb (openingLength (linesOf table)) size) (ranItems (given (bytes size)) (length script) budget is (linesOf table)) 9 0 h₂)
 
 -- the work area is long enough
 has-work : (table script : List ℕ) (budget work size : ℕ) → IsAccepted (runAnswer table script budget work size) → (isScript script ≡ true) × (workLength script ≤ work)
 unfolding runAnswer
 has-work table script budget work size h =
-    let a : Answer = ranScript table budget size (readScript script) in
+    let a : Answer = ranScript table (length script) budget size (readScript script) in
     let b : Answer = cond (leb (workLength script) work) a (refusal 8 0) in
     let e : cond (isScript script) b (refusal 1 0) ≡ b = cond-accepted (isScript script) b 1 0 h in
     (cond-passed (isScript script) b 1 0 h, leb-true (workLength script) work (cond-passed (leb (workLength script) work) a 8 0 (rw e at h)))
@@ -107,15 +110,21 @@ accepted-asks table script budget work size h = by (readScript script) refl
       room = has-room table script budget work size is e h;
     }
 
-answer-accepted : (x : End) (t : Tape) → IsAccepted (answerOf x t)
-unfolding IsAccepted answerOf
-answer-accepted (end n steps at s) t = tt
+rest-accepted : (steps place : ℕ) (e : Ed) (t : Tape) (r : Ran (Unit {0})) → IsAccepted (restPassed steps place e t r)
+unfolding IsAccepted restPassed
+rest-accepted steps place e t (gave u all) = tt
+rest-accepted steps place e t (stopped n e′) = tt
+
+answer-accepted : (g : Given) (place : ℕ) (x : End) (t : Tape) → IsAccepted (answerOf g place x t)
+unfolding answerOf
+answer-accepted g place (end zero steps at (state e c)) t = rest-accepted steps place e t ((readTo g c eof e t) .0)
+answer-accepted g place (end (suc n) steps at s) t = unfold IsAccepted in tt
 
 asked-script : (table script : List ℕ) (budget work size : ℕ) (is : List Item) → isScript script ≡ true → readScript script ≡ items is → Asked table script work size
     → IsAccepted (runAnswer table script budget work size)
 unfolding runAnswer ranScript ranTable ranItems
 asked-script table script budget work size is form e a =
-    rw (form, le-leb (workLength script) work (a .area), e, a .accepted, le-leb (openingLength (linesOf table)) size (a .room)) (answer-accepted _ _)
+    rw (form, le-leb (workLength script) work (a .area), e, a .accepted, le-leb (openingLength (linesOf table)) size (a .room)) (answer-accepted _ _ _ _)
 
 -- nothing more is asked: a script that one run takes is taken with every accepted table
 pub asked-accepted : (table script : List ℕ) (budget work size : ℕ) → IsAccepted (runAnswer table script budget work size)

@@ -6,20 +6,21 @@ use mathlib.Core.List.{List, []}
 use Prim.Native.Nat.{ℕ, zero, suc, _+_, _≤_}
 use native.Mathlib.Omega.{arith}
 use native.Mathlib.Nat.{add-zero, add-suc}
+use lib.ListN.{length}
 use lib.Dec.{leb}
 use Rattle.definitions.specs.Bytes.{Line, linesOf}
 use Rattle.definitions.specs.Table.{isTable, isScript}
 use Rattle.definitions.specs.Tape.{Tape, unread, Reads, bind}
-use Rattle.definitions.specs.Given.{given, bytes, carried}
-use Rattle.definitions.specs.Editor.{Ed}
-use Rattle.definitions.specs.Reading.{opening}
+use Rattle.definitions.specs.Given.{Given, given, bytes, noGlobals}
+use Rattle.definitions.specs.Editor.{Ed, stopNumber, eof}
+use Rattle.definitions.specs.Reading.{Ran, gave, stopped, readTo, opening}
 use Rattle.definitions.specs.StepProgram.{RunState, state, Out, on, edited, halt}
 use Rattle.definitions.specs.Edit.{Op, step}
 use Rattle.definitions.specs.Control.{Item, Ctl, running, Pull, finished, want, lost, pull}
 use Rattle.definitions.specs.Script.{Script, items, refusedAt, readScript}
-use Rattle.definitions.specs.Run.{End, end, choose, spent, stepped, stepping, run, runItems, Answer, refusal, answerOf, ranItems, openingLength, workLength}
+use Rattle.definitions.specs.Run.{End, end, choose, spent, stepped, stepping, run, runItems, Answer, refusal, restPassed, answerOf, ranItems, openingLength, workLength}
 use Rattle.definitions.specs.Run.{ranTable, ranScript, runAnswer, answerNumber, answerSteps}
-use Rattle.theorems.specs.Numbers.{StepNumber, StepNumbered, step-number}
+use Rattle.theorems.specs.Numbers.{StepNumber, StepNumbered, stop-number, step-number}
 use Rattle.theorems.specs.Demand3.{IsAccepted}
 use Rattle.theorems.specs.Accepted.{ran-accepted, no-refusal}
 
@@ -29,13 +30,38 @@ endNumber (end n steps at s) = n
 unfoldable endSteps : End → ℕ
 endSteps (end n steps at s) = steps
 
-answer-number : (x : End) (t : Tape) → answerNumber (answerOf x t) ≡ endNumber x
-unfolding answerNumber answerOf endNumber
-answer-number (end n steps at s) t = refl
+-- a stop's number is not 29
+not-29 : (n : ℕ) → StepNumber n → n ≡ 29 → ⊥
+not-29 n (inl q) e = omega (arith, q, e)
+not-29 n (inr h) e = h .2 e
 
-answer-steps : (x : End) (t : Tape) → answerSteps (answerOf x t) ≡ endSteps x
-unfolding answerSteps answerOf endSteps
-answer-steps (end n steps at s) t = refl
+-- nor does a done run come to it among its unread lines, and it makes no steps there (W2.11)
+rest-29 : (steps place : ℕ) (e : Ed) (t : Tape) (r : Ran (Unit {0})) → answerNumber (restPassed steps place e t r) ≡ 29 → ⊥
+unfolding restPassed answerNumber
+rest-29 steps place e t (gave u all) q = omega (arith, q)
+rest-29 steps place e t (stopped n e′) q = not-29 (stopNumber n) (stop-number n) q
+
+rest-steps : (steps place : ℕ) (e : Ed) (t : Tape) (r : Ran (Unit {0})) → answerSteps (restPassed steps place e t r) ≡ steps
+unfolding restPassed answerSteps
+rest-steps steps place e t (gave u all) = refl
+rest-steps steps place e t (stopped n e′) = refl
+
+-- an answer has 29 where the run's end has
+module _ (g : Given) (place : ℕ) where
+  end-29 : (x : End) (t : Tape) → endNumber x ≡ 29 → answerNumber (answerOf g place x t) ≡ 29
+  unfolding answerNumber answerOf endNumber
+  end-29 (end zero steps at (state e c)) t q = absurd (omega (arith, q))
+  end-29 (end (suc n) steps at s) t q = q
+
+  answer-29 : (x : End) (t : Tape) → answerNumber (answerOf g place x t) ≡ 29 → endNumber x ≡ 29
+  unfolding answerNumber answerOf endNumber
+  answer-29 (end zero steps at (state e c)) t q = absurd (rest-29 steps place e t ((readTo g c eof e t) .0) (unfold answerNumber in q))
+  answer-29 (end (suc n) steps at s) t q = q
+
+  answer-steps : (x : End) (t : Tape) → answerSteps (answerOf g place x t) ≡ endSteps x
+  unfolding answerSteps answerOf endSteps
+  answer-steps (end zero steps at (state e c)) t = unfold answerSteps in (rest-steps steps place e t ((readTo g c eof e t) .0))
+  answer-steps (end (suc n) steps at s) t = refl
 
 -- ---- larger budgets
 
@@ -73,29 +99,29 @@ run-settled take-step (suc budget) steps c s t =
 abbrev SameUnless29 : Answer → Answer → Type 0
 SameUnless29 a b = (answerNumber a ≡ 29 → ⊥) → b ≡ a
 
-items-settled : (take-step : Op → RunState → Reads Out) (budget : ℕ) (is : List Item) (ls : List Line) → SameUnless29 (ranItems take-step budget is ls) (ranItems take-step (suc budget) is ls)
+items-settled : (g : Given) (place budget : ℕ) (is : List Item) (ls : List Line) → SameUnless29 (ranItems g place budget is ls) (ranItems g place (suc budget) is ls)
 unfolding ranItems runItems bind
-items-settled take-step budget is ls h =
+items-settled g place budget is ls h =
     let o : Ed × Tape = opening (unread ls) in
-    let x : End × Tape = run take-step budget 0 (running is []) (state (o .0) carried) (o .1) in
-    ap (λ (y : End × Tape). answerOf (y .0) (y .1)) (run-settled take-step budget 0 (running is []) (state (o .0) carried) (o .1) (λ q. h (answer-number (x .0) (x .1) ∙ q)))
+    let x : End × Tape = run (step g) budget 0 (running is []) (state (o .0) noGlobals) (o .1) in
+    ap (λ (y : End × Tape). answerOf g place (y .0) (y .1)) (run-settled (step g) budget 0 (running is []) (state (o .0) noGlobals) (o .1) (λ q. h (end-29 g place (x .0) (x .1) q)))
 
 cond-settled : (t : Bool) (a b r : Answer) → SameUnless29 a b → SameUnless29 (cond t a r) (cond t b r)
 cond-settled true a b r h = h
 cond-settled false a b r h = λ x. refl
 
-script-settled : (table : List ℕ) (budget size : ℕ) (r : Script) → SameUnless29 (ranScript table budget size r) (ranScript table (suc budget) size r)
+script-settled : (table : List ℕ) (place budget size : ℕ) (r : Script) → SameUnless29 (ranScript table place budget size r) (ranScript table place (suc budget) size r)
 unfolding ranScript ranTable
-script-settled table budget size (refusedAt n at) = λ x. refl
-script-settled table budget size (items is) =
+script-settled table place budget size (refusedAt n at) = λ x. refl
+script-settled table place budget size (items is) =
     cond-settled (isTable table) _ _ (refusal 7 0)
-    (cond-settled (leb (openingLength (linesOf table)) size) _ _ (refusal 9 0) (items-settled (step (given (bytes size))) budget is (linesOf table)))
+    (cond-settled (leb (openingLength (linesOf table)) size) _ _ (refusal 9 0) (items-settled (given (bytes size)) place budget is (linesOf table)))
 
 answer-settled : (table script : List ℕ) (budget work size : ℕ) → SameUnless29 (runAnswer table script budget work size) (runAnswer table script (suc budget) work size)
 unfolding runAnswer
 answer-settled table script budget work size =
     cond-settled (isScript script) _ _ (refusal 1 0)
-    (cond-settled (leb (workLength script) work) _ _ (refusal 8 0) (script-settled table budget size (readScript script)))
+    (cond-settled (leb (workLength script) work) _ _ (refusal 8 0) (script-settled table (length script) budget size (readScript script)))
 
 -- a run that ends otherwise than with 29 ends the same under every larger budget
 pub larger-budget : (table script : List ℕ) (budget work size k : ℕ) → (answerNumber (runAnswer table script budget work size) ≡ 29 → ⊥)
@@ -110,11 +136,6 @@ larger-budget table script budget work size (suc k) h =
 -- at most `total` steps are made, and just as many where the run ends with 29
 abbrev InBudget : ℕ → End → Type 0
 InBudget total x = (endSteps x ≤ total) × (endNumber x ≡ 29 → endSteps x ≡ total)
-
--- a step's number is not 29
-not-29 : (n : ℕ) → StepNumber n → n ≡ 29 → ⊥
-not-29 n (inl q) e = omega (arith, q, e)
-not-29 n (inr h) e = h .2 e
 
 module _ (size total : ℕ) (go : Ctl → RunState → Reads End) (h : (c : Ctl) (s : RunState) (t : Tape) → InBudget total ((go c s t) .0)) where
   stepped-in-budget : (steps at : ℕ) (c₁ c₀ : Ctl) (o : Out) (t : Tape) → steps ≤ total → StepNumbered o t → InBudget total ((stepped go steps at c₁ c₀ o t) .0)
@@ -143,13 +164,14 @@ run-in-budget size (suc budget) steps total h c s t =
     stepping-in-budget size total (λ c′ s′. run (step (given (bytes size))) budget (suc steps) c′ s′)
     (λ c′ s′ t′. run-in-budget size budget (suc steps) total (omega (arith, h)) c′ s′ t′) steps s (pull c) t (omega (arith, h))
 
-items-in-budget : (size budget : ℕ) (is : List Item) (ls : List Line)
-    → (answerSteps (ranItems (step (given (bytes size))) budget is ls) ≤ budget) × (answerNumber (ranItems (step (given (bytes size))) budget is ls) ≡ 29 → answerSteps (ranItems (step (given (bytes size))) budget is ls) ≡ budget)
+items-in-budget : (size place budget : ℕ) (is : List Item) (ls : List Line) → let ran = ranItems (given (bytes size)) place budget is ls in
+    (answerSteps ran ≤ budget) × (answerNumber ran ≡ 29 → answerSteps ran ≡ budget)
 unfolding ranItems runItems bind
-items-in-budget size budget is ls =
+items-in-budget size place budget is ls =
     let o : Ed × Tape = opening (unread ls) in
-    let x : End × Tape = run (step (given (bytes size))) budget 0 (running is []) (state (o .0) carried) (o .1) in
-    rw (answer-number (x .0) (x .1), answer-steps (x .0) (x .1)) (run-in-budget size budget 0 budget (omega arith) (running is []) (state (o .0) carried) (o .1))
+    let x : End × Tape = run (step (given (bytes size))) budget 0 (running is []) (state (o .0) noGlobals) (o .1) in
+    let h : InBudget budget (x .0) = run-in-budget size budget 0 budget (omega arith) (running is []) (state (o .0) noGlobals) (o .1) in
+    rw (answer-steps (given (bytes size)) place (x .0) (x .1)) ((h .0, λ q. h .1 (answer-29 (given (bytes size)) place (x .0) (x .1) q)))
 
 -- an accepted run makes at most as many steps as its budget, and just as many where it is stopped with 29
 pub spent-budget : (table script : List ℕ) (budget work size : ℕ) → IsAccepted (runAnswer table script budget work size)
@@ -161,4 +183,4 @@ spent-budget table script budget work size accepted = by (readScript script) ref
         → (answerSteps (runAnswer table script budget work size) ≤ budget)
         × (answerNumber (runAnswer table script budget work size) ≡ 29 → answerSteps (runAnswer table script budget work size) ≡ budget)
     by (refusedAt n at) e = absurd (no-refusal table script budget work size n at e accepted)
-    by (items is) e = rw (ran-accepted table script budget work size is e accepted) (items-in-budget size budget is (linesOf table))
+    by (items is) e = rw (ran-accepted table script budget work size is e accepted) (items-in-budget size (length script) budget is (linesOf table))

@@ -1,29 +1,34 @@
 -- The changes of which every step is made: the current place moves by one record, a record is erased, a line's text is replaced, a line is
--- inserted, a line is read. What these keep, every program program-keeps that writes what it may. No command is named here.
+-- inserted, a line is read, and passed through the standing globals. What these keep, every program keeps that writes what it may. No command is named here.
+use mathlib.Core.Path.{_≡_, refl}
+use mathlib.Core.Bool.{false}
 use mathlib.Core.List.{List, [], _∷_, _++_, reverseAux, append-nil}
 use Prim.Native.Nat.{ℕ, zero, suc, _-_}
-use Rattle.definitions.specs.Bytes.{Line}
-use Rattle.definitions.specs.Journal.{Record, kept, changed, deleted, inserted, rewrite, erase}
+use Rattle.definitions.specs.Bytes.{Line, eqLine}
+use Rattle.definitions.specs.Journal.{Record, kept, changed, deleted, inserted, change, rewrite, erase}
 use Rattle.definitions.specs.Tape.{Tape, unread, ended, bind}
-use Rattle.definitions.specs.Given.{Given, Carried}
-use Rattle.definitions.specs.Editor.{Ed, ed, records, current, Got, here, line, eof, Move, ahead, to, pointTo, land, goBack, locate, moved}
+use Rattle.definitions.specs.Given.{Given, Global, Carried, carried, noGlobals}
+use Rattle.definitions.specs.Globals.{passedThrough, leftBy}
+use Rattle.definitions.specs.Editor.{Ed, ed, records, current, Got, got, Target, here, line, eof, Move, ahead, to, pointTo, land, goBack, locate, moved}
 use Rattle.definitions.specs.Editor.{Edit, strike, strikeBack, strikeNext, put, retext, struck, struckBack, struckNext, putBefore, edit, edits}
-use Rattle.definitions.specs.Reading.{Ran, gave, stopped, seen, readLine, opening}
-use Rattle.definitions.specs.StepProgram.{Program, _>>=_, _>>_, runs, RunState, state, Did, answers, changes, quits, Out, finish, perform}
+use Rattle.definitions.specs.Reading.{Ran, gave, stopped, seen, readLine, readTo, opening}
+use Rattle.definitions.specs.StepProgram.{Program, _>>=_, _>>_, runs, RunState, state, Did, answers, changes, quits, adds, cancels, Out, oneMore, finish, perform}
 use Rattle.definitions.specs.Edit.{Op, program, step}
 use Rattle.definitions.specs.Control.{Item}
 use Rattle.definitions.specs.Run.{runItems}
 use Rattle.theorems.specs.Reading.{At}
-use Rattle.theorems.specs.Each.{Each, each-all}
-use Rattle.theorems.specs.ComesTo.{Ended, Keeping, OnGot, ComesTo, then-comes, and-comes, runs-keep, within-comes}
+use Rattle.theorems.specs.Each.{Each, each-all, each-append}
+use Rattle.theorems.specs.ComesTo.{Ended, Keeping, OnGot, ComesTo, then-comes, and-comes, to-keeps, runs-keep, within-comes, one-comes}
+use Rattle.theorems.specs.Passing.{CarriedOf, line-comes-to}
 use Rattle.theorems.specs.Runs.{Inner, AfterStep, AtEnd, ItemsOf, runItems-keeps}
 
 -- a statement on the records before the current one, nearest first, the records from it on, and the tape
 abbrev pub Statement : Type 1
 Statement = List Record → List Record → Tape → Type 0
 
--- The changes keep it: `L` are the lines that may be inserted, `R old new` the texts that may be put in place of the current line's.
-pub record Closed (L : Line → Type 0) (R : Line → Line → Type 0) (K : Statement) : Type 0 where
+-- The changes keep it: `L` are the lines that may be inserted, `R old new` the texts that may be put in place of the current line's, `G` the globals
+-- that may stand.
+pub record Closed (L : Line → Type 0) (R : Line → Line → Type 0) (G : Global → Type 0) (K : Statement) : Type 0 where
   -- to the next record and back
   pub over : (before : List Record) (r : Record) (after : List Record) (t : Tape) → K before (r ∷ after) t → K (r ∷ before) after t
   pub back : (before : List Record) (r : Record) (after : List Record) (t : Tape) → K (r ∷ before) after t → K before (r ∷ after) t
@@ -35,14 +40,17 @@ pub record Closed (L : Line → Type 0) (R : Line → Line → Type 0) (K : Stat
   -- a line is read, or EOF
   pub reads : (before after : List Record) (l : Line) (ls : List Line) → K before after (unread (l ∷ ls)) → K before (after ++ (kept l ∷ [])) (unread ls)
   pub ends : (before after : List Record) → K before after (unread []) → K before after ended
+  -- what the globals make of a line may be put in its place
+  pub passes : (gs : List Global) (l new : Line) → Each G gs → passedThrough gs l ≡ got new → R l new
 
--- the statement of a text, of a run's state, and after a step
-module _ (K : Statement) where
-  abbrev pub HoldsEd : Ed → Tape → Type 0
-  HoldsEd (ed before after p) t = K before after t
+-- the statement of a text
+abbrev pub HoldsEd : Statement → Ed → Tape → Type 0
+HoldsEd K (ed before after p) t = K before after t
 
+-- the statement of a run's state, and after a step
+module _ (G : Global → Type 0) (K : Statement) where
   abbrev pub HoldsState : RunState → Tape → Type 0
-  HoldsState (state e c) t = HoldsEd e t
+  HoldsState (state e c) t = HoldsEd K e t × CarriedOf G c
 
   abbrev pub HoldsOut : Out → Tape → Type 0
   HoldsOut o t = AfterStep HoldsState o t
@@ -62,14 +70,17 @@ module _ (L : Line → Type 0) (R : Line → Line → Type 0) where
   MayEdits [] e = Unit {0}
   MayEdits (x ∷ xs) e = MayEdit x e × MayEdits xs (edit x e)
 
+module _ (L : Line → Type 0) (R : Line → Line → Type 0) (G : Global → Type 0) where
   abbrev pub MayDo : Did → Ed → Type 0
   MayDo (answers b) e = Unit {0}
-  MayDo (changes xs) e = MayEdits xs e
+  MayDo (changes xs) e = MayEdits L R xs e
   MayDo quits e = Unit {0}
+  MayDo (adds x) e = G x
+  MayDo cancels e = Unit {0}
 
-  -- where every line and text is allowed, so is every change
-  module _ (lines : (l : Line) → L l) (texts : (old new : Line) → R old new) where
-    edit-any : (x : Edit) (e : Ed) → MayEdit x e
+  -- where every line, text and global is allowed, so is every change
+  module _ (lines : (l : Line) → L l) (texts : (old new : Line) → R old new) (globals : (x : Global) → G x) where
+    edit-any : (x : Edit) (e : Ed) → MayEdit L R x e
     edit-any (strike k) e = tt
     edit-any (strikeBack k) e = tt
     edit-any strikeNext e = tt
@@ -77,7 +88,7 @@ module _ (L : Line → Type 0) (R : Line → Line → Type 0) where
     edit-any (retext l q) (ed before [] p) = tt
     edit-any (retext l q) (ed before (r ∷ after) p) = texts (current r) l
 
-    edits-any : (xs : List Edit) (e : Ed) → MayEdits xs e
+    edits-any : (xs : List Edit) (e : Ed) → MayEdits L R xs e
     edits-any [] e = tt
     edits-any (x ∷ xs) e = (edit-any x e, edits-any xs (edit x e))
 
@@ -85,6 +96,8 @@ module _ (L : Line → Type 0) (R : Line → Line → Type 0) where
     did-any (answers b) e = tt
     did-any (changes xs) e = edits-any xs e
     did-any quits e = tt
+    did-any (adds x) e = globals x
+    did-any cancels e = tt
 
   module _ (K : Statement) where
     -- the statement holds where the program ends, and it may do what it does
@@ -93,22 +106,24 @@ module _ (L : Line → Type 0) (R : Line → Line → Type 0) where
 
     -- wherever the statement holds, the program comes to that, or stops where it holds
     abbrev pub Keeps : Program Did → Type 0
-    Keeps m = (g : Given) (c : Carried) (e : Ed) (t : Tape) → HoldsEd K e t → ComesTo g c DoesWell (λ n. HoldsEd K) m e t
+    Keeps m = (g : Given) (c : Carried) (e : Ed) (t : Tape) → CarriedOf G c → HoldsEd K e t → ComesTo g c DoesWell (λ n. HoldsEd K) m e t
 
-module _ (L : Line → Type 0) (R : Line → Line → Type 0) (K : Statement) (closed : Closed L R K) where
-  -- ---- reading
+-- a changed record, where the two lines differ
+rewrite-kept : (l new : Line) → eqLine l new ≡ false → rewrite (kept l) new ≡ changed l new
+unfolding rewrite change
+rewrite-kept l new d = rw d refl
 
-  line-keeps : (g : Given) (c : Carried) (e : Ed) (t : Tape) → HoldsEd K e t → At (Keeping (HoldsEd K)) (readLine g c e t)
-  unfolding readLine seen
-  line-keeps g c (ed before after p) (unread (l ∷ ls)) h = closed .reads before after l ls h
-  line-keeps g c (ed before after p) (unread []) h = closed .ends before after h
-  line-keeps g c (ed before after p) ended h = h
-
+module _ (L : Line → Type 0) (R : Line → Line → Type 0) (G : Global → Type 0) (K : Statement) (closed : Closed L R G K) where
   -- ---- moves
 
   module _ (t : Tape) where
     abbrev HoldsGot : Got Ed → Type 0
     HoldsGot x = OnGot (λ e. HoldsEd K e t) (λ n. Unit {0}) x
+
+    -- back over records, which then stand after the others
+    backward : (before after passed : List Record) → K (reverseAux passed before) after t → K before (passed ++ after) t
+    backward before after [] h = h
+    backward before after (r ∷ passed) h = closed .back before r (passed ++ after) t (backward (r ∷ before) after passed h)
 
     -- back to the first record, and on to the end
     rewind : (before after : List Record) → K before after t → K [] (reverseAux before after) t
@@ -212,40 +227,81 @@ module _ (L : Line → Type 0) (R : Line → Line → Type 0) (K : Statement) (c
     edits-keep [] e w h = h
     edits-keep (x ∷ xs) e w h = edits-keep xs (edit x e) (w .1) (edit-keeps x e (w .0) h)
 
-  -- ---- programs
+  -- ---- reading
 
-  -- every program program-keeps it, up to its end
-  pub program-keeps : {A : Type 0} (g : Given) (c : Carried) (m : Program A) (e : Ed) (t : Tape) → HoldsEd K e t → ComesTo g c {A = A} (λ a. HoldsEd K) (λ n. HoldsEd K) m e t
-  program-keeps g c m e t h = runs-keep g c (HoldsEd K) (line-keeps g c) (λ x e′ t′. move-keeps t′ x e′) m e t h
+  module _ (g : Given) (c : Carried) (a : CarriedOf G c) where
+    -- the line that was read last is changed
+    changes-last : (before after : List Record) (l new : Line) (t : Tape) → R l new → eqLine l new ≡ false → K before (after ++ (kept l ∷ [])) t → K before (after ++ (changed l new ∷ [])) t
+    unfolding current
+    changes-last before after l new t r d h =
+        backward t before (changed l new ∷ []) after
+        (rw (rewrite-kept l new d) at (closed .rewrites (reverseAux after before) (kept l) [] t new r (forward t before (kept l ∷ []) after h)))
+
+    pass-allowed : (l new : Line) → leftBy c l ≡ got new → R l new
+    pass-allowed l new q = by c a q
+      where
+        by : (c : Carried) → CarriedOf G c → leftBy c l ≡ got new → R l new
+        by (carried gs) a q = closed .passes gs l new a (unfold leftBy in q)
+
+    line-keeps : (e : Ed) (t : Tape) → HoldsEd K e t → At (Keeping (HoldsEd K)) (readLine g c e t)
+    line-keeps (ed before after p) (unread (l ∷ ls)) h =
+        let k = closed .reads before after l ls h in
+        line-comes-to (Keeping (HoldsEd K)) g c (ed before after p) l ls (unfold seen in k)
+        (λ new q d r. unfold seen in (changes-last before after l new (unread ls) (pass-allowed l new q) d k)) (unfold seen in k) (unfold seen in k)
+    line-keeps (ed before after p) (unread []) h = unfold readLine in (closed .ends before after h)
+    line-keeps (ed before after p) ended h = unfold readLine in h
+
+    -- up to a target
+    pub reading-keeps : (x : Target) (e : Ed) (t : Tape) → HoldsEd K e t → At (Keeping (HoldsEd K)) (readTo g c x e t)
+    reading-keeps x e t h = to-keeps g c (HoldsEd K) line-keeps x e t h
+
+    -- ---- programs
+
+    -- every program keeps it, up to its end
+    pub program-keeps : {A : Type 0} (m : Program A) (e : Ed) (t : Tape) → HoldsEd K e t → ComesTo g c {A = A} (λ a. HoldsEd K) (λ n. HoldsEd K) m e t
+    program-keeps m e t h = runs-keep g c (HoldsEd K) line-keeps (λ x e′ t′. move-keeps t′ x e′) m e t h
+
+  -- what reading the lines that are left keeps, at a run's end
+  pub rest-keeps : (g : Given) (e : Ed) (c : Carried) (t : Tape) → HoldsState G K (state e c) t → At (Keeping (λ e′ t′. HoldsState G K (state e′ c) t′)) (readTo g c eof e t)
+  rest-keeps g e c t h = by ((readTo g c eof e t) .0) ((readTo g c eof e t) .1) (reading-keeps g c (h .1) eof e t (h .0))
+    where
+      by : (r : Ran (Unit {0})) (t′ : Tape) → Keeping (HoldsEd K) r t′ → Keeping (λ e′ u. HoldsState G K (state e′ c) u) r t′
+      by (gave u e′) t′ k = (k, h .1)
+      by (stopped n e′) t′ k = (k, h .1)
 
   -- whatever the first program gives
-  pub then-keeps : {A : Type 0} (m : Program A) (k : A → Program Did) → ((a : A) → Keeps L R K (k a)) → Keeps L R K (_>>=_ m k)
-  then-keeps m k f g c e t h = then-comes g c (λ a. HoldsEd K) (DoesWell L R K) (λ n. HoldsEd K) m k e t (program-keeps g c m e t h) (λ a e′ t′. f a g c e′ t′)
+  pub then-keeps : {A : Type 0} (m : Program A) (k : A → Program Did) → ((a : A) → Keeps L R G K (k a)) → Keeps L R G K (_>>=_ m k)
+  then-keeps m k f g c e t a h = then-comes g c (λ x. HoldsEd K) (DoesWell L R G K) (λ n. HoldsEd K) m k e t (program-keeps g c a m e t h) (λ x e′ t′. f x g c e′ t′ a)
 
-  pub and-keeps : {A : Type 0} (m : Program A) (k : Program Did) → Keeps L R K k → Keeps L R K (_>>_ m k)
-  and-keeps m k f g c e t h = and-comes g c (λ a. HoldsEd K) (DoesWell L R K) (λ n. HoldsEd K) m k e t (program-keeps g c m e t h) (λ a e′ t′. f g c e′ t′)
+  pub and-keeps : {A : Type 0} (m : Program A) (k : Program Did) → Keeps L R G K k → Keeps L R G K (_>>_ m k)
+  and-keeps m k f g c e t a h = and-comes g c (λ x. HoldsEd K) (DoesWell L R G K) (λ n. HoldsEd K) m k e t (program-keeps g c a m e t h) (λ x e′ t′. f g c e′ t′ a)
 
-  -- where every line and text is allowed, every program keeps it
-  pub any-keeps : ((l : Line) → L l) → ((old new : Line) → R old new) → (m : Program Did) → Keeps L R K m
-  any-keeps lines texts m g c e t h = by ((runs g c m e t) .0) ((runs g c m e t) .1) (program-keeps g c m e t h)
+  -- where every line, text and global is allowed, every program keeps it
+  pub any-keeps : ((l : Line) → L l) → ((old new : Line) → R old new) → ((x : Global) → G x) → (m : Program Did) → Keeps L R G K m
+  any-keeps lines texts globals m g c e t a h = by ((runs g c m e t) .0) ((runs g c m e t) .1) (program-keeps g c a m e t h)
     where
-      by : (r : Ran Did) (t : Tape) → Keeping (HoldsEd K) r t → Ended (DoesWell L R K) (λ n. HoldsEd K) r t
-      by (gave d e) t h = (did-any L R lines texts d e, h)
+      by : (r : Ran Did) (t : Tape) → Keeping (HoldsEd K) r t → Ended (DoesWell L R G K) (λ n. HoldsEd K) r t
+      by (gave d e) t h = (did-any L R G lines texts globals d e, h)
       by (stopped n e) t h = h
 
   -- ---- steps
 
-  finish-keeps : (g : Given) (c : Carried) (r : Ran Did) (t : Tape) → Ended (DoesWell L R K) (λ n. HoldsEd K) r t → At (HoldsOut K) (finish g c r t)
-  unfolding finish
-  finish-keeps g c (gave (answers b) e) t h = h .1
-  finish-keeps g c (gave (changes xs) e) t h = within-comes (HoldsOut K) g c e (edits xs e) t (λ x. edits-keep t xs e (h .0) (h .1)) (h .1)
-  finish-keeps g c (gave quits e) t h = h .1
-  finish-keeps g c (stopped n e) t h = h
+  more-keeps : (c : Carried) (x : Global) (e : Ed) (t : Tape) → CarriedOf G c → G x → HoldsEd K e t → HoldsOut G K (oneMore c x e) t
+  more-keeps (carried gs) x e t a k h = one-comes (λ o. HoldsOut G K o t) gs x e (λ q. (h, each-append G gs (x ∷ []) a (k, tt))) (h, a)
 
-  -- what the changes keep, every step program-keeps
-  pub step-keeps : (g : Given) (op : Op) (s : RunState) (t : Tape) → Keeps L R K (program op) → HoldsState K s t → At (HoldsOut K) (step g op s t)
+  finish-keeps : (g : Given) (c : Carried) (r : Ran Did) (t : Tape) → CarriedOf G c → Ended (DoesWell L R G K) (λ n. HoldsEd K) r t → At (HoldsOut G K) (finish g c r t)
+  unfolding finish
+  finish-keeps g c (gave (answers b) e) t a h = (h .1, a)
+  finish-keeps g c (gave (changes xs) e) t a h = within-comes (HoldsOut G K) g c e (edits xs e) t (λ x. (edits-keep t xs e (h .0) (h .1), a)) (h .1, a)
+  finish-keeps g c (gave quits e) t a h = (h .1, a)
+  finish-keeps g c (gave (adds x) e) t a h = more-keeps c x e t a (h .0) (h .1)
+  finish-keeps g c (gave cancels e) t a h = unfold noGlobals in (h .1, tt)
+  finish-keeps g c (stopped n e) t a h = (h, a)
+
+  -- what the changes keep, every step keeps
+  pub step-keeps : (g : Given) (op : Op) (s : RunState) (t : Tape) → Keeps L R G K (program op) → HoldsState G K s t → At (HoldsOut G K) (step g op s t)
   unfolding step perform bind
-  step-keeps g op (state e c) t f h = finish-keeps g c ((runs g c (program op) e t) .0) ((runs g c (program op) e t) .1) (f g c e t h)
+  step-keeps g op (state e c) t f h = finish-keeps g c ((runs g c (program op) e t) .0) ((runs g c (program op) e t) .1) (h .1) (f g c e t (h .1) (h .0))
 
   pub opening-keeps : (t : Tape) → K [] [] t → At (HoldsEd K) (opening t)
   unfolding opening
@@ -254,7 +310,7 @@ module _ (L : Line → Type 0) (R : Line → Line → Type 0) (K : Statement) (c
   opening-keeps ended h = h
 
   -- and so it holds at the end of every run of such steps, if it holds before the first line is read
-  pub changes-keep : (g : Given) (budget : ℕ) (items : List Item) (t : Tape) → Inner (λ op. Keeps L R K (program op)) → ItemsOf (λ op. Keeps L R K (program op)) items → K [] [] t
-      → At (AtEnd (HoldsState K)) (runItems (step g) budget items t)
+  pub changes-keep : (g : Given) (budget : ℕ) (items : List Item) (t : Tape) → Inner (λ op. Keeps L R G K (program op)) → ItemsOf (λ op. Keeps L R G K (program op)) items
+      → K [] [] t → At (AtEnd (HoldsState G K)) (runItems (step g) budget items t)
   changes-keep g budget items t inner h k =
-      runItems-keeps (λ op. Keeps L R K (program op)) inner (HoldsState K) (step g) (λ op s t′. step-keeps g op s t′) budget items t h (opening-keeps t k)
+      runItems-keeps (λ op. Keeps L R G K (program op)) inner (HoldsState G K) (step g) (λ op s t′. step-keeps g op s t′) budget items t h (unfold noGlobals in (opening-keeps t k, tt))

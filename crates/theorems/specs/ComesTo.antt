@@ -3,18 +3,18 @@
 use mathlib.Core.Path.{_≡_, refl}
 use mathlib.Core.Bool.{Bool, true, false, cond}
 use mathlib.Core.Option.{Option, none, some}
-use mathlib.Core.List.{[], _∷_}
+use mathlib.Core.List.{List, [], _∷_, _++_}
 use Prim.Native.Nat.{ℕ, zero, suc, _-_}
 use lib.ListN.{length}
 use lib.Dec.{leb}
 use Rattle.definitions.specs.Bytes.{Line}
 use Rattle.definitions.specs.Journal.{Record}
 use Rattle.definitions.specs.Tape.{Tape, restLines, Reads, bind}
-use Rattle.definitions.specs.Given.{Given, Carried}
-use Rattle.definitions.specs.Editor.{Ed, ed, records, journal, sources, current, Stop, n20, n26, n27, stopNumber, Got, got, stop, Target, here, line, eof, Move, moved}
-use Rattle.definitions.specs.Reading.{Ran, gave, stopped, onceRead, readLine, readLines, readTo}
-use Rattle.definitions.specs.StepProgram.{Program, gives, stops, looks, reads, moves, _>>=_, _>>_, onceMoved, runs, state, Out, edited, halt, hasRoom, within}
-use Rattle.definitions.specs.Edit.{stopIf, orStop, either, go, lineIn, lineOr, byteHere}
+use Rattle.definitions.specs.Given.{Given, Global, Carried, carried}
+use Rattle.definitions.specs.Editor.{Ed, ed, records, journal, sources, current, Stop, n20, n26, n27, n31, stopNumber, Got, got, stop, Target, here, line, eof, Move, moved}
+use Rattle.definitions.specs.Reading.{Ran, gave, stopped, onceRead, hasRoom, readLine, readLines, readTo}
+use Rattle.definitions.specs.StepProgram.{Program, gives, stops, looks, reads, moves, _>>=_, _>>_, onceMoved, runs, state, Out, on, edited, halt, within, oneMore}
+use Rattle.definitions.specs.Edit.{stopIf, orStop, either, readUpTo, go, lineIn, lineOr, byteHere}
 use Rattle.theorems.specs.Reading.{At}
 use Rattle.theorems.specs.Programs.{thenRuns, runs-then}
 
@@ -128,11 +128,17 @@ module _ (g : Given) (c : Carried) where
     lines-keep zero e t x = x
     lines-keep (suc n) e t x = once-keeps (λ e′. readLines g c n e′) (λ e′ t′. lines-keep n e′ t′) ((readLine g c e t) .0) ((readLine g c e t) .1) (reading e t x)
 
-    to-keeps : (a : Target) (e : Ed) (t : Tape) → I e t → At (Keeping I) (readTo g c a e t)
+    -- what reading a line keeps, reading up to a target keeps
+    pub to-keeps : (a : Target) (e : Ed) (t : Tape) → I e t → At (Keeping I) (readTo g c a e t)
     unfolding readTo
     to-keeps here e t x = x
     to-keeps (line n) e t x = lines-keep (n - sources (records e)) e t x
     to-keeps eof e t x = lines-keep (suc (length (restLines t))) e t x
+
+    -- reading
+    pub reads-keep : (a : Target) (e : Ed) (t : Tape) → I e t → ComesTo (λ u. I) (λ n. I) (readUpTo a) e t
+    unfolding readUpTo runs bind
+    reads-keep a e t i = once-keeps (λ e′. runs g c (gives tt) e′) (λ e′ t′ x. unfold runs in x) ((readTo g c a e t) .0) ((readTo g c a e t) .1) (to-keeps a e t i)
 
     module _ (moving : (x : Move) (e : Ed) (t : Tape) → I e t → OnGot (λ e′. I e′ t) (λ n. Unit {0}) (moved x e)) where
       moved-keeps : {A : Type 0} (f : Ed → Reads (Ran A)) → ((e : Ed) (t : Tape) → I e t → At (Keeping I) (f e t))
@@ -161,3 +167,13 @@ within-comes P g c e e′ t h k = by (hasRoom g (journal e′ t)) h
     by : (x : Bool) → (x ≡ true → P (edited (state e′ c)) t) → At P (cond x (edited (state e′ c), t) (halt (stopNumber n26) (state e c), t))
     by true f = f refl
     by false f = k
+
+-- one global more stands, or the step stops with 31
+pub one-comes : (P : Out → Type 0) (gs : List Global) (x : Global) (e : Ed) → (leb 16 (length gs) ≡ false → P (on true (state e (carried (gs ++ (x ∷ []))))))
+    → P (halt (stopNumber n31) (state e (carried gs))) → P (oneMore (carried gs) x e)
+unfolding oneMore
+one-comes P gs x e h k = by (leb 16 (length gs)) h
+  where
+    by : (b : Bool) → (b ≡ false → P (on true (state e (carried (gs ++ (x ∷ [])))))) → P (cond b (halt (stopNumber n31) (state e (carried gs))) (on true (state e (carried (gs ++ (x ∷ []))))))
+    by true f = k
+    by false f = f refl

@@ -1,14 +1,15 @@
 -- What the items of a script hold is within document 01's bounds: strings and lines are lines, numbers are 1 to 65,535, counts at most 65,535.
-use mathlib.Core.Bool.{Bool, true, false, _&&_}
+use mathlib.Core.Bool.{Bool, true, false, not, _&&_}
 use mathlib.Core.Option.{Option, none, some}
 use mathlib.Core.List.{List, [], _∷_}
 use Prim.Native.Nat.{ℕ}
 use lib.Dec.{leb, ltb}
 use Rattle.definitions.specs.Bytes.{isLine, allLines}
 use Rattle.definitions.specs.Matching.{Columns, allColumns, columns, Qualifiers, qualifiers, Qualified, qualified}
+use Rattle.definitions.specs.Strings.{isEmpty}
 use Rattle.definitions.specs.Search.{Search, one, both, either}
 use Rattle.definitions.specs.Editor.{Target, here, line, eof, Through, alone, upTo, toEof}
-use Rattle.definitions.specs.Edit.{Test, is, isNot, isEof, Op, onlyStep, quit, test, begin, beginBack, find, findBack, findDelete, move, nextLine, previousLine, delete, replace, insert, copy, alter, split, join, point, pointStart, right, left, cutByte, recase}
+use Rattle.definitions.specs.Edit.{Test, is, isNot, isEof, Op, onlyStep, quit, test, begin, beginBack, find, findBack, findDelete, move, nextLine, previousLine, delete, replace, insert, copy, alter, split, join, addGlobal, cancelGlobals, point, pointStart, right, left, cutByte, recase}
 use Rattle.definitions.specs.Control.{Opener, times, forever, bare, branch, loop, Item, simple, seek, opens, bracket, close, otherwise, leave, lineEnd}
 
 -- "Numbers are 1 to 65,535"
@@ -71,6 +72,8 @@ goodOp copy = true
 goodOp (alter c pointing q new) = goodQualified q && isLine new
 goodOp (split after q) = goodQualified q
 goodOp (join s) = isLine s
+goodOp (addGlobal c s new) = isLine s && not (isEmpty s) && isLine new
+goodOp cancelGlobals = true
 goodOp (point after q) = goodQualified q
 goodOp pointStart = true
 goodOp right = true

@@ -16,7 +16,7 @@ use Rattle.definitions.specs.Tape.{Tape, restLines}
 use Rattle.definitions.specs.Given.{Given, Carried}
 use Rattle.definitions.specs.Editor.{Ed, ed, afterOf, current, firstLive, Stop, n20, n21, n22, n24, n25, n30, strike, strikeBack, strikeNext, put, retext, edit}
 use Rattle.definitions.specs.StepProgram.{Program, gives, _>>=_, _>>_, runs, Did, answers, changes}
-use Rattle.definitions.specs.Edit.{Op, onlyStep, quit, test, begin, beginBack, find, findBack, findDelete, move, nextLine, previousLine, delete, replace, insert, copy, alter, split, join, point, pointStart, right, left, cutByte, recase}
+use Rattle.definitions.specs.Edit.{Op, onlyStep, quit, test, begin, beginBack, find, findBack, findDelete, move, nextLine, previousLine, delete, replace, insert, copy, alter, split, join, addGlobal, cancelGlobals, point, pointStart, right, left, cutByte, recase}
 use Rattle.definitions.specs.Edit.{orStop, either, see, goesOn, readPast, lineOr, lookOn, lookBack, placeOr24, byteHere, write, cutAfter, nextOr30, writeJoined, span, program}
 use Rattle.definitions.specs.Control.{Item}
 use Rattle.theorems.specs.Each.{Each, each-append, each-drop}
@@ -27,6 +27,7 @@ use Rattle.theorems.specs.Changes.{Statement, Closed, HoldsEd, DoesWell,
 use Rattle.theorems.specs.JournalBytes.{IsLine, GoodRecord, line-text, line-of, all-lines}
 use Rattle.theorems.specs.GoodItems.{goodTarget, goodThrough, goodOption, goodQualified, goodOp}
 use Rattle.theorems.specs.GoodLines.{splice-text, altered-text, recased-text, appended-text, taken-line, dropped-line, current-line, current-text, rewrite-good, erase-good}
+use Rattle.theorems.specs.GoodGlobals.{GoodGlobal, GoodCarried, global-good, through-line}
 
 -- ---- good records
 
@@ -37,30 +38,31 @@ GoodRecords rs = Each GoodRecord rs
 abbrev pub Good : Statement
 Good before after t = GoodRecords before × GoodRecords after × Each IsLine (restLines t)
 
--- the text put in place of a line is a line, if that line is text
+-- the text put in place of a line is a line
 abbrev pub IsLineAfter : Line → Line → Type 0
-IsLineAfter old new = allText old ≡ true → IsLine new
+IsLineAfter old new = IsLine old → IsLine new
 
-pub good-closed : Closed IsLine IsLineAfter Good
+pub good-closed : Closed IsLine IsLineAfter GoodGlobal Good
 unfolding restLines
 good-closed = record {
   over = λ before r after t h. ((h .1 .0, h .0), h .1 .1, h .2);
   back = λ before r after t h. (h .0 .1, (h .0 .0, h .1), h .2);
   erases = λ before r after t h. (each-append GoodRecord (erase r) before (erase-good r (h .1 .0)) (h .0), h .1 .1, h .2);
-  rewrites = λ before r after t l k h. (h .0, (rewrite-good r l (h .1 .0) (k (current-text r (h .1 .0))), h .1 .1), h .2);
+  rewrites = λ before r after t l k h. (h .0, (rewrite-good r l (h .1 .0) (k (current-line r (h .1 .0))), h .1 .1), h .2);
   inserts = λ before after t l k h. ((k, h .0), h .1, h .2);
   reads = λ before after l ls h. (h .0, each-append GoodRecord after (kept l ∷ []) (h .1) (h .2 .0, tt), h .2 .1);
   ends = λ before after h. (h .0, h .1, tt);
+  passes = through-line;
 }
 
 -- ---- parts of programs
 
 -- a program that writes lines only
 abbrev pub WritesLines : Program Did → Type 0
-WritesLines m = Keeps IsLine IsLineAfter Good m
+WritesLines m = Keeps IsLine IsLineAfter GoodGlobal Good m
 
 abbrev WritesWell : Gives Did
-WritesWell d e t = DoesWell IsLine IsLineAfter Good d e t
+WritesWell d e t = DoesWell IsLine IsLineAfter GoodGlobal Good d e t
 
 abbrev StopsWell : Stops
 StopsWell n e t = HoldsEd Good e t
@@ -70,14 +72,14 @@ abbrev From : Given → Carried → Program Did → Ed → Tape → Type 0
 From g c m e t = ComesTo g c WritesWell StopsWell m e t
 
 then-lines : {A : Type 0} (m : Program A) (k : A → Program Did) → ((a : A) → WritesLines (k a)) → WritesLines (_>>=_ m k)
-then-lines m k f = then-keeps IsLine IsLineAfter Good good-closed m k f
+then-lines m k f = then-keeps IsLine IsLineAfter GoodGlobal Good good-closed m k f
 
 and-lines : {A : Type 0} (m : Program A) (k : Program Did) → WritesLines k → WritesLines (_>>_ m k)
-and-lines m k f = and-keeps IsLine IsLineAfter Good good-closed m k f
+and-lines m k f = and-keeps IsLine IsLineAfter GoodGlobal Good good-closed m k f
 
 answer-lines : (b : Bool) → WritesLines (gives (answers b))
 unfolding runs
-answer-lines b g c e t h = (tt, h)
+answer-lines b g c e t a h = (tt, h)
 
 goes-lines : WritesLines goesOn
 unfolding goesOn
@@ -85,37 +87,38 @@ goes-lines = answer-lines true
 
 put-lines : (ls : List Line) → Each IsLine ls → WritesLines (gives (changes (put ls ∷ [])))
 unfolding runs
-put-lines ls k g c e t h = ((k, tt), h)
+put-lines ls k g c e t a h = ((k, tt), h)
 
 strike-lines : (k : ℕ) → WritesLines (gives (changes (strike k ∷ [])))
 unfolding runs
-strike-lines k g c e t h = ((tt, tt), h)
+strike-lines k g c e t a h = ((tt, tt), h)
 
 strikeBack-lines : (k : ℕ) → WritesLines (gives (changes (strikeBack k ∷ [])))
 unfolding runs
-strikeBack-lines k g c e t h = ((tt, tt), h)
+strikeBack-lines k g c e t a h = ((tt, tt), h)
 
 replace-lines : (k : ℕ) (ls : List Line) → Each IsLine ls → WritesLines (gives (changes (strike k ∷ put ls ∷ [])))
 unfolding runs
-replace-lines k ls l g c e t h = ((tt, (l, tt)), h)
+replace-lines k ls l g c e t a h = ((tt, (l, tt)), h)
 
 either-lines : (b : Bool) (m k : Program Did) → WritesLines m → WritesLines k → WritesLines (either b m k)
-either-lines b m k f i g c e t h = either-comes g c WritesWell StopsWell b m k e t (f g c e t h) (i g c e t h)
+either-lines b m k f i g c e t a h = either-comes g c WritesWell StopsWell b m k e t (f g c e t a h) (i g c e t a h)
 
 -- with the current line
 line-lines : (n : Stop) (k : Line × ℕ → Program Did)
-    → ((g : Given) (c : Carried) (before : List Record) (r : Record) (after : List Record) (p : ℕ) (t : Tape) → Good before (r ∷ after) t → From g c (k (current r, p)) (ed before (r ∷ after) p) t)
+    → ((g : Given) (c : Carried) (before : List Record) (r : Record) (after : List Record) (p : ℕ) (t : Tape) → GoodCarried c → Good before (r ∷ after) t
+    → From g c (k (current r, p)) (ed before (r ∷ after) p) t)
     → WritesLines (_>>=_ (lineOr n) k)
-line-lines n k f g c (ed before [] p) t h = line-comes g c WritesWell StopsWell n k (ed before [] p) t h
-line-lines n k f g c (ed before (r ∷ after) p) t h = line-comes g c WritesWell StopsWell n k (ed before (r ∷ after) p) t (f g c before r after p t h)
+line-lines n k f g c (ed before [] p) t a h = line-comes g c WritesWell StopsWell n k (ed before [] p) t h
+line-lines n k f g c (ed before (r ∷ after) p) t a h = line-comes g c WritesWell StopsWell n k (ed before (r ∷ after) p) t (f g c before r after p t a h)
 
 -- with a byte at p
 byte-lines : (k : Line × ℕ → Program Did)
     → ((g : Given) (c : Carried) (before : List Record) (r : Record) (after : List Record) (p : ℕ) (t : Tape) → leb (length (current r)) p ≡ false → Good before (r ∷ after) t
     → From g c (k (current r, p)) (ed before (r ∷ after) p) t)
     → WritesLines (_>>=_ byteHere k)
-byte-lines k f g c (ed before [] p) t h = byte-comes g c WritesWell StopsWell k (ed before [] p) t h h
-byte-lines k f g c (ed before (r ∷ after) p) t h =
+byte-lines k f g c (ed before [] p) t a h = byte-comes g c WritesWell StopsWell k (ed before [] p) t h h
+byte-lines k f g c (ed before (r ∷ after) p) t a h =
     byte-comes g c WritesWell StopsWell k (ed before (r ∷ after) p) t h (λ x. f g c before r after p t x h)
 
 -- the text `l` is written, if it is not over 255
@@ -124,7 +127,7 @@ write-lines : (g : Given) (c : Carried) (before : List Record) (r : Record) (aft
 unfolding write
 write-lines g c before r after p t l q k h =
     test-comes g c WritesWell StopsWell n25 (ltb 255 (length l)) (gives (changes (retext l q ∷ []))) (ed before (r ∷ after) p) t (λ x. h)
-    (λ x. unfold runs in ((λ o. line-of l (k o) (omega (arith, ltb-false 255 (length l) x)), tt), h))
+    (λ x. unfold runs in ((λ o. line-of l (k (line-text (current r) o)) (omega (arith, ltb-false 255 (length l) x)), tt), h))
 
 -- a line that is cut: its parts are lines
 cut-lines : (g : Given) (c : Carried) (before : List Record) (r : Record) (after : List Record) (p : ℕ) (t : Tape) (k : ℕ) → Good before (r ∷ after) t
@@ -156,9 +159,10 @@ unfolding orStop runs
 or-text g c none e t k h = h
 or-text g c (some l) e t k h = (k, h)
 
-next-text : (g : Given) (c : Carried) (e : Ed) (t : Tape) → HoldsEd Good e t → ComesTo g c GivesText StopsWell nextOr30 e t
+next-text : (g : Given) (c : Carried) (e : Ed) (t : Tape) → GoodCarried c → HoldsEd Good e t → ComesTo g c GivesText StopsWell nextOr30 e t
 unfolding nextOr30
-next-text g c e t h = and-comes g c (λ u. HoldsEd Good) GivesText StopsWell (readPast 1) _ e t (program-keeps IsLine IsLineAfter Good good-closed g c (readPast 1) e t h) (λ u. by)
+next-text g c e t a h =
+    and-comes g c (λ u. HoldsEd Good) GivesText StopsWell (readPast 1) _ e t (program-keeps IsLine IsLineAfter GoodGlobal Good good-closed g c a (readPast 1) e t h) (λ u. by)
   where
     by : (e : Ed) (t : Tape) → HoldsEd Good e t → ComesTo g c GivesText StopsWell (_>>=_ (see afterOf) (λ rs. orStop n30 (firstLive (drop 1 rs)))) e t
     by (ed before after p) t h = unfold see afterOf _>>=_ runs in (or-text g c (firstLive (drop 1 after)) (ed before after p) t (first-text (drop 1 after) (each-drop GoodRecord 1 after (h .1))) h)
@@ -207,7 +211,7 @@ GoodItems items = ItemsOf (λ op. goodOp op ≡ true) items
 pub good-lines : (op : Op) → goodOp op ≡ true → WritesLines (program op)
 unfolding goodOp program
 good-lines onlyStep h = absurd (false≢true h)
-good-lines quit h = unfold runs in (λ g c e t k. (tt, k))
+good-lines quit h = unfold runs in (λ g c e t a k. (tt, k))
 good-lines (test x) h = absurd (false≢true h)
 good-lines begin h = absurd (false≢true h)
 good-lines beginBack h = absurd (false≢true h)
@@ -221,18 +225,20 @@ good-lines (delete a b) h = then-lines (span a b) _ strike-lines
 good-lines (replace a b ls) h = then-lines (span a b) _ (λ k. replace-lines k ls (all-lines ls (and-right (goodTarget a && goodThrough b) (allLines ls) h)))
 good-lines (insert none ls) h = put-lines ls (all-lines ls (and-right (goodOption none) (allLines ls) h))
 good-lines (insert (some a) ls) h = and-lines _ _ (put-lines ls (all-lines ls (and-right (goodOption (some a)) (allLines ls) h)))
-good-lines copy h = line-lines n20 _ (λ g c before r after p t k. put-lines (current r ∷ []) (current-line r (k .1 .0), tt) g c (ed before (r ∷ after) p) t k)
+good-lines copy h = line-lines n20 _ (λ g c before r after p t a k. put-lines (current r ∷ []) (current-line r (k .1 .0), tt) g c (ed before (r ∷ after) p) t a k)
 good-lines (alter d pointing q new) h =
-    line-lines n20 _ (λ g c before r after p t k. unfold placeOr24 in
+    line-lines n20 _ (λ g c before r after p t a k. unfold placeOr24 in
     (some-comes g c WritesWell StopsWell n24 (placeOf q p (current r)) _ (ed before (r ∷ after) p) t k
     (λ i. write-lines g c before r after p t _ _ (λ o. altered-text d (current r) i (length (stringIn q)) new o (line-text new (and-right (goodQualified q) (isLine new) h))) k)))
 good-lines (split after q) h =
-    line-lines n20 _ (λ g c before r after p t k. unfold placeOr24 in
+    line-lines n20 _ (λ g c before r after p t a k. unfold placeOr24 in
     (some-comes g c WritesWell StopsWell n24 (placeOf q p (current r)) _ (ed before (r ∷ after) p) t k (λ i. cut-lines g c before r after p t _ k)))
 good-lines (join s) h =
-    line-lines n20 _ (λ g c before r after p t k.
-    then-comes g c GivesText WritesWell StopsWell nextOr30 _ (ed before (r ∷ after) p) t (next-text g c (ed before (r ∷ after) p) t k) (λ m e′ t′ x.
+    line-lines n20 _ (λ g c before r after p t a k.
+    then-comes g c GivesText WritesWell StopsWell nextOr30 _ (ed before (r ∷ after) p) t (next-text g c (ed before (r ∷ after) p) t a k) (λ m e′ t′ x.
     joined-lines g c e′ t′ _ p (appended-text (current r) (s ++ m) (current-text r (k .1 .0)) (appended-text s m (line-text s h) (x .0))) (x .1)))
+good-lines (addGlobal d s new) h = unfold runs in (λ g c e t a k. (global-good d s new (unfold goodOp in h), k))
+good-lines cancelGlobals h = unfold runs in (λ g c e t a k. (tt, k))
 good-lines (point b q) h = then-lines (lineOr n20) _ (λ x. then-lines (placeOr24 q (x .0) (x .1)) _ (λ i. and-lines _ _ goes-lines))
 good-lines pointStart h = and-lines _ _ (and-lines _ _ goes-lines)
 good-lines right h = then-lines byteHere _ (λ x. and-lines _ _ goes-lines)

@@ -13,33 +13,33 @@ use Rattle.definitions.specs.Journal.{Record, kept, changed, deleted, inserted,
 use Rattle.definitions.specs.Matching.{Qualified, placeOf}
 use Rattle.definitions.specs.Search.{Search, holds}
 use Rattle.definitions.specs.Tape.{Tape, unread, ended, bind}
-use Rattle.definitions.specs.Given.{Given, given, bytes, Carried, carried}
+use Rattle.definitions.specs.Given.{Given, Global, given, bytes, Carried, carried, noGlobals}
 use Rattle.definitions.specs.Editor.{Ed, ed, sources, Stop, n20, n21, n22, n24, n25, n27, stopNumber, back, pointTo, Edit, strike, strikeBack, strikeNext, put, retext, edit, edits}
 use Rattle.definitions.specs.Reading.{Ran, gave, stopped, opening}
-use Rattle.definitions.specs.StepProgram.{Program, gives, _>>=_, _>>_, runs, RunState, state, Did, answers, changes, quits, Out, on, edited, halt, finish, perform}
-use Rattle.definitions.specs.Edit.{Op, onlyStep, quit, test, begin, beginBack, find, findBack, findDelete, move, nextLine, previousLine, delete, replace, insert, copy, alter, split, join, point, pointStart, right, left, cutByte, recase}
+use Rattle.definitions.specs.StepProgram.{Program, gives, _>>=_, _>>_, runs, RunState, state, Did, answers, changes, quits, adds, cancels, Out, on, edited, halt, oneMore, finish, perform}
+use Rattle.definitions.specs.Edit.{Op, onlyStep, quit, test, begin, beginBack, find, findBack, findDelete, move, nextLine, previousLine, delete, replace, insert, copy, alter, split, join, addGlobal, cancelGlobals, point, pointStart, right, left, cutByte, recase}
 use Rattle.definitions.specs.Edit.{stopIf, either, see, go, goesOn, goAhead, goTo, lineOr, isAtEof, lookOn, lookBack, write, placeOr24, byteHere, cutAfter, nextOr30, writeJoined, span, program, step}
 use Rattle.definitions.specs.Control.{Item}
 use Rattle.definitions.specs.Run.{runItems}
 use Rattle.theorems.specs.Reading.{At}
-use Rattle.theorems.specs.ComesTo.{Gives, Ended, then-comes, and-comes, either-comes, test-comes, some-comes, byte-comes, within-comes}
+use Rattle.theorems.specs.ComesTo.{Gives, Ended, then-comes, and-comes, either-comes, test-comes, some-comes, byte-comes, within-comes, one-comes}
 use Rattle.theorems.specs.Runs.{StepOr, EndOf, inner-all, items-all, runItems-ends}
 use Rattle.theorems.specs.Changes.{HoldsEd, HoldsState, HoldsOut, step-keeps}
-use Rattle.theorems.specs.ReadFar.{AnyLine, AnyText, Sourced, sourced-closed, sourced-keeps}
-use Rattle.theorems.specs.Reaching.{Live, Grounded, GroundedState, StoppedState, GroundedOut, other-number, Halts, ComesGrounded, struck-grounded, meetsEof}
+use Rattle.theorems.specs.ReadFar.{AnyLine, AnyText, AnyGlobal, Sourced, sourced-closed, sourced-keeps}
+use Rattle.theorems.specs.Reaching.{LiveRecord, Grounded, GroundedState, StoppedState, GroundedOut, other-number, Halts, ComesGrounded, struck-grounded, meetsEof}
 use Rattle.theorems.specs.GroundedMoves.{Ground, OnLine, Spans, line-grounded, spans-grounded, back-comes, point-comes, lineOr-comes, goAhead-comes, nextOr30-comes, goTo-comes, span-comes}
 
 -- ---- changes of records
 
-change-live : (old new : Line) → Live (change old new)
+change-live : (old new : Line) → LiveRecord (change old new)
 unfolding change
 change-live old new = by (eqLine old new)
   where
-    by : (c : Bool) → Live (cond c (kept old) (changed old new))
+    by : (c : Bool) → LiveRecord (cond c (kept old) (changed old new))
     by true = tt
     by false = tt
 
-rewrite-live : (r : Record) (new : Line) → Live r → Live (rewrite r new)
+rewrite-live : (r : Record) (new : Line) → LiveRecord r → LiveRecord (rewrite r new)
 unfolding rewrite
 rewrite-live (kept l) new h = change-live l new
 rewrite-live (changed o n) new h = change-live o new
@@ -93,12 +93,20 @@ abbrev Does : Did → Ed → Tape → Type 0
 Does (answers b) e t = Grounded e t
 Does (changes xs) e t = Grounded e t × EditsFrom xs e t
 Does quits e t = Grounded e t
+Does (adds x) e t = Grounded e t
+Does cancels e t = Grounded e t
+
+-- a seventeenth is 31
+more-grounded : (c : Carried) (x : Global) (e : Ed) (t : Tape) → Grounded e t → GroundedOut (oneMore c x e) t
+more-grounded (carried gs) x e t h = one-comes (λ o. GroundedOut o t) gs x e (λ q. h) (unfold stopNumber in (other-number 31 e t tt h))
 
 finish-grounded : (g : Given) (c : Carried) (r : Ran Did) (t : Tape) → Ended Does Halts r t → At GroundedOut (finish g c r t)
 unfolding finish
 finish-grounded g c (gave (answers b) e) t h = h
 finish-grounded g c (gave (changes xs) e) t h = within-comes GroundedOut g c e (edits xs e) t (λ x. edits-grounded xs e t (h .1)) (unfold stopNumber in (other-number 26 e t tt (h .0)))
 finish-grounded g c (gave quits e) t h = other-number 0 e t tt h
+finish-grounded g c (gave (adds x) e) t h = more-grounded c x e t h
+finish-grounded g c (gave cancels e) t h = h
 finish-grounded g c (stopped n e) t h = h
 
 -- ---- parts of programs
@@ -220,6 +228,8 @@ module _ (g : Given) (c : Carried) where
   program-comes (split after q) e t s h = with-line n20 _ (λ x. placed q (x .0) (x .1) _ (λ i. cut-comes _ _)) e t h
   program-comes (join l) e t s h =
       with-line n20 _ (λ x e₁ t₁ h₁. then-comes g c (λ m. OnLine) Does Halts nextOr30 _ e₁ t₁ (nextOr30-comes g c e₁ t₁ h₁) (λ m. joined-comes _ _)) e t h
+  program-comes (addGlobal d l new) e t s h = unfold runs in h
+  program-comes cancelGlobals e t s h = unfold runs in h
   program-comes (point b q) e t s h = with-line n20 _ (λ x. placed q (x .0) (x .1) _ (λ i. pointed _)) e t h
   program-comes pointStart e t s h = at-line n20 _ (pointed 0) e t h
   program-comes right e t s h = with-byte _ (λ x. pointed _) e t h
@@ -230,28 +240,28 @@ module _ (g : Given) (c : Carried) where
 -- ---- the theorem
 
 -- for every step, also one that stops the run
-pub step-grounded : (g : Given) (op : Op) (s : RunState) (t : Tape) → HoldsState Sourced s t → GroundedState s t → At GroundedOut (step g op s t)
+pub step-grounded : (g : Given) (op : Op) (s : RunState) (t : Tape) → HoldsState AnyGlobal Sourced s t → GroundedState s t → At GroundedOut (step g op s t)
 unfolding step perform bind
-step-grounded g op (state e c) t s h = finish-grounded g c ((runs g c (program op) e t) .0) ((runs g c (program op) e t) .1) (program-comes g c op e t s h)
+step-grounded g op (state e c) t s h = finish-grounded g c ((runs g c (program op) e t) .0) ((runs g c (program op) e t) .1) (program-comes g c op e t (s .0) h)
 
 -- with the first source line read
 abbrev pub Settled : RunState → Tape → Type 0
-Settled s t = HoldsState Sourced s t × GroundedState s t
+Settled s t = HoldsState AnyGlobal Sourced s t × GroundedState s t
 
-both : (o : Out) (t : Tape) → HoldsOut Sourced o t → GroundedOut o t → StepOr Settled StoppedState o t
+both : (o : Out) (t : Tape) → HoldsOut AnyGlobal Sourced o t → GroundedOut o t → StepOr Settled StoppedState o t
 both (on b s) t h k = (h, k)
 both (edited s) t h k = (h, k)
 both (halt n s) t h k = k
 
 step-settled : (g : Given) (op : Op) (s : RunState) (t : Tape) → Settled s t → At (StepOr Settled StoppedState) (step g op s t)
 step-settled g op s t h =
-    both ((step g op s t) .0) ((step g op s t) .1) (step-keeps AnyLine AnyText Sourced sourced-closed g op s t (sourced-keeps (program op)) (h .0)) (step-grounded g op s t (h .0) (h .1))
+    both ((step g op s t) .0) ((step g op s t) .1) (step-keeps AnyLine AnyText AnyGlobal Sourced sourced-closed g op s t (sourced-keeps (program op)) (h .0)) (step-grounded g op s t (h .0) (h .1))
 
-pub opening-settled : (t : Tape) → Settled (state ((opening t) .0) carried) ((opening t) .1)
-unfolding opening sources oldSide oldOf
-opening-settled (unread []) = (tt, refl)
-opening-settled (unread (l ∷ ls)) = (omega arith, tt)
-opening-settled ended = (tt, refl)
+pub opening-settled : (t : Tape) → Settled (state ((opening t) .0) noGlobals) ((opening t) .1)
+unfolding opening sources oldSide oldOf noGlobals
+opening-settled (unread []) = ((tt, tt), refl)
+opening-settled (unread (l ∷ ls)) = ((omega arith, tt), tt)
+opening-settled ended = ((tt, tt), refl)
 
 other-state : (n : ℕ) (s : RunState) (t : Tape) → T (not (meetsEof n)) → Settled s t → StoppedState n s t
 other-state n (state e c) t k h = other-number n e t k (h .1)

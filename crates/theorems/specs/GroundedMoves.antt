@@ -2,7 +2,7 @@
 use mathlib.Core.Path.{_≡_, refl}
 use mathlib.Core.Bool.{Bool, true, false}
 use mathlib.Core.Option.{Option, none, some}
-use mathlib.Core.List.{List, [], _∷_, _++_, map, reverseAux}
+use mathlib.Core.List.{List, [], _∷_, _++_, reverseAux}
 use Prim.Native.Nat.{ℕ, zero, suc, _+_, _-_, _≤_}
 use native.Mathlib.Omega.{arith}
 use native.Mathlib.Nat.{le-of-suc-le-suc}
@@ -17,11 +17,12 @@ use Rattle.definitions.specs.Editor.{Ed, ed, records, sources, beforeOf, afterO
 use Rattle.definitions.specs.Editor.{Move, ahead, back, to, pointTo, goBack, locate, moved}
 use Rattle.definitions.specs.StepProgram.{Program, gives, looks, _>>=_, _>>_, runs}
 use Rattle.definitions.specs.Edit.{orStop, either, see, readUpTo, go, readPast, goAhead, goTo, lineIn, lineOr, nextOr30, countThrough, reach, span}
+use Rattle.theorems.specs.Each.{Each}
 use Rattle.theorems.specs.RecordLaws.{sources-reverse}
 use Rattle.theorems.specs.ComesTo.{Gives, OnGot, then-comes, and-comes, go-comes, test-comes}
 use Rattle.theorems.specs.Changes.{HoldsEd}
 use Rattle.theorems.specs.ReadFar.{AtLeast, atLeast-more, atLeast-both, atLeast-none, Sourced}
-use Rattle.theorems.specs.Reaching.{Grounded, other-number, Halts, ComesGrounded, Reaches, land-grounded, reaches-ended, reaches-kept, reaches-live, reaches-none, drop-over, ReadUpTo, sources-read, read-comes}
+use Rattle.theorems.specs.Reaching.{Grounded, other-number, Halts, ComesGrounded, Reaches, land-grounded, reaches-ended, reaches-live, reaches-none, drop-over, AsRead, reaches-read, ReadUpTo, sources-read, read-comes}
 
 -- ---- where a part has come to
 
@@ -95,14 +96,14 @@ ahead-grounded (ed before [] p) t h = h .0
 ahead-grounded (ed before (r ∷ after) p) t h = land-grounded (r ∷ before) after t (h .1)
 
 -- to a target that is read
-arrived : (a : Target) (before after : List Record) (p : ℕ) (t : Tape) (ls : List Line) (t′ : Tape) → AtLeast t 1 (sources (reverseAux before after)) → ReadUpTo a before after p t ls t′
-    → GroundedGot (ed before (after ++ map kept ls) p) t′ (to a)
+arrived : (a : Target) (before after : List Record) (p : ℕ) (t : Tape) (rs : List Record) (t′ : Tape) → AtLeast t 1 (sources (reverseAux before after)) → ReadUpTo a before after p t rs t′
+    → GroundedGot (ed before (after ++ rs) p) t′ (to a)
 unfolding moved records
-arrived here before after p t ls t′ s r = same-line before (after ++ map kept ls) p 0 t′ (r .grounded)
-arrived (line n) before after p t ls t′ s r =
-    locate-grounded (ed before (after ++ map kept ls) p) t′ (r .grounded) (n - 1) [] (reverseAux before (after ++ map kept ls))
+arrived here before after p t rs t′ s r = same-line before (after ++ rs) p 0 t′ (r .grounded)
+arrived (line n) before after p t rs t′ s r =
+    locate-grounded (ed before (after ++ rs) p) t′ (r .grounded) (n - 1) [] (reverseAux before (after ++ rs))
     (atLeast-both t′ n _ 1 (suc (n - 1)) _ (λ x y. omega (arith, x, y)) (r .reached) (r .still 1 s))
-arrived eof before after p t ls t′ s r = r .reached
+arrived eof before after p t rs t′ s r = r .reached
 
 module _ (g : Given) (c : Carried) where
   pub go-grounded : (x : Move) (e : Ed) (t : Tape) → GroundedGot e t x → ComesGrounded g c Ground (go x) e t
@@ -121,11 +122,11 @@ module _ (g : Given) (c : Carried) where
   lineOr-comes n (ed before [] p) t h = (h, λ x. h)
   lineOr-comes n (ed before (r ∷ after) p) t h = h
 
-  past-reaches : (k : ℕ) (before after : List Record) (ls : List Line) (t : Tape) → k ≤ length after
-      → AtLeast t (suc (sources (reverseAux before after))) (sources (reverseAux before (after ++ map kept ls))) → Reaches (drop k (after ++ map kept ls)) t
-  past-reaches k before after ls ended le h = reaches-ended (drop k (after ++ map kept ls))
-  past-reaches k before after [] (unread us) le h = absurd (omega (arith, h, sources-read before after []))
-  past-reaches k before after (l ∷ ls) (unread us) le h = rw (drop-over k after (kept l ∷ map kept ls) le) (reaches-kept (drop k after) l (map kept ls) (unread us))
+  past-reaches : (k : ℕ) (before after rs : List Record) (t : Tape) → Each AsRead rs → k ≤ length after
+      → AtLeast t (suc (sources (reverseAux before after))) (sources (reverseAux before (after ++ rs))) → Reaches (drop k (after ++ rs)) t
+  past-reaches k before after rs ended a le h = reaches-ended (drop k (after ++ rs))
+  past-reaches k before after [] (unread us) a le h = absurd (omega (arith, h, sources-read before after [] tt))
+  past-reaches k before after (r ∷ rs) (unread us) a le h = rw (drop-over k after (r ∷ rs) le) (reaches-read (drop k after) r rs (unread us) (a .0))
 
   -- the next live line after k records
   pub readPast-comes : {A : Type 0} (Q : Gives A) (k : ℕ) (m : Program A) (e : Ed) (t : Tape) → Counted k e t → ((e′ : Ed) (t′ : Tape) → Spans k e′ t′ → ComesGrounded g c Q m e′ t′)
@@ -136,7 +137,7 @@ module _ (g : Given) (c : Carried) where
       by : (x : Bool) → hasLive (drop k after) ≡ x → ComesGrounded g c Q (_>>=_ (either x (gives (tt {0})) (readUpTo (line (suc (sources (reverseAux before after)))))) (λ u. m)) (ed before after p) t
       by true q = unfold either _>>=_ in (f (ed before after p) t (h .0, reaches-live (drop k after) t q))
       by false q = unfold either in (unfold _>>_ in (read-comes g c Q m before after p t (h .0) (line (suc (sources (reverseAux before after))))
-          (λ ls t′ r. f (ed before (after ++ map kept ls) p) t′ (r .grounded, past-reaches k before after ls t′ (h .1) (r .reached)))))
+          (λ rs t′ r. f (ed before (after ++ rs) p) t′ (r .grounded, past-reaches k before after rs t′ (r .asRead) (h .1) (r .reached)))))
 
   pub goAhead-comes : (e : Ed) (t : Tape) → OnLine e t → ComesGrounded g c Ground goAhead e t
   unfolding goAhead
@@ -164,7 +165,7 @@ module _ (g : Given) (c : Carried) where
   pub goTo-comes : (a : Target) (e : Ed) (t : Tape) → HoldsEd Sourced e t → Grounded e t → ComesGrounded g c Ground (goTo a) e t
   unfolding goTo
   goTo-comes a (ed before after p) t s h =
-      read-comes g c Ground (go (to a)) before after p t h a (λ ls t′ r. go-grounded (to a) (ed before (after ++ map kept ls) p) t′ (arrived a before after p t ls t′ s r))
+      read-comes g c Ground (go (to a)) before after p t h a (λ rs t′ r. go-grounded (to a) (ed before (after ++ rs) p) t′ (arrived a before after p t rs t′ s r))
 
   -- ---- D
 
@@ -184,13 +185,13 @@ module _ (g : Given) (c : Carried) where
   reach-comes b (ed before [] p) t h = absurd h
   reach-comes alone (ed before (r ∷ after) p) t h = (h, omega arith)
   reach-comes toEof (ed before (r ∷ after) p) t h =
-      read-comes g c Counted (looks (λ e. gives (length (afterOf e)))) before (r ∷ after) p t h eof (λ ls t′ q. unfold runs afterOf in (q .grounded, omega arith))
+      read-comes g c Counted (looks (λ e. gives (length (afterOf e)))) before (r ∷ after) p t h eof (λ rs t′ q. unfold runs afterOf in (q .grounded, omega arith))
   reach-comes (upTo b) (ed before (r ∷ after) p) t h =
       test-comes g c Counted Halts n28 (leb b (sources before)) _ (ed before (r ∷ after) p) t (λ x. unfold stopNumber in (other-number 28 (ed before (r ∷ after) p) t tt h))
       (λ x. read-comes g c Counted (looks (λ e. countThrough 0 (b - suc (sources before)) (afterOf e))) before (r ∷ after) p t h (line b)
-      (λ ls t′ q. unfold runs afterOf in (count-comes (ed before ((r ∷ after) ++ map kept ls) p) t′ (q .grounded) 0 (b - suc (sources before)) ((r ∷ after) ++ map kept ls)
+      (λ rs t′ q. unfold runs afterOf in (count-comes (ed before ((r ∷ after) ++ rs) p) t′ (q .grounded) 0 (b - suc (sources before)) ((r ∷ after) ++ rs)
       (atLeast-more t′ b _ (suc (b - suc (sources before))) _
-      (λ y. omega (arith, y, sources-reverse before ((r ∷ after) ++ map kept ls), leb-false b (sources before) x)) (q .reached)) (unfold afterOf in (omega arith)))))
+      (λ y. omega (arith, y, sources-reverse before ((r ∷ after) ++ rs), leb-false b (sources before) x)) (q .reached)) (unfold afterOf in (omega arith)))))
 
   pub span-comes : (a : Target) (b : Through) (e : Ed) (t : Tape) → HoldsEd Sourced e t → Grounded e t → ComesGrounded g c Spans (span a b) e t
   unfolding span

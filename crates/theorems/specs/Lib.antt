@@ -9,9 +9,12 @@ pub mod Reading
 pub mod OldSide
 pub mod ReadTo
 pub mod ComesTo
+pub mod Passing
 pub mod Step
 pub mod Runs
 pub mod Demand3
+pub mod Rest
+pub mod Sixteen
 pub mod Accepted
 pub mod Answers
 pub mod Fits
@@ -19,6 +22,7 @@ pub mod Demand3Items
 pub mod Changes
 pub mod GoodItems
 pub mod GoodLines
+pub mod GoodGlobals
 pub mod GoodSteps
 pub mod GoodRecords
 pub mod Nesting
@@ -36,6 +40,7 @@ pub mod Budget
 pub mod Frames
 pub mod NestingExamples
 pub mod GoodScripts
+pub mod StopPlaces
 pub mod RunReadsBack
 pub mod Demand3Proof
 pub mod Demand3Values

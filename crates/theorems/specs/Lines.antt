@@ -7,8 +7,8 @@ use Prim.Native.Nat.{ℕ, zero, suc, _+_, _≤_, _<_}
 use native.Mathlib.Omega.{arith}
 use lib.ListN.{length, drop}
 use lib.Dec.{eqb, leb}
-use borrow.Author.Tests.{leb-true, le-leb, ne-eqb}
-use Rattle.definitions.specs.Bytes.{Line, before, linesOf, isText, allText, isLine, allLines, lastByte, areLines}
+use borrow.Author.Tests.{leb-true, le-leb, eq-eqb, ne-eqb, eqb-true}
+use Rattle.definitions.specs.Bytes.{Line, eqLine, before, linesOf, isText, allText, isLine, allLines, lastByte, areLines}
 use Rattle.definitions.specs.Table.{isScript}
 use Rattle.definitions.specs.Reader.{stringUpTo}
 use Rattle.definitions.specs.Commands.{isZ, UpToZ, upToZ, noZ, addLine, linesUpToZ}
@@ -204,3 +204,20 @@ taken-from bs = go (linesUpToZ (linesOf bs)) (taken (linesOf bs))
     go : (u : UpToZ) → Taken (linesOf bs) u → TakenFrom bs u
     go (upToZ ms n) h = (omega (arith, h .0, weight-lines bs), h .1)
     go noZ h = tt
+
+-- ---- equal lines
+
+pub equal-itself : (l : Line) → eqLine l l ≡ true
+unfolding eqLine
+equal-itself [] = refl
+equal-itself (x ∷ l) = rw (eq-eqb x x refl, equal-itself l)
+
+pub equal-is : (a b : Line) → eqLine a b ≡ true → a ≡ b
+unfolding eqLine
+equal-is [] [] h = refl
+equal-is [] (y ∷ b) h = absurd (let z : _≡_ {A = ℕ} 0 1 = cc in omega arith)
+equal-is (x ∷ a) [] h = absurd (let z : _≡_ {A = ℕ} 0 1 = cc in omega arith)
+equal-is (x ∷ a) (y ∷ b) h =
+    let p : x ≡ y = eqb-true x y (and-left (eqb x y) (eqLine a b) h) in
+    let q : a ≡ b = equal-is a b (and-right (eqb x y) (eqLine a b) h) in
+    cc

@@ -37,7 +37,7 @@ closesIn (lineEnd ∷ rest) = closesIn rest
 -- ---- where the reading of items stands after some of them
 
 -- the bodies `bs` are open after the items `front`, where `n` were open before, and the items `back` go on from there
-record Stands (n : ℕ) (front back : List Item) : Type 0 where
+record NestedTo (n : ℕ) (front back : List Item) : Type 0 where
   bs : List Body
   count : n + opensIn front ≡ length bs + closesIn front
   goes-on : nestedFrom bs back ≡ true
@@ -110,13 +110,13 @@ comes i bs rest h = go (after i bs) refl h
     go none e q = absurd (false≢true q)
     go (some bs′) e q = (bs′, e, q)
 
-stands : (front back : List Item) (bs : List Body) → nestedFrom bs (front ++ back) ≡ true → Stands (length bs) front back
+stands : (front back : List Item) (bs : List Body) → nestedFrom bs (front ++ back) ≡ true → NestedTo (length bs) front back
 unfolding opensIn closesIn
 stands [] back bs h = record { bs = bs; count = refl; goes-on = h }
 stands (i ∷ front) back bs h = go (comes i bs (front ++ back) h) (λ bs′ q. stands front back bs′ q)
   where
     go : ((bs′ : List Body) × (after i bs ≡ some bs′) × (nestedFrom bs′ (front ++ back) ≡ true))
-        → ((bs′ : List Body) → nestedFrom bs′ (front ++ back) ≡ true → Stands (length bs′) front back) → Stands (length bs) (i ∷ front) back
+        → ((bs′ : List Body) → nestedFrom bs′ (front ++ back) ≡ true → NestedTo (length bs′) front back) → NestedTo (length bs) (i ∷ front) back
     go (bs′, e, q) on = record {
       bs = on bs′ q .bs;
       count = omega (arith, on bs′ q .count, after-length i front bs bs′ e);
@@ -140,7 +140,7 @@ pub all-close : (all : List Item) → nested all ≡ true → closesIn all ≡ o
 unfolding nested nestedFrom
 all-close all h = ends (stands all [] [] (rw (append-nil all) h))
   where
-    ends : Stands 0 all [] → closesIn all ≡ opensIn all
+    ends : NestedTo 0 all [] → closesIn all ≡ opensIn all
     ends y = omega (arith, y .count, none-left (y .bs) (y .goes-on))
 
 -- line ends stand outside all bodies
@@ -148,7 +148,7 @@ pub line-end-outside : (front back : List Item) → nested (front ++ lineEnd ∷
 unfolding nested after
 line-end-outside front back h = outside (stands front (lineEnd ∷ back) [] h)
   where
-    outside : Stands 0 front (lineEnd ∷ back) → closesIn front ≡ opensIn front
+    outside : NestedTo 0 front (lineEnd ∷ back) → closesIn front ≡ opensIn front
     outside y = at-line (comes lineEnd (y .bs) back (y .goes-on))
       where
         at-line : ((bs′ : List Body) × (after lineEnd (y .bs) ≡ some bs′) × (nestedFrom bs′ back ≡ true)) → closesIn front ≡ opensIn front
@@ -236,7 +236,7 @@ bracket-follows front i back h = at-item (stands front (i ∷ bracket ∷ back) 
         → mayBracket i ≡ true
     at-bracket bs bs′ e (bs″, f, q) = item-wants i bs bs′ e (before-bracket bs′ bs″ f)
 
-    at-item : Stands 0 front (i ∷ bracket ∷ back) → mayBracket i ≡ true
+    at-item : NestedTo 0 front (i ∷ bracket ∷ back) → mayBracket i ≡ true
     at-item y = then-bracket (comes i (y .bs) (bracket ∷ back) (y .goes-on))
       where
         then-bracket : ((bs′ : List Body) × (after i (y .bs) ≡ some bs′) × (nestedFrom bs′ (bracket ∷ back) ≡ true)) → mayBracket i ≡ true

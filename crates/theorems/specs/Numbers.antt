@@ -1,23 +1,24 @@
--- The number of an answer tells how the run ended (document 01, "Who causes which number"): 0 done, 20 to 30 stopped, 1 to 9 refused.
+-- The number of an answer tells how the run ended (document 01, "Who causes which number"): 0 done, 20 to 31 stopped, 1 to 9 refused.
 use mathlib.Core.Path.{_≡_, refl}
 use mathlib.Core.Bool.{Bool, true, false, cond}
 use mathlib.Core.Logic.{_⊎_, inl, inr}
 use mathlib.Core.List.{List}
-use Prim.Native.Nat.{ℕ, _≤_}
+use Prim.Native.Nat.{ℕ, zero, suc, _≤_}
 use native.Mathlib.Omega.{arith}
+use lib.ListN.{length}
 use lib.Dec.{leb}
 use Rattle.definitions.specs.Bytes.{Line, linesOf}
 use Rattle.definitions.specs.Table.{isTable, isScript}
 use Rattle.definitions.specs.Tape.{Tape, unread, bind}
-use Rattle.definitions.specs.Given.{Given, given, bytes, Carried}
-use Rattle.definitions.specs.Editor.{Stop, n20, n21, n22, n23, n24, n25, n26, n27, n28, n30, stopNumber, edits}
-use Rattle.definitions.specs.Reading.{Ran, gave, stopped}
-use Rattle.definitions.specs.StepProgram.{runs, RunState, state, Did, answers, changes, quits, Out, on, edited, halt, finish, perform}
+use Rattle.definitions.specs.Given.{Given, given, bytes, Global, Carried, carried}
+use Rattle.definitions.specs.Editor.{Ed, Stop, n20, n21, n22, n23, n24, n25, n26, n27, n28, n30, n31, stopNumber, eof, edits}
+use Rattle.definitions.specs.Reading.{Ran, gave, stopped, readTo}
+use Rattle.definitions.specs.StepProgram.{runs, RunState, state, Did, answers, changes, quits, adds, cancels, Out, on, edited, halt, oneMore, finish, perform}
 use Rattle.definitions.specs.Edit.{Op, program, step}
 use Rattle.definitions.specs.Control.{Item}
 use Rattle.definitions.specs.Script.{Script, items, refusedAt, readScript}
-use Rattle.definitions.specs.Run.{End, end, runItems, Answer, answer, refusal, answerOf, ranItems, openingLength, workLength, ranTable, ranScript, runAnswer, answerNumber}
-use Rattle.theorems.specs.ComesTo.{within-comes}
+use Rattle.definitions.specs.Run.{End, end, runItems, Answer, answer, refusal, restPassed, answerOf, ranItems, openingLength, workLength, ranTable, ranScript, runAnswer, answerNumber}
+use Rattle.theorems.specs.ComesTo.{within-comes, one-comes}
 use Rattle.theorems.specs.Reading.{At}
 use Rattle.theorems.specs.Runs.{StepOr, EndOf, inner-all, items-all, runItems-ends}
 use Rattle.theorems.specs.ReadScript.{refusal-numbers}
@@ -27,13 +28,13 @@ use Rattle.theorems.specs.Demand3.{IsAccepted}
 
 -- the number with which a step ends a run: W's 0, or a stop's; 29 is none of them
 abbrev pub StepNumber : ℕ → Type 0
-StepNumber n = (n ≡ 0) ⊎ ((20 ≤ n) × (n ≤ 30) × (n ≡ 29 → ⊥))
+StepNumber n = (n ≡ 0) ⊎ ((20 ≤ n) × (n ≤ 31) × (n ≡ 29 → ⊥))
 
 -- a step goes on, or ends the run with such a number
 abbrev pub StepNumbered : Out → Tape → Type 0
 StepNumbered o t = StepOr (λ s u. Unit {0}) (λ n s u. StepNumber n) o t
 
-stop-number : (n : Stop) → StepNumber (stopNumber n)
+pub stop-number : (n : Stop) → StepNumber (stopNumber n)
 unfolding stopNumber
 stop-number n20 = inr (omega arith, omega arith, λ q. omega (arith, q))
 stop-number n21 = inr (omega arith, omega arith, λ q. omega (arith, q))
@@ -45,12 +46,18 @@ stop-number n26 = inr (omega arith, omega arith, λ q. omega (arith, q))
 stop-number n27 = inr (omega arith, omega arith, λ q. omega (arith, q))
 stop-number n28 = inr (omega arith, omega arith, λ q. omega (arith, q))
 stop-number n30 = inr (omega arith, omega arith, λ q. omega (arith, q))
+stop-number n31 = inr (omega arith, omega arith, λ q. omega (arith, q))
+
+one-number : (c : Carried) (x : Global) (e : Ed) (t : Tape) → StepNumbered (oneMore c x e) t
+one-number (carried gs) x e t = one-comes (λ o. StepNumbered o t) gs x e (λ room. tt) (stop-number n31)
 
 finish-number : (g : Given) (c : Carried) (r : Ran Did) (t : Tape) → At StepNumbered (finish g c r t)
 unfolding finish
 finish-number g c (gave (answers b) e) t = tt
 finish-number g c (gave (changes xs) e) t = within-comes StepNumbered g c e (edits xs e) t (λ x. tt) (stop-number n26)
 finish-number g c (gave quits e) t = inl refl
+finish-number g c (gave (adds x) e) t = one-number c x e t
+finish-number g c (gave cancels e) t = tt
 finish-number g c (stopped n e) t = stop-number n
 
 pub step-number : (g : Given) (op : Op) (s : RunState) (t : Tape) → At StepNumbered (step g op s t)
@@ -59,9 +66,9 @@ step-number g op (state e c) t = finish-number g c ((runs g c (program op) e t) 
 
 -- ---- the answer
 
--- "done (0)", or a number of "The run: 20 .. 29", or wish 1's 30
+-- "done (0)", or a number of "The run: 20 .. 29", or document 02's 30 and 31
 abbrev pub EndNumber : ℕ → Type 0
-EndNumber n = (n ≡ 0) ⊎ ((20 ≤ n) × (n ≤ 30))
+EndNumber n = (n ≡ 0) ⊎ ((20 ≤ n) × (n ≤ 31))
 
 -- a number of "The script's author", "The table's keeper", or 8 and 9 of "The loader"
 abbrev pub RefusalNumber : ℕ → Type 0
@@ -88,14 +95,21 @@ step-ends g op s t = by ((step g op s t) .0) ((step g op s t) .1) (step-number g
     by (edited x) u h = tt
     by (halt n x) u h = ends n h
 
-end-numbered : (x : End) (t : Tape) → EndOf Ends x t → Numbered (answerOf x t)
-unfolding answerOf Numbered
-end-numbered (end n steps at s) t h = h
+-- a done run has 0, or the number with which the globals stop after the script's end
+rest-numbered : (steps place : ℕ) (e : Ed) (t : Tape) (r : Ran (Unit {0})) → Numbered (restPassed steps place e t r)
+unfolding restPassed Numbered
+rest-numbered steps place e t (gave u all) = inl refl
+rest-numbered steps place e t (stopped n e′) = ends (stopNumber n) (stop-number n)
 
-items-numbered : (g : Given) (budget : ℕ) (is : List Item) (ls : List Line) → Numbered (ranItems (step g) budget is ls)
+end-numbered : (g : Given) (place : ℕ) (x : End) (t : Tape) → EndOf Ends x t → Numbered (answerOf g place x t)
+unfolding answerOf
+end-numbered g place (end zero steps at (state e c)) t h = rest-numbered steps place e t ((readTo g c eof e t) .0)
+end-numbered g place (end (suc n) steps at s) t h = unfold Numbered in h
+
+items-numbered : (g : Given) (place budget : ℕ) (is : List Item) (ls : List Line) → Numbered (ranItems g place budget is ls)
 unfolding ranItems
-items-numbered g budget is ls =
-    end-numbered ((runItems (step g) budget is (unread ls)) .0) ((runItems (step g) budget is (unread ls)) .1)
+items-numbered g place budget is ls =
+    end-numbered g place ((runItems (step g) budget is (unread ls)) .0) ((runItems (step g) budget is (unread ls)) .1)
     (runItems-ends (λ op. Unit {0}) (inner-all (λ op. Unit {0}) (λ op. tt)) (λ s t. Unit {0}) Ends (λ s t h. inl refl) (λ s t h. inr (omega arith, omega arith)) (step g)
     (λ op s t u h. step-ends g op s t) budget is (unread ls) (items-all (λ op. Unit {0}) (λ op. tt) is) tt)
 
@@ -104,17 +118,17 @@ unfolding Numbered
 cond-numbered true a n at h k = h
 cond-numbered false a n at h k = k
 
-script-numbered : (table : List ℕ) (budget size : ℕ) (script : List ℕ) (r : Script) → readScript script ≡ r → Numbered (ranScript table budget size r)
+script-numbered : (table : List ℕ) (budget size : ℕ) (script : List ℕ) (r : Script) → readScript script ≡ r → Numbered (ranScript table (length script) budget size r)
 unfolding ranScript ranTable Numbered
 script-numbered table budget size script (items is) e =
     cond-numbered (isTable table) _ 7 0
-    (cond-numbered (leb (openingLength (linesOf table)) size) _ 9 0 (items-numbered (given (bytes size)) budget is (linesOf table)) (omega arith, omega arith))
+    (cond-numbered (leb (openingLength (linesOf table)) size) _ 9 0 (items-numbered (given (bytes size)) (length script) budget is (linesOf table)) (omega arith, omega arith))
     (omega arith, omega arith)
 script-numbered table budget size script (refusedAt n at) e =
     let k : (2 ≤ n) × (n ≤ 6) = refusal-numbers script n at e in
     (omega (arith, k .0), omega (arith, k .1))
 
--- THE LAW: refusals have the numbers 1 to 9, all other answers 0 or 20 to 30
+-- THE LAW: refusals have the numbers 1 to 9, all other answers 0 or 20 to 31
 pub answer-numbered : (table script : List ℕ) (budget work size : ℕ) → Numbered (runAnswer table script budget work size)
 unfolding runAnswer
 answer-numbered table script budget work size =

@@ -1,15 +1,15 @@
 -- How far reading has come, and that the first source line, or EOF, is read from the start on.
 use mathlib.Core.Path.{_≡_, refl, sym, subst}
 use mathlib.Core.List.{List, [], _∷_, reverseAux}
-use Prim.Native.Nat.{ℕ, zero, suc, _≤_, _<_, zero-le}
+use Prim.Native.Nat.{ℕ, _≤_, _<_}
 use native.Mathlib.Omega.{arith}
 use lib.ListN.{length}
 use Rattle.definitions.specs.Bytes.{Line}
 use Rattle.definitions.specs.Journal.{Record, kept, oldSide}
 use Rattle.definitions.specs.Tape.{Tape, unread, ended}
+use Rattle.definitions.specs.Given.{Global}
 use Rattle.definitions.specs.Editor.{sources}
 use Rattle.definitions.specs.StepProgram.{Program, Did}
-use Rattle.theorems.specs.ReadLines.{readNext}
 use Rattle.theorems.specs.Changes.{Statement, Closed, Keeps, any-keeps}
 use Rattle.theorems.specs.RecordLaws.{reverse-append, sources-append, old-same, erase-old, rewrite-old, insert-old}
 
@@ -34,27 +34,21 @@ pub atLeast-none : (t : Tape) (n m : ℕ) → m < n → AtLeast t n m → t ≡ 
 atLeast-none ended n m l h = refl
 atLeast-none (unread ls) n m l h = absurd (omega (arith, l, h))
 
--- as many lines are read as asked, or EOF
-pub next-far : (n : ℕ) (t : Tape) → AtLeast ((readNext n t) .1) n (length ((readNext n t) .0))
-unfolding readNext
-next-far zero t = atLeast-of t 0 0 zero-le
-next-far (suc n) ended = tt
-next-far (suc n) (unread []) = tt
-next-far (suc n) (unread (l ∷ ls)) =
-    atLeast-more ((readNext n (unread ls)) .1) n (length ((readNext n (unread ls)) .0)) (suc n) (suc (length ((readNext n (unread ls)) .0))) (λ h. omega (arith, h)) (next-far n (unread ls))
-
 -- ---- the first source line
 
 -- the first source line is read
 abbrev pub Sourced : Statement
 Sourced before after t = AtLeast t 1 (sources (reverseAux before after))
 
--- nothing is asked of lines and texts
+-- nothing is asked of lines, texts and globals
 abbrev pub AnyLine : Line → Type 0
 AnyLine l = Unit {0}
 
 abbrev pub AnyText : Line → Line → Type 0
 AnyText old new = Unit {0}
+
+abbrev pub AnyGlobal : Global → Type 0
+AnyGlobal x = Unit {0}
 
 -- the same old lines
 sourced-same : (t : Tape) (xs ys : List Record) → oldSide xs ≡ oldSide ys → AtLeast t 1 (sources ys) → AtLeast t 1 (sources xs)
@@ -62,7 +56,7 @@ unfolding sources
 sourced-same t xs ys e h = subst (λ (ls : List Line). AtLeast t 1 (length ls)) (sym e) h
 
 -- every change keeps it
-pub sourced-closed : Closed AnyLine AnyText Sourced
+pub sourced-closed : Closed AnyLine AnyText AnyGlobal Sourced
 sourced-closed = record {
   over = λ before r after t h. h;
   back = λ before r after t h. h;
@@ -71,8 +65,9 @@ sourced-closed = record {
   inserts = λ before after t l k h. sourced-same t _ (reverseAux before after) (insert-old before l after) h;
   reads = λ before after l ls h. rw (reverse-append before after (kept l ∷ []), sources-append) (omega (arith, h));
   ends = λ before after h. tt;
+  passes = λ gs l new a q. tt;
 }
 
 -- so does every program
-pub sourced-keeps : (m : Program Did) → Keeps AnyLine AnyText Sourced m
-sourced-keeps m = any-keeps AnyLine AnyText Sourced sourced-closed (λ l. tt) (λ old new. tt) m
+pub sourced-keeps : (m : Program Did) → Keeps AnyLine AnyText AnyGlobal Sourced m
+sourced-keeps m = any-keeps AnyLine AnyText AnyGlobal Sourced sourced-closed (λ l. tt) (λ old new. tt) (λ x. tt) m

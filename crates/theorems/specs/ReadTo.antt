@@ -1,17 +1,19 @@
 -- Reading up to a target, line by line: it keeps the old side, depends on no more lines than it reads, and may stop. What is said of one line stands
 -- first; nothing below it looks into how a line is read.
 use mathlib.Core.Path.{_≡_, refl, ap, _∙_}
-use mathlib.Core.Logic.{_⊎_, inr}
+use mathlib.Core.Bool.{Bool, true, false, cond}
+use mathlib.Core.Logic.{_⊎_, inl, inr}
 use mathlib.Core.List.{List, [], _∷_, _++_, append-assoc}
 use Prim.Native.Nat.{ℕ, zero, suc, _-_}
 use lib.ListN.{length}
-use Rattle.definitions.specs.Bytes.{Line}
-use Rattle.definitions.specs.Journal.{kept, oldOf, oldSide}
-use Rattle.definitions.specs.Tape.{Tape, unread, ended, restLines, Reads, bind}
+use Rattle.definitions.specs.Bytes.{Line, eqLine}
+use Rattle.definitions.specs.Journal.{kept, changed, oldOf, oldSide}
+use Rattle.definitions.specs.Tape.{Tape, unread, ended, restLines, Reads, ret, bind}
 use Rattle.definitions.specs.Given.{Given, given, bytes, boundless, Carried}
-use Rattle.definitions.specs.Editor.{Ed, records, sources, stopNumber, Target, here, line, eof}
-use Rattle.definitions.specs.Reading.{Ran, gave, stopped, onceRead, seen, readLine, readLines, readTo}
-use Rattle.theorems.specs.Reading.{Local, metEof, readOnly, Faithful, ret-faithful, bind-faithful}
+use Rattle.definitions.specs.Globals.{leftBy}
+use Rattle.definitions.specs.Editor.{Ed, records, journal, sources, Stop, n26, stopNumber, Got, got, stop, Target, here, line, eof}
+use Rattle.definitions.specs.Reading.{Ran, gave, stopped, onceRead, seen, hasRoom, readChanged, readAs, readLine, readLines, readTo}
+use Rattle.theorems.specs.Reading.{At, Local, metEof, readOnly, Faithful, ret-faithful, bind-faithful}
 use Rattle.theorems.specs.OldSide.{oldEd, seen-old}
 
 -- the old lines where a part of a step has come to
@@ -36,10 +38,19 @@ free = given boundless
 
 -- ---- one line
 
--- the line that is read, and only that, makes a difference
+-- the line that is read, and only that, makes a difference: what the globals make of it, whatever stands after it
+as-takes : (l : Line) (e : Ed) (x : Got Line) → (r : Read) × ((w : List Line) → readAs free l e x (unread w) ≡ (r, unread w))
+unfolding readAs readChanged hasRoom
+as-takes l e (got new) = by (eqLine l new)
+  where
+    by : (same : Bool) → (r : Read) × ((w : List Line) → cond same (ret (gave tt (seen (kept l) e))) (readChanged free l new e) (unread w) ≡ (r, unread w))
+    by true = (gave tt (seen (kept l) e), λ w. refl)
+    by false = (gave tt (seen (changed l new) e), λ w. unfold readChanged hasRoom in refl)
+as-takes l e (stop n) = (stopped n (seen (kept l) e), λ w. refl)
+
 line-takes : (c : Carried) (e : Ed) (l : Line) → (r : Read) × ((w : List Line) → readLine free c e (unread (l ∷ w)) ≡ (r, unread w))
 unfolding readLine
-line-takes c e l = (gave tt (seen (kept l) e), λ w. refl)
+line-takes c e l = as-takes l e (leftBy c l)
 
 -- after the last line comes EOF
 line-ends : (c : Carried) (e : Ed) → (r : Read) × (readLine free c e (unread []) ≡ (r, ended))
@@ -51,15 +62,57 @@ line-stays : (c : Carried) (e : Ed) → (r : Read) × (readLine free c e ended �
 unfolding readLine
 line-stays c e = (gave tt e, refl)
 
+-- what becomes of the line that is read, by cases: it is changed and there is room, or 26
+pub changed-comes : (P : Read → Tape → Type 0) (g : Given) (l new : Line) (e : Ed) (t : Tape) → (hasRoom g (journal (seen (changed l new) e) t) ≡ true → P (gave tt (seen (changed l new) e)) t)
+    → P (stopped n26 (seen (kept l) e)) t → At P (readChanged g l new e t)
+unfolding readChanged
+changed-comes P g l new e t h k = by (hasRoom g (journal (seen (changed l new) e) t)) h
+  where
+    by : (x : Bool) → (x ≡ true → P (gave tt (seen (changed l new) e)) t) → At P (cond x (gave tt (seen (changed l new) e), t) (stopped n26 (seen (kept l) e), t))
+    by true f = f refl
+    by false f = k
+
+-- the text is as it was, or it is changed and there is room; or the globals stop, or there is no room
+pub as-comes : (P : Read → Tape → Type 0) (g : Given) (l : Line) (e : Ed) (x : Got Line) (t : Tape)
+    → ((new : Line) → x ≡ got new → eqLine l new ≡ true → P (gave tt (seen (kept l) e)) t)
+    → ((new : Line) → x ≡ got new → eqLine l new ≡ false → hasRoom g (journal (seen (changed l new) e) t) ≡ true → P (gave tt (seen (changed l new) e)) t)
+    → ((n : Stop) → (x ≡ stop n) ⊎ (n ≡ n26) → P (stopped n (seen (kept l) e)) t) → At P (readAs g l e x t)
+unfolding readAs
+as-comes P g l e (got new) t same other stops = by (eqLine l new) refl
+  where
+    by : (b : Bool) → eqLine l new ≡ b → At P (cond b (ret (gave tt (seen (kept l) e))) (readChanged g l new e) t)
+    by true q = same new refl q
+    by false q = changed-comes P g l new e t (λ room. other new refl q room) (stops n26 (inr refl))
+as-comes P g l e (stop n) t same other stops = stops n (inl refl)
+
+as-keeps : (size : ℕ) (l : Line) (e : Ed) (x : Got Line) (t : Tape) → At (λ r t′. oldRan r ++ restLines t′ ≡ oldEd e ++ (l ∷ restLines t)) (readAs (lim size) l e x t)
+unfolding oldRan oldSide oldOf
+as-keeps size l e x t =
+    as-comes (λ r t′. oldRan r ++ restLines t′ ≡ oldEd e ++ (l ∷ restLines t)) (lim size) l e x t (λ new q same. rw (seen-old (kept l) e, append-assoc))
+    (λ new q differs room. rw (seen-old (changed l new) e, append-assoc)) (λ n why. rw (seen-old (kept l) e, append-assoc))
+
 line-keeps : (size : ℕ) (c : Carried) (e : Ed) (t : Tape) → oldRan ((readLine (lim size) c e t) .0) ++ restLines ((readLine (lim size) c e t) .1) ≡ oldEd e ++ restLines t
-unfolding readLine restLines oldRan oldSide oldOf
-line-keeps size c e (unread (l ∷ ls)) = rw (seen-old (kept l) e, append-assoc)
+unfolding readLine restLines oldRan
+line-keeps size c e (unread (l ∷ ls)) = unfold restLines in (as-keeps size l e (leftBy c l) (unread ls))
 line-keeps size c e (unread []) = refl
 line-keeps size c e ended = refl
 
+-- 26 apart, the buffer's size makes no difference
+as-bounded : (size : ℕ) (l : Line) (e : Ed) (x : Got Line) (t : Tape) → fullRan ((readAs (lim size) l e x t) .0) ⊎ (readAs (lim size) l e x t ≡ readAs free l e x t)
+unfolding readAs
+as-bounded size l e (got new) t = by (eqLine l new)
+  where
+    by : (b : Bool) → let m = cond b (ret (gave tt (seen (kept l) e))) (readChanged (lim size) l new e) in
+        fullRan ((m t) .0) ⊎ (m t ≡ cond b (ret (gave tt (seen (kept l) e))) (readChanged free l new e) t)
+    by true = inr refl
+    by false =
+        changed-comes (λ r t′. fullRan r ⊎ ((r, t′) ≡ readChanged free l new e t)) (lim size) l new e t (λ room. inr (unfold readChanged hasRoom in refl))
+        (inl (unfold fullRan stopNumber in refl))
+as-bounded size l e (stop n) t = inr refl
+
 line-bounded : (size : ℕ) (c : Carried) (e : Ed) (t : Tape) → fullRan ((readLine (lim size) c e t) .0) ⊎ (readLine (lim size) c e t ≡ readLine free c e t)
 unfolding readLine
-line-bounded size c e (unread (l ∷ ls)) = inr refl
+line-bounded size c e (unread (l ∷ ls)) = as-bounded size l e (leftBy c l) (unread ls)
 line-bounded size c e (unread []) = inr refl
 line-bounded size c e ended = inr refl
 

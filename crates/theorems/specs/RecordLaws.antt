@@ -2,12 +2,12 @@
 use mathlib.Core.Path.{_≡_, refl, sym, ap, _∙_}
 use mathlib.Core.Bool.{Bool, true, false, cond}
 use mathlib.Core.List.{List, [], _∷_, _++_, map, reverseAux, append-assoc}
-use Prim.Native.Nat.{_+_}
+use Prim.Native.Nat.{ℕ, zero, suc, _+_}
 use native.Mathlib.Nat.{zero-add}
 use native.Mathlib.Omega.{arith}
 use lib.ListN.{length, length-append}
 use Rattle.definitions.specs.Bytes.{Line, eqLine}
-use Rattle.definitions.specs.Journal.{Record, kept, changed, deleted, inserted, oldOf, oldSide, change, rewrite, erase}
+use Rattle.definitions.specs.Journal.{Record, kept, changed, deleted, inserted, oldOf, oldSide, change, rewrite, erase, upToLine, afterLine}
 use Rattle.definitions.specs.Editor.{sources}
 
 -- records that are read come last
@@ -78,3 +78,15 @@ sources-reverse (kept l ∷ before) after = sources-reverse before (kept l ∷ a
 sources-reverse (changed o n ∷ before) after = sources-reverse before (changed o n ∷ after) ∙ omega arith
 sources-reverse (deleted l ∷ before) after = sources-reverse before (deleted l ∷ after) ∙ omega arith
 sources-reverse (inserted l ∷ before) after = sources-reverse before (inserted l ∷ after)
+
+-- the journal up to a line and what follows it are the whole journal
+pub upTo-after : (n : ℕ) (rs : List Record) → upToLine n rs ++ afterLine n rs ≡ rs
+unfolding upToLine afterLine
+upTo-after n [] = refl
+upTo-after n (inserted l ∷ rs) = ap {B = List Record} (λ r. inserted l ∷ r) (upTo-after n rs)
+upTo-after zero (kept l ∷ rs) = refl
+upTo-after zero (changed o m ∷ rs) = refl
+upTo-after zero (deleted l ∷ rs) = refl
+upTo-after (suc n) (kept l ∷ rs) = ap {B = List Record} (λ r. kept l ∷ r) (upTo-after n rs)
+upTo-after (suc n) (changed o m ∷ rs) = ap {B = List Record} (λ r. changed o m ∷ r) (upTo-after n rs)
+upTo-after (suc n) (deleted l ∷ rs) = ap {B = List Record} (λ r. deleted l ∷ r) (upTo-after n rs)

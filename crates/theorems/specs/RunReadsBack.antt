@@ -4,11 +4,11 @@ use mathlib.Core.Bool.{true}
 use mathlib.Core.Option.{some}
 use mathlib.Core.List.{List}
 use Prim.Native.Nat.{ℕ}
+use lib.ListN.{length}
 use Rattle.definitions.specs.Bytes.{linesOf}
 use Rattle.definitions.specs.Table.{isTable, isScript}
 use Rattle.definitions.specs.Journal.{Record, oldSide, journalBytes, recordsOf}
 use Rattle.definitions.specs.Given.{given, bytes}
-use Rattle.definitions.specs.Edit.{step}
 use Rattle.definitions.specs.Control.{Item}
 use Rattle.definitions.specs.Script.{items, readScript}
 use Rattle.definitions.specs.Run.{ranItems, runAnswer}
@@ -26,17 +26,17 @@ ReadsBack j = recordsOf (journalBytes j) ≡ some j
 -- every record is good
 pub run-good : (table script : List ℕ) (budget work size : ℕ) → Shown GoodRecords (runAnswer table script budget work size)
 run-good table script budget work size =
-    run-shown GoodRecords table budget size script work
-    (λ g is p h. ran-good size budget is (linesOf table) (good-commands script g is p) (all-lines (linesOf table) (table-lines table h)))
+    run-shown GoodRecords table script budget size work
+    (λ g is p h. ran-good size (length script) budget is (linesOf table) (good-commands script g is p) (all-lines (linesOf table) (table-lines table h)))
 
 -- the journal is read back from its bytes
 pub run-reads-back : (table script : List ℕ) (budget work size : ℕ) → Shown ReadsBack (runAnswer table script budget work size)
-run-reads-back table script budget work size = run-shown ReadsBack table budget size script work back
+run-reads-back table script budget work size = run-shown ReadsBack table script budget size work back
   where
     back : isScript script ≡ true → (is : List Item) → readScript script ≡ items is → isTable table ≡ true
-        → Shown ReadsBack (ranItems (step (given (bytes size))) budget is (linesOf table))
+        → Shown ReadsBack (ranItems (given (bytes size)) (length script) budget is (linesOf table))
     back g is p h =
         shown-both GoodRecords (λ j. oldSide j ≡ linesOf table) ReadsBack (λ j r o. reads-back j r (rw o (table-short table h)))
-        (ranItems (step (given (bytes size))) budget is (linesOf table))
-        (ran-good size budget is (linesOf table) (good-commands script g is p) (all-lines (linesOf table) (table-lines table h)))
-        (shown-records (λ j. oldSide j ≡ linesOf table) (ranItems (step (given (bytes size))) budget is (linesOf table)) (items-old budget is size (linesOf table)))
+        (ranItems (given (bytes size)) (length script) budget is (linesOf table))
+        (ran-good size (length script) budget is (linesOf table) (good-commands script g is p) (all-lines (linesOf table) (table-lines table h)))
+        (shown-records (λ j. oldSide j ≡ linesOf table) (ranItems (given (bytes size)) (length script) budget is (linesOf table)) (items-old script budget is size (linesOf table)))

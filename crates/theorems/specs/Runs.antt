@@ -4,7 +4,7 @@ use mathlib.Core.List.{List, [], _∷_}
 use Prim.Native.Nat.{ℕ, zero, suc}
 use Rattle.definitions.specs.Tape.{Tape, Reads, bind}
 use Rattle.definitions.specs.Search.{Search}
-use Rattle.definitions.specs.Given.{carried}
+use Rattle.definitions.specs.Given.{noGlobals}
 use Rattle.definitions.specs.Reading.{opening}
 use Rattle.definitions.specs.StepProgram.{RunState, state, Out, on, edited, halt}
 use Rattle.definitions.specs.Edit.{Test, Op, onlyStep, test, begin, beginBack, find, findBack, findDelete}
@@ -287,14 +287,14 @@ module _ (Q : Op → Type 0) (inner : Inner Q) (I : RunState → Tape → Type 0
       stepping-ends (λ c′ s′. run take-step budget (suc steps) c′ s′) (λ c′ s′ t′. run-ends budget (suc steps) c′ s′ t′) steps s (pull c) t (pull-of Q inner c h) i
 
   -- what holds of the opening and is kept by every step holds at the end
-  pub runItems-ends : (budget : ℕ) (items : List Item) (t : Tape) → ItemsOf Q items → I (state ((opening t) .0) carried) ((opening t) .1)
+  pub runItems-ends : (budget : ℕ) (items : List Item) (t : Tape) → ItemsOf Q items → I (state ((opening t) .0) noGlobals) ((opening t) .1)
       → EndOf J ((runItems take-step budget items t) .0) ((runItems take-step budget items t) .1)
   unfolding runItems bind
-  runItems-ends budget items t h i = run-ends budget 0 (running items []) (state ((opening t) .0) carried) ((opening t) .1) (h, tt) i
+  runItems-ends budget items t h i = run-ends budget 0 (running items []) (state ((opening t) .0) noGlobals) ((opening t) .1) (h, tt) i
 
 -- the same for a statement that holds whether the run goes on or stops
 pub runItems-keeps : (Q : Op → Type 0) (inner : Inner Q) (I : RunState → Tape → Type 0) (take-step : Op → RunState → Reads Out)
     → ((op : Op) (s : RunState) (t : Tape) → Q op → I s t → AfterStep I ((take-step op s t) .0) ((take-step op s t) .1))
-    → (budget : ℕ) (items : List Item) (t : Tape) → ItemsOf Q items → I (state ((opening t) .0) carried) ((opening t) .1)
+    → (budget : ℕ) (items : List Item) (t : Tape) → ItemsOf Q items → I (state ((opening t) .0) noGlobals) ((opening t) .1)
     → AtEnd I ((runItems take-step budget items t) .0) ((runItems take-step budget items t) .1)
 runItems-keeps Q inner I take-step keeps = runItems-ends Q inner I (λ n. I) (λ s t h. h) (λ s t h. h) take-step keeps

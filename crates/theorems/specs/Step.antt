@@ -2,17 +2,18 @@
 -- command is named here.
 use mathlib.Core.Path.{_≡_, refl, ap, subst}
 use mathlib.Core.Logic.{_⊎_, inl, inr}
+use mathlib.Core.Bool.{true}
 use mathlib.Core.List.{List, [], _∷_, _++_}
 use Prim.Native.Nat.{ℕ}
 use Rattle.definitions.specs.Bytes.{Line}
 use Rattle.definitions.specs.Journal.{kept, oldOf, oldSide}
 use Rattle.definitions.specs.Tape.{Tape, unread, ended, restLines, Reads, bind}
-use Rattle.definitions.specs.Given.{given, bytes, boundless, Carried}
+use Rattle.definitions.specs.Given.{given, bytes, boundless, Global, Carried, carried, noGlobals}
 use Rattle.definitions.specs.Editor.{Ed, ed, records, stopNumber, Got, got, stop, Target, moved, edits}
-use Rattle.definitions.specs.Reading.{Ran, gave, stopped, onceRead, readTo, opening}
-use Rattle.definitions.specs.StepProgram.{Program, gives, stops, looks, reads, moves, onceMoved, runs, RunState, state, Did, answers, changes, quits, Out, on, edited, halt, hasRoom, within, finish, perform}
+use Rattle.definitions.specs.Reading.{Ran, gave, stopped, onceRead, hasRoom, readTo, opening}
+use Rattle.definitions.specs.StepProgram.{Program, gives, stops, looks, reads, moves, onceMoved, runs, RunState, state, Did, answers, changes, quits, adds, cancels, Out, on, edited, halt, within, oneMore, finish, perform}
 use Rattle.definitions.specs.Edit.{Op, program, step}
-use Rattle.theorems.specs.ComesTo.{within-comes}
+use Rattle.theorems.specs.ComesTo.{within-comes, one-comes}
 use Rattle.theorems.specs.Reading.{At, Local, metEof, readOnly, Faithful, never, ret-faithful, bind-faithful}
 use Rattle.theorems.specs.OldSide.{left-old, Left, moved-left, edits-old}
 use Rattle.theorems.specs.ReadTo.{oldRan, fullRan, once-faithful, once-full, to-faithful}
@@ -78,11 +79,18 @@ module _ (size : ℕ) (c : Carried) (e e′ : Ed) where
     stays = (edited (state e′ c), unfold within hasRoom in refl);
   }
 
+-- one global more, or 31: the text is left
+one-old : (c : Carried) (x : Global) (e : Ed) → oldOut (oneMore c x e) ≡ oldEd e
+unfolding oldOut oldState
+one-old (carried gs) x e = one-comes (λ o. oldOut o ≡ oldEd e) gs x e (λ room. refl) refl
+
 finish-faithful : (size : ℕ) (c : Carried) (r : Ran Did) → Faithful (finish (given (bytes size)) c r) (finish (given boundless) c r) oldOut fullOut (oldRan r)
 unfolding finish oldOut oldState oldRan
 finish-faithful size c (gave (answers b) e) = ret-faithful (on b (state e c)) oldOut fullOut (oldEd e) refl
 finish-faithful size c (gave (changes xs) e) = within-faithful size c e (edits xs e) (edits-old xs e)
 finish-faithful size c (gave quits e) = ret-faithful (halt 0 (state e c)) oldOut fullOut (oldEd e) refl
+finish-faithful size c (gave (adds x) e) = ret-faithful (oneMore c x e) oldOut fullOut (oldEd e) (one-old c x e)
+finish-faithful size c (gave cancels e) = ret-faithful (on true (state e noGlobals)) oldOut fullOut (oldEd e) refl
 finish-faithful size c (stopped n e) = ret-faithful (halt (stopNumber n) (state e c)) oldOut fullOut (oldEd e) refl
 
 finish-full : (size : ℕ) (c : Carried) (r : Ran Did) (t : Tape) → fullRan r → fullOut ((finish (given (bytes size)) c r t) .0)

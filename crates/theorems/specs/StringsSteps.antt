@@ -1,19 +1,19 @@
 -- The reader of qualified strings keeps to the script, its rounds are enough, and what it reads is within bounds.
 use mathlib.Core.Path.{_≡_, refl, ap, _∙_}
 use mathlib.Core.Bool.{Bool, true, false, not, _&&_, _||_}
-use mathlib.Core.List.{List}
+use mathlib.Core.List.{List, [], _∷_}
 use Prim.Native.Nat.{ℕ, zero, suc, _≤_}
 use native.Mathlib.Nat.{not-suc-le-zero}
 use native.Mathlib.Omega.{arith}
 use lib.ListN.{length}
 use lib.Dec.{eqb, leb}
-use Rattle.definitions.specs.Bytes.{isDigit, isSmall, upper, isLine}
+use Rattle.definitions.specs.Bytes.{Line, isDigit, isSmall, upper, isLine}
 use Rattle.definitions.specs.Matching.{Anchor, atStart, atEnd, precisely, Qualifiers, qualifiers}
-use Rattle.definitions.specs.Reader.{Cursor, got, refused, bytesLeft, nextByte, afterByte, skipSpaces, isDelimiter, stringNext}
-use Rattle.definitions.specs.Strings.{noQualifiers, isAnchored, clashesWithL, unless, addAnchor, addCount, addL, addN, addW, addU, addS, setColumns, hasColumns, wantsBytes, QualifierByte, byteB, byteE, byteP, byteL, byteN, byteW, byteU, byteS, byteDigit, byteColumns, byteOther, letterOf, qualifierByte, added, readCount, readColumns, readQualifier, readQualifiers, isEmpty, readString, startQualifiers, qualifiedString, Pair, pair, secondString, twoStrings}
+use Rattle.definitions.specs.Reader.{Cursor, got, refused, placeAt, bytesLeft, nextByte, afterByte, skipSpaces, isDelimiter, stringNext}
+use Rattle.definitions.specs.Strings.{noQualifiers, isAnchored, clashesWithL, unless, addAnchor, addCount, addL, addN, addW, addU, addS, setColumns, hasColumns, wantsBytes, QualifierByte, byteB, byteE, byteP, byteL, byteN, byteW, byteU, byteS, byteDigit, byteColumns, byteOther, letterOf, qualifierByte, added, readCount, readColumns, readQualifier, readQualifiers, isEmpty, readString, startQualifiers, qualifiedString, Pair, pair, secondString, twoStrings, plainPair, twoPlainStrings}
 use Rattle.theorems.specs.Lines.{and-left, and-right, and-both}
 use Rattle.theorems.specs.GoodItems.{isNumber, goodColumns, goodQualifiers, goodQualified}
-use Rattle.theorems.specs.ReaderSteps.{Sound, Reached, ReadsWell, gets, refuses, refuses-at, place-short, as-far, continues, then, widen, decides, past-byte, after-byte, past-spaces, expect-reads, number-reads, IsNumber, past-string, string-sound}
+use Rattle.theorems.specs.ReaderSteps.{Sound, Reached, ReadsWell, gets, refuses, refuses-at, place-short, as-far, continues, then, widen, decides, past-byte, after-byte, past-spaces, expect-reads, number-reads, IsNumber, past-string, string-sound, quoted-reads}
 
 -- ---- one qualifier
 
@@ -165,3 +165,19 @@ pub two-reads : {s : List ℕ} {left : ℕ} (c : Cursor) → Reached s left c �
 unfolding twoStrings secondString goodPair
 two-reads c h = then (start-reads false c h) (λ q c₁ h₁ g. then (string-reads q c₁ g h₁) (λ x c₂ h₂ k.
     gets (past-string (nextByte c₁) c₂ h₂) (λ e. and-both (goodQualified x) (isLine (stringNext (nextByte c₁) c₂)) (k e) (string-sound (nextByte c₁) c₂ h₂ e))))
+
+-- ---- two unqualified strings (document 02, wish 2)
+
+unfoldable pub goodPlainPair : Line × Line → Bool
+goodPlainPair x = isLine (x .0) && not (isEmpty (x .0)) && isLine (x .1)
+
+plain-pair-reads : {s : List ℕ} {left : ℕ} (c : Cursor) (l : Line) (c₁ : Cursor) → Reached s left c → Sound s (isLine l) → Reached s left c₁
+    → ReadsWell (λ x. Sound s (goodPlainPair x)) s left (plainPair (placeAt c) c l c₁)
+unfolding plainPair goodPlainPair isEmpty
+plain-pair-reads c [] c₁ h g h₁ = refuses-at refl h
+plain-pair-reads c (b ∷ l) c₁ h g h₁ = gets (past-string (nextByte c) c₁ h₁) (λ e.
+    and-both (isLine (b ∷ l) && true) (isLine (stringNext (nextByte c) c₁)) (and-both (isLine (b ∷ l)) true (g e) refl) (string-sound (nextByte c) c₁ h₁ e))
+
+pub two-plain-reads : {s : List ℕ} {left : ℕ} (c : Cursor) → Reached s left c → ReadsWell (λ x. Sound s (goodPlainPair x)) s left (twoPlainStrings c)
+unfolding twoPlainStrings
+two-plain-reads c h = then (quoted-reads (skipSpaces c) (past-spaces c h)) (λ l c₁ h₁ g. plain-pair-reads (skipSpaces c) l c₁ (past-spaces c h) g h₁)

@@ -7,9 +7,9 @@ use lib.ListN.{length}
 use Rattle.definitions.specs.Run.{Answer, answer, refusal, answerNumber, answerSteps, answerFurthest, answerLength, answerPlace, answerRecords, bufferAfter, outcomeFrom}
 use Rattle.theorems.specs.Demand3.{IsAccepted}
 use Rattle.theorems.specs.Numbers.{EndNumber, Numbered, answer-numbered, accepted-by-number}
-use Rattle.theorems.specs.Demand3Values.{Call as CallOf, defined, IsRun, holds, read-journal, journal-fits, past-journal, kept-after, calls-agree}
+use Rattle.theorems.specs.Demand3Values.{Call as CallOf, defined, IsRun, holds, read-journal, journal-fits, past-journal, rest-after, rest-passes, ComparedCall, calls-agree}
 use Rattle.zed.specs.Values.{values, runOf}
-use Rattle.zed.specs.Demand3.{Call, ran, Returned, number, steps, furthest, long, place, Accepted, Refused, DemandThree, NumberTells}
+use Rattle.zed.specs.Demand3.{Call, ran, Returned, number, steps, furthest, long, place, Accepted, Refused, Compared, DemandThree, NumberTells}
 
 -- the call's values
 abbrev valued : Call → CallOf
@@ -51,6 +51,10 @@ unfolding runOf
 is-accepted c h k =
     accepted-by-number (c .table) (c .script) (c .budget) (length (c .work)) (length (c .buffer)) (end-number (ran c) (numbered c h) (number c) (number-is c h) k)
 
+-- a call that is compared
+compared : (c : Call) → Compared c → ComparedCall (valued c)
+compared c h = record { not-full = h .not-full; not-after = h .not-after }
+
 -- THE LAW: demand 3 holds of every accepted call of `zed_run`
 pub zed-demand3 : DemandThree
 zed-demand3 c h k =
@@ -65,10 +69,12 @@ zed-demand3 c h k =
       past = past-journal v run taken;
       old = holds v run taken .old;
       old-bytes = holds v run taken .old-bytes;
-      after = kept-after v run taken;
-      agreeing = λ c₂ j₂ h₂ k₂ read same-script same-budget agree full full₂.
-          let s = calls-agree v run taken (valued c₂) (is-run c₂ h₂) (is-accepted c₂ h₂ k₂) same-script same-budget j₂ read agree full full₂ in
-          (record { same-number = s .number; same-place = s .place; same-steps = s .steps; same-furthest = s .furthest; same-journal = s .journal }, s .after);
+      after = record { rest = rest-after v run taken; passed = rest-passes v run taken };
+      agreeing = λ c₂ j₂ h₂ k₂ read same-script same-budget agree w w₂.
+          let s = calls-agree v run taken (valued c₂) (is-run c₂ h₂) (is-accepted c₂ h₂ k₂) same-script same-budget j₂ read agree (compared c w) (compared c₂ w₂) in (
+            record { same-number = s .number; same-place = s .place; same-steps = s .steps; same-furthest = s .furthest; same-journal = s .journal },
+            record { rest = rw (s .number) (s .after); passed = λ q. s .passed (sym (s .number) ∙ q) },
+          );
     }
 
 -- ---- the number tells

@@ -1,18 +1,21 @@
 -- Demand 3 of `zed_run`, which C programs call: its result, the five numbers in `answer`, and the bytes of the journal buffer. One statement, with the terms
--- of document 01 ("Tables and the journal", from "In demand 3").
+-- of document 01 ("Tables and the journal", from "In demand 3") and of document 02, wish 2.
 use mathlib.Core.Path.{_≡_}
 use mathlib.Core.Logic.{_⊎_}
 use mathlib.Core.Option.{some}
-use mathlib.Core.List.{List, map}
+use mathlib.Core.List.{List}
 use Prim.Native.Nat.{ℕ, _-_, _≤_}
 use lib.ListN.{length, getD, take, drop, replicate}
 use Rattle.definitions.specs.Bytes.{linesOf, linesBytes}
-use Rattle.definitions.specs.Journal.{Record, kept, oldSide, upToLine, afterLine, recordsOf}
+use Rattle.definitions.specs.Journal.{Record, oldSide, upToLine, afterLine, recordsOf}
+use Rattle.definitions.specs.Given.{Carried}
 use Rattle.definitions.specs.Run.{Answer, answerNumber, bufferAfter}
-use Rattle.theorems.specs.Demand3.{Agree}
+use Rattle.theorems.specs.Each.{Each}
+use Rattle.theorems.specs.Demand3.{Agree, Passes, unreadAs, standing}
 use Rattle.zed.specs.Values.{values, runOf}
 
--- ---- the terms. `Agree` is the definitions': "Two tables agree up to a line if both have that source line and no line up to it, itself included, differs"
+-- ---- the terms. `Agree`, and what the standing globals leave of a line, are the definitions' (theorems, Demand3): "Two tables agree up to a line if both have that
+-- source line and no line up to it, itself included, differs"
 
 -- a call of `zed_run` that has returned: what was lent (`buffer` is the journal buffer before the call), the result, and what stands afterwards in `answer` and
 -- in the journal buffer
@@ -69,9 +72,15 @@ pub record Refused (c : Call) : Type 0 where
 abbrev pub JournalIs : Call → List Record → Type 0
 JournalIs c j = recordsOf (take (long c) (c .journal)) ≡ some j
 
--- "Stopping on a full journal is 26"
-abbrev pub NotFull : Call → Type 0
-NotFull c = number c ≡ 26 → ⊥
+-- the globals that stand at the run's end
+abbrev pub stands : Call → Carried
+stands c = standing (c .table) (c .script) (c .budget) (length (c .buffer))
+
+-- The calls that are compared: "Stopping on a full journal is 26", and a run may not stop with 25 or 26 "among its unread lines after the script's end", with the
+-- script's length as place (W2.13)
+pub record Compared (c : Call) : Type 0 where
+  pub not-full : number c ≡ 26 → ⊥
+  pub not-after : number c ≡ 25 → place c ≡ length (c .script) → ⊥
 
 -- two calls that do not differ up to source line f: number, place, steps, furthest line, and "the journal up to a line"
 pub record SameUpTo (f : ℕ) (c : Call) (j : List Record) (c₂ : Call) (j₂ : List Record) : Type 0 where
@@ -81,9 +90,11 @@ pub record SameUpTo (f : ℕ) (c : Call) (j : List Record) (c₂ : Call) (j₂ :
   pub same-furthest : furthest c₂ ≡ furthest c
   pub same-journal : upToLine f j₂ ≡ upToLine f j
 
--- what follows the journal up to source line f: the table's lines after line f, as kept, each once and in order, and nothing else
-abbrev pub KeptAfter : ℕ → List ℕ → List Record → Type 0
-KeptAfter f table j = afterLine f j ≡ map kept (drop f (linesOf table))
+-- What follows the journal up to source line f: the table's lines after line f, each once and in order, and nothing else. They are kept where the run stopped; where it
+-- is done, each is as the globals z leave it, which stop on none.
+pub record LeftAfter (f : ℕ) (z : Carried) (c : Call) (j : List Record) : Type 0 where
+  pub rest : afterLine f j ≡ unreadAs (number c) z (drop f (linesOf (c .table)))
+  pub passed : number c ≡ 0 → Each (Passes z) (drop f (linesOf (c .table)))
 
 -- ---- the statement
 
@@ -100,16 +111,18 @@ pub record Demand3 (c : Call) : Type 0 where
   -- the old side of the journal is exactly the table, line by line and byte by byte
   pub old : oldSide records ≡ linesOf (c .table)
   pub old-bytes : linesBytes (oldSide records) ≡ c .table
-  -- no source line beyond the furthest line read, answer[2], is marked other than kept
-  pub after : KeptAfter (furthest c) (c .table) records
+  -- no source line beyond the furthest line read, answer[2], is marked other than kept; or, where the run is done, other than the globals that stand at its end
+  -- leave it
+  pub after : LeftAfter (furthest c) (stands c) c records
   -- Any other accepted call with a table that agrees with this one up to the furthest line read, the same script and budget, any work area and any journal
-  -- buffer, has the same end and the same journal up to that line, and after it only its own lines, kept; if neither run stops on a full journal.
+  -- buffer, has the same end and the same journal up to that line, and after it only its own lines, kept or as the same globals leave them; if neither run stops on
+  -- a full journal or among its unread lines.
   pub agreeing : (c₂ : Call) (records₂ : List Record)
       → Returned c₂ → Accepted c₂ → JournalIs c₂ records₂
       → c₂ .script ≡ c .script → c₂ .budget ≡ c .budget
       → Agree (furthest c) (linesOf (c .table)) (linesOf (c₂ .table))
-      → NotFull c → NotFull c₂
-      → SameUpTo (furthest c) c records c₂ records₂ × KeptAfter (furthest c) (c₂ .table) records₂
+      → Compared c → Compared c₂
+      → SameUpTo (furthest c) c records c₂ records₂ × LeftAfter (furthest c) (stands c) c₂ records₂
 
 -- DEMAND 3 of `zed_run`: all this of every call that is accepted, by its number
 abbrev pub DemandThree : Type 0

@@ -1,4 +1,5 @@
-use mathlib.Core.Path.{refl, sym, _∙_}
+use mathlib.Core.Path.{refl, sym, ap, _∙_}
+use Rattle.items.specs.Kinds.{isGlobal}
 use Rattle.items.proofs.Meaning.{first-in}
 use Rattle.commands.proofs.Performed.{without-table, ready-shown, ready-text, word-as, changes-left}
 use borrow.Author.Needs.{needs}
@@ -12,25 +13,25 @@ shape-of-requires : tie.Need-shape-of-requires
 shape-of-requires c κs = search needs
 
 on-lines-requires : tie.Need-on-lines-requires
-on-lines-requires c κs = ready-shown (c .before .before .before .before .before .before .before .before .pre .1)
+on-lines-requires c κs = ((c .before .before .before .before .before .before .before .before .pre .1), ready-shown (c .before .before .before .before .before .before .before .before .pre .3))
 
 of-two-words-requires : tie.Need-of-two-words-requires
-of-two-words-requires c κs = (c .before .before .before .before .before .before .before .before .pre .0, c .before .before .before .before .before .before .before .before .pre .1, c .before .before .before .kind-of .ensures, (sym (c .before .before .shape-of .ensures) ∙ c .before .match .keys2))
+of-two-words-requires c κs = ((c .before .before .before .before .before .before .before .before .pre .0), (c .before .before .before .before .before .before .before .before .pre .1), (c .before .before .before .before .before .before .before .before .pre .3), (c .before .before .before .kind-of .ensures), (sym (c .before .before .shape-of .ensures) ∙ c .before .match .keys2))
 
 of-four-words-requires : tie.Need-of-four-words-requires
-of-four-words-requires c κs = (c .before .before .before .before .before .before .before .before .pre .0, ready-text (c .before .before .before .before .before .before .before .before .pre .1), c .before .before .before .kind-of .ensures, (sym (c .before .before .shape-of .ensures) ∙ c .before .match .keys3))
+of-four-words-requires c κs = ((c .before .before .before .before .before .before .before .before .pre .0), (c .before .before .before .before .before .before .before .before .pre .1), ready-text (c .before .before .before .before .before .before .before .before .pre .3), (c .before .before .before .kind-of .ensures), (sym (c .before .before .shape-of .ensures) ∙ c .before .match .keys3))
 
 aims-requires : tie.Need-aims-requires
-aims-requires c κs = (c .before .before .before .before .before .before .before .before .pre .0, c .before .before .before .before .before .before .before .before .pre .1, c .before .before .before .kind-of .ensures, (sym (c .before .before .shape-of .ensures) ∙ c .before .match .keys4))
+aims-requires c κs = ((c .before .before .before .before .before .before .before .before .pre .0), (c .before .before .before .before .before .before .before .before .pre .3), (c .before .before .before .kind-of .ensures), (sym (c .before .before .shape-of .ensures) ∙ c .before .match .keys4))
 
 alters-requires : tie.Need-alters-requires
-alters-requires c κs = (c .before .before .before .before .before .before .before .before .pre .0, c .before .before .before .before .before .before .before .before .pre .1, c .before .before .before .kind-of .ensures, (let n = c .before .match .rest in changes-left _ _ _ _ (c .before .before .before .kind-of .ensures) _ (c .before .before .shape-of .ensures) (n .0 .0 .0 .1) (n .0 .0 .1) (n .0 .1) (n .1) (c .before .before .before .before .before .before .before .before .pre .0)))
+alters-requires c κs = ((c .before .before .before .before .before .before .before .before .pre .0), (c .before .before .before .before .before .before .before .before .pre .3), (c .before .before .before .kind-of .ensures), (let n = c .before .match .rest in changes-left _ _ _ _ (c .before .before .before .kind-of .ensures) _ (c .before .before .shape-of .ensures) (n .0 .0 .0 .1) (n .0 .0 .1) (n .0 .1) (n .1) (c .before .before .before .before .before .before .before .before .pre .0)), ap isGlobal (c .before .before .before .kind-of .ensures) ∙ (c .before .before .before .before .before .before .before .before .pre .2 .0))
 
 same-length : tie.Need-same-length
 same-length c = search needs
 
 returns : tie.Need-returns
-returns c = word-as _ _ _ _ (c .before .before .before .before .before .before .kind-of .ensures) _ (c .before .before .before .before .before .shape-of .ensures) _ _ _ _ _ (c .before .before .before .before .match .keys1) (c .before .before .on-lines .ensures)
+returns c = word-as _ _ _ _ (c .before .before .before .before .before .before .kind-of .ensures) _ (c .before .before .before .before .before .shape-of .ensures) _ _ _ _ _ (c .before .before .before .before .match .keys1) (λ q. (c .before .before .before .before .before .before .before .before .before .before .before .pre .2 .1) (sym (c .before .before .before .before .before .before .kind-of .ensures) ∙ q)) (c .before .before .on-lines .ensures)
 
 same-length-2 : tie.Need-same-length-2
 same-length-2 c = search needs

@@ -1,4 +1,4 @@
-use Rattle.definitions.specs.Given.{carried}
+use Rattle.definitions.specs.Given.{noGlobals}
 use borrow.Author.Needs.{needs}
 use Rattle.inserts.proofs.Codes.{spot-none}
 use Rattle.editor.proofs.Parts.{moved-shown}
@@ -13,7 +13,7 @@ same-length : tie.Need-same-length
 same-length c = search needs
 
 returns : tie.Need-returns
-returns c = λ e x t h. insert-none _ _ e x t _ _ _ (spot-none _ (c .before .before .before .before .if1 .taken)) (c .before .before .insert-lines .ensures e x t h)
+returns c = λ e t h. insert-none _ _ e noGlobals t _ _ _ (spot-none _ (c .before .before .before .before .if1 .taken)) (c .before .before .insert-lines .ensures e noGlobals t h)
 
 sub-go-to : tie.Need-sub-go-to
 sub-go-to c = search needs
@@ -33,14 +33,14 @@ same-length-2 c = search needs
 returns-2 : tie.Need-returns-2
 returns-2 c =
     let m = c .before .before .before .before .go-to in
-    λ e x t h. insert-stop x _ e t _ _ (c .before .before .before .before .before .before .if1 .left) _ _ (c .enum-told .given .1) (m .ensures e x t h)
+    λ e t h. insert-stop noGlobals _ e t _ _ (c .before .before .before .before .before .before .if1 .left) _ _ (c .enum-told .given .1) (m .ensures e t h)
 
 insert-lines-requires-2 : tie.Need-insert-lines-requires-2
 insert-lines-requires-2 c κs =
     let s = c .before .before .before .before .before .before .before .before .before .before .before in
     let m = c .before .before .before .before .before .before .go-to in
     let w = s .pre .0 in
-    (moved-shown _ (c .before .before .moved .given .1) (m .ensures (w .0) carried (w .1) (w .2)), s .pre .1)
+    (moved-shown _ (c .before .before .moved .given .1) (m .ensures (w .0) (w .1) (w .2)), s .pre .1)
 
 same-length-3 : tie.Need-same-length-3
 same-length-3 c = search needs
@@ -49,7 +49,7 @@ returns-3 : tie.Need-returns-3
 returns-3 c =
     let m = c .before .before .before .before .before .before .before .before .before .go-to in
     let i = c .before .before .insert-lines2 in
-    λ e x t h. insert-then x _ e t _ _ (c .before .before .before .before .before .before .before .before .before .before .before .if1 .left) _ _ (c .before .before .before .before .before .moved .given .1) (m .ensures e x t h) (m .kept .0) (i .ensures)
+    λ e t h. insert-then noGlobals _ e t _ _ (c .before .before .before .before .before .before .before .before .before .before .before .if1 .left) _ _ (c .before .before .before .before .before .moved .given .1) (m .ensures e t h) (m .kept .0) (i .ensures)
 
 pub insert-at-spec : {M : Type 1} → statement M
 insert-at-spec =

@@ -1,7 +1,6 @@
 use mathlib.Core.Logic.{⊎-elim}
 use mathlib.Core.List.{[]}
 use native.Mathlib.Omega.{arith}
-use Rattle.definitions.specs.Given.{carried}
 use Rattle.spans.proofs.Struck.{spanned-until}
 use Rattle.replacing.proofs.Freed.{gap-fits}
 use Rattle.replacing.proofs.Whole.{freed-is, replace-full, struck-ready, replace-on}
@@ -42,7 +41,7 @@ returns c =
     let p = c .before .before .before .past-to .ensures in
     let f = c .before .before .before .before .before .before in
     let room = f .before .before .before .before .lines-room .ensures in
-    λ e x t i h w. replace-full _ e x t i h w _ _ _ _ (f .freed-to .ensures) room (omega (arith, c .before .before .before .before .before .if2 .taken)) p r
+    λ e t i h w. replace-full _ e t i h w _ _ _ _ (f .freed-to .ensures) room (omega (arith, c .before .before .before .before .before .if2 .taken)) p r
 
 strike-span-requires : tie.Need-strike-span-requires
 strike-span-requires c κs = c .before .before .before .before .before .before .pre .0
@@ -54,7 +53,7 @@ put-lines-requires c κs =
     let w = pre .0 in
     let r = c .before .before .before .strike-span in
     let room = a .lines-room in
-    let z = struck-ready [] (w .0) carried (w .1) (w .2) (w .3) (w .4) _ _ (r .ensures) (r .kept .0) (room .result) (⊎-elim (λ v. omega (arith, v .3 .left, freed-is (w .0) (w .1) (w .2) (w .3) (w .4) (v .2 .ensures))) (λ v. omega (arith, v .left)) (c .before .before .before .before .before .if1 .came)) in
+    let z = struck-ready [] (w .0) (w .1) (w .2) (w .3) (w .4) _ _ (r .ensures) (r .kept .0) (room .result) (⊎-elim (λ v. omega (arith, v .3 .left, freed-is (w .0) (w .1) (w .2) (w .3) (w .4) (v .2 .ensures))) (λ v. omega (arith, v .left)) (c .before .before .before .before .before .if1 .came)) in
     (z .0, pre .1, omega (arith, z .1, room .ensures))
 
 same-length-2 : tie.Need-same-length-2
@@ -64,7 +63,7 @@ returns-2 : tie.Need-returns-2
 returns-2 c =
     let r = c .before .before .before .before .before .before .strike-span in
     let p = c .before .before .put-lines in
-    λ e x t i h w. replace-on _ e x t i h w _ _ (r .ensures) (r .kept .0) _ _ (p .kept .0) (p .ensures)
+    λ e t i h w. replace-on _ e t i h w _ _ (r .ensures) (r .kept .0) _ _ (p .kept .0) (p .ensures)
 
 pub replace-to-spec : {M : Type 1} → statement M
 replace-to-spec =

@@ -26,7 +26,7 @@ enum-told : tie.Need-enum-told
 enum-told c = search needs
 
 returns : tie.Need-returns
-returns c = λ is d. not-table _ _ _ is (table-is-not _ (sym (c .before .before .table-form .ensures) ∙ c .enum-told .given .1))
+returns c = λ is d. not-table _ _ _ _ is (table-is-not _ (sym (c .before .before .table-form .ensures) ∙ c .enum-told .given .1))
 
 opening-fits-requires : tie.Need-opening-fits-requires
 opening-fits-requires c κs = omega (arith, formed c .1, table-short _ (formed c .0))
@@ -49,7 +49,7 @@ returns-2 c = c .before .before .before .before .run-table .ensures
 returns-3 : tie.Need-returns-3
 returns-3 c = λ is d.
     let f = formed (c .before .before) in
-    no-room _ _ (f .0) _ (f .1) _ (c .before .opening-fits .ensures) _ is (c .if1 .left)
+    no-room _ _ (f .0) _ (f .1) _ (c .before .opening-fits .ensures) _ _ is (c .if1 .left)
 
 pub run-decoded-spec : {M : Type 1} → statement M
 run-decoded-spec =

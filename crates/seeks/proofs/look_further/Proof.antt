@@ -1,4 +1,4 @@
-use Rattle.seeks.proofs.Finding.{not-by, goes-forward, goes-backward, goes-deleting}
+use Rattle.seeks.proofs.Finding.{not-by, not-back, goes-forward, goes-backward, goes-deleting}
 use borrow.Author.Needs.{needs}
 use Rattle.seeks.proofs.look_further.Statement.{statement}
 use Rattle.seeks.proofs.look_further.Tie as tie
@@ -31,7 +31,7 @@ same-length-2 : tie.Need-same-length-2
 same-length-2 c = search needs
 
 returns-2 : tie.Need-returns-2
-returns-2 c = not-by _ _ _ _ _ (goes-backward _ (c .before .before .before .before .enum-told2 .given .1)) (c .before .before .look-back .ensures)
+returns-2 c = not-back _ _ _ _ _ (goes-backward _ (c .before .before .before .before .enum-told2 .given .1)) (c .before .before .look-back .ensures)
 
 same-length-3 : tie.Need-same-length-3
 same-length-3 c = search needs

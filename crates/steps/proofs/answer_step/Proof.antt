@@ -1,6 +1,8 @@
 -- `steps::answer_step` meets its contract. Assumes nothing.
+use mathlib.Core.Path.{refl}
 use mathlib.Core.Bool.{true, false}
 use Rattle.steps.specs.Steps.{askTest, askLook}
+use Rattle.steps.proofs.Globals.{same-only}
 use Rattle.steps.proofs.Answering.{command-at, after-test, after-command, after-eof, after-begin, after-begin-back, after-round}
 use borrow.Author.Needs.{needs}
 use Rattle.steps.proofs.answer_step.Statement.{statement}
@@ -17,7 +19,7 @@ enum-told-2 c = search needs
 
 test-requires : tie.Need-test-requires
 unfolding askTest
-test-requires c κs = search needs
+test-requires c κs = let p = c .before .before .before .before .before .before .before .before .pre .0 in (((p .0 .2, (p .0 .0, p .0 .5 .asks)), p .1), c .before .before .enum-told2 .given .1)
 
 once-requires-2 : tie.Need-once-requires-2
 once-requires-2 c κs = search needs
@@ -27,7 +29,7 @@ enum-told-3 c = search needs
 
 test-requires-2 : tie.Need-test-requires-2
 unfolding askTest
-test-requires-2 c κs = search needs
+test-requires-2 c κs = let p = c .before .before .before .before .before .before .before .before .pre .0 in (((p .0 .2, (p .0 .0, p .0 .5 .asks)), p .1), c .before .before .enum-told3 .given .1)
 
 once-requires-3 : tie.Need-once-requires-3
 once-requires-3 c κs = search needs
@@ -84,70 +86,90 @@ enum-told-10 : tie.Need-enum-told-10
 enum-told-10 c = search needs
 
 command-requires : tie.Need-command-requires
-command-requires c κs = let p = c .before .before .before .before .before .before .before .pre .0 in
-    ((p .0 .1, command-at _ _ _ (p .0 .0) (p .0 .1) (p .0 .2) (p .0 .3) (c .before .enum-told10 .given .1) (p .0 .4)), p .1)
+command-requires c κs =
+    let p = c .before .before .before .before .before .before .before .before .pre .0 in
+    let y = p .0 in
+    ((y .0, y .2, command-at _ _ _ _ (y .1) (y .2) (y .3) (y .4) _ (c .before .before .enum-told10 .given .1) (y .5) (y .6 .1), y .6), p .1)
 
 once-requires-7 : tie.Need-once-requires-7
 once-requires-7 c κs = search needs
 
 returns : tie.Need-returns
-returns c = after-round _ _ _ _ _ _ _ _ (c .once .ensures) (c .before .enum-told .given .1)
+returns c = (after-round _ _ _ _ _ _ _ _ _ (c .once .ensures) refl (c .before .enum-told .given .1), same-only _)
 
 same-length : tie.Need-same-length
 same-length c = search needs
 
-returns-2 : tie.Need-returns-2
-unfolding askTest
-returns-2 c = after-test _ _ _ _ _ _ _ _ _ _ (c .once2 .ensures) true (c .before .before .before .enum-told2 .given .1) (c .before .test .ensures)
-
 same-length-2 : tie.Need-same-length-2
 same-length-2 c = search needs
 
-returns-3 : tie.Need-returns-3
+returns-2 : tie.Need-returns-2
 unfolding askTest
-returns-3 c = after-test _ _ _ _ _ _ _ _ _ _ (c .once3 .ensures) false (c .before .before .before .enum-told3 .given .1) (c .before .test2 .ensures)
+returns-2 c = (after-test _ _ _ _ _ _ _ _ _ _ _ (c .once2 .ensures) refl true (c .before .before .before .before .enum-told2 .given .1) (c .before .test .ensures), same-only _)
 
 same-length-3 : tie.Need-same-length-3
 same-length-3 c = search needs
 
-returns-4 : tie.Need-returns-4
-returns-4 c = after-eof _ _ _ _ _ _ _ _ _ _ (c .once4 .ensures) (c .before .before .before .enum-told4 .given .1) (c .before .test-eof .ensures)
-
 same-length-4 : tie.Need-same-length-4
 same-length-4 c = search needs
 
-returns-5 : tie.Need-returns-5
-returns-5 c = after-begin _ _ _ _ _ _ _ _ _ _ (c .once5 .ensures) (c .before .before .before .enum-told5 .given .1) (c .before .begin .ensures)
+returns-3 : tie.Need-returns-3
+unfolding askTest
+returns-3 c = (after-test _ _ _ _ _ _ _ _ _ _ _ (c .once3 .ensures) refl false (c .before .before .before .before .enum-told3 .given .1) (c .before .test2 .ensures), same-only _)
 
 same-length-5 : tie.Need-same-length-5
 same-length-5 c = search needs
 
-returns-6 : tie.Need-returns-6
-returns-6 c = after-begin-back _ _ _ _ _ _ _ _ _ _ (c .once6 .ensures) (c .before .before .before .before .before .enum-told6 .given .1) (c .before .before .before .begin-back .ensures)
+returns-4 : tie.Need-returns-4
+returns-4 c = (after-eof _ _ _ _ _ _ _ _ _ _ _ (c .once4 .ensures) refl (c .before .before .before .enum-told4 .given .1) (c .before .test-eof .ensures), same-only _)
 
 same-length-6 : tie.Need-same-length-6
 same-length-6 c = search needs
 
-returns-7 : tie.Need-returns-7
-returns-7 c = search needs
+returns-5 : tie.Need-returns-5
+returns-5 c = (after-begin _ _ _ _ _ _ _ _ _ _ _ (c .once5 .ensures) refl (c .before .before .before .enum-told5 .given .1) (c .before .begin .ensures), same-only _)
 
 same-length-7 : tie.Need-same-length-7
 same-length-7 c = search needs
 
-returns-8 : tie.Need-returns-8
-returns-8 c = search needs
+returns-6 : tie.Need-returns-6
+returns-6 c = (after-begin-back _ _ _ _ _ _ _ _ _ _ _ (c .once6 .ensures) refl (c .before .before .before .before .before .enum-told6 .given .1) (c .before .before .before .begin-back .ensures), same-only _)
 
 same-length-8 : tie.Need-same-length-8
 same-length-8 c = search needs
 
-returns-9 : tie.Need-returns-9
-returns-9 c = search needs
-
 same-length-9 : tie.Need-same-length-9
 same-length-9 c = search needs
 
+returns-7 : tie.Need-returns-7
+returns-7 c = (c .before .before .search .ensures, same-only _)
+
+same-length-10 : tie.Need-same-length-10
+same-length-10 c = search needs
+
+same-length-11 : tie.Need-same-length-11
+same-length-11 c = search needs
+
+returns-8 : tie.Need-returns-8
+returns-8 c = (c .before .before .search2 .ensures, same-only _)
+
+same-length-12 : tie.Need-same-length-12
+same-length-12 c = search needs
+
+same-length-13 : tie.Need-same-length-13
+same-length-13 c = search needs
+
+returns-9 : tie.Need-returns-9
+returns-9 c = (c .before .before .search3 .ensures, same-only _)
+
+same-length-14 : tie.Need-same-length-14
+same-length-14 c = search needs
+
+same-length-15 : tie.Need-same-length-15
+same-length-15 c = search needs
+
 returns-10 : tie.Need-returns-10
-returns-10 c = after-command _ _ _ _ _ _ _ _ _ _ (c .once7 .ensures) (c .before .before .before .before .before .enum-told10 .given .1) (c .before .before .before .command .ensures)
+returns-10 c = let f = c .before .before .before .before .before .command .ensures in (after-command _ _ _ _ _ _ _ _ _ _ _ (c .once7 .ensures) (c .before .before .before .before .before .before .before .before .enum-told10 .given .1) (f .0), f .1)
 
 pub answer-step-spec : {M : Type 1} → statement M
 answer-step-spec =
@@ -181,20 +203,26 @@ answer-step-spec =
     once-requires-7
     returns
     same-length
-    returns-2
     same-length-2
-    returns-3
+    returns-2
     same-length-3
-    returns-4
     same-length-4
-    returns-5
+    returns-3
     same-length-5
-    returns-6
+    returns-4
     same-length-6
-    returns-7
+    returns-5
     same-length-7
-    returns-8
+    returns-6
     same-length-8
-    returns-9
     same-length-9
+    returns-7
+    same-length-10
+    same-length-11
+    returns-8
+    same-length-12
+    same-length-13
+    returns-9
+    same-length-14
+    same-length-15
     returns-10)

@@ -11,7 +11,7 @@ use Rattle.steps.proofs.test.Tie as tie
 searched : (c : tie.After-shared-slice-known4) → let a = c .before .before .before .before .args in (se : Search) × SearchOf (a .script .now) (a .w .now) (a .x .item) se
 searched c =
     let p = c .before .before .before .before .pre in
-    let z = asks-test _ _ (c .before .before .before .before .args .x) (p .0 .0 .0) (p .0 .0 .1) _ (p .1) in
+    let z = asks-test _ _ (p .0 .0 .1 .0) (c .before .before .before .before .args .x) (p .0 .0 .0) (p .0 .0 .1 .1) _ (p .1) in
     (z .0, z .1)
 
 add-k : tie.Need-add-k

@@ -27,7 +27,7 @@ same-length c = search needs
 
 returns : tie.Need-returns
 returns c =
-    λ e x t h. ahead-on _ x e t h (c .before .before .before .before .before .before .before .before .before .before .before .pre .1) (c .before .before .before .before .before .before .before .before .pass-record .ensures) (c .before .before .before .before .land-live .ensures) (c .read-current .ensures)
+    λ e t h. ahead-on _ e t h (c .before .before .before .before .before .before .before .before .before .before .before .pre .1) (c .before .before .before .before .before .before .before .before .pass-record .ensures) (c .before .before .before .before .land-live .ensures) (c .read-current .ensures)
 
 pub go-ahead-spec : {M : Type 1} → statement M
 go-ahead-spec =

@@ -7,7 +7,7 @@ go-here-requires : tie.Need-go-here-requires
 go-here-requires c κs = search needs
 
 returns : tie.Need-returns
-returns c = λ e x t h. here-by _ x e t _ _ h (c .before .if1 .taken) (c .go-here .ensures)
+returns c = λ e t h. here-by _ _ e t _ _ h (c .before .if1 .taken) (c .go-here .ensures)
 
 go-to-eof-requires : tie.Need-go-to-eof-requires
 go-to-eof-requires c κs = search needs
@@ -16,7 +16,7 @@ same-length : tie.Need-same-length
 same-length c = search needs
 
 returns-2 : tie.Need-returns-2
-returns-2 c = λ e x t h. target-by _ x e t _ _ _ (target-eof _ (c .before .before .before .before .if2 .taken)) (c .before .before .go-to-eof .ensures e x t h)
+returns-2 c = λ e t h. target-by _ _ e t _ _ _ (target-eof _ (c .before .before .before .before .if2 .taken)) (c .before .before .go-to-eof .ensures e t h)
 
 go-to-line-requires : tie.Need-go-to-line-requires
 go-to-line-requires c κs = search needs
@@ -25,7 +25,7 @@ same-length-2 : tie.Need-same-length-2
 same-length-2 c = search needs
 
 returns-3 : tie.Need-returns-3
-returns-3 c = λ e x t h. target-by _ x e t _ _ _ (target-line _ (c .before .before .before .before .before .if1 .left) (c .before .before .before .before .if2 .left)) (c .before .before .go-to-line .ensures e x t h)
+returns-3 c = λ e t h. target-by _ _ e t _ _ _ (target-line _ (c .before .before .before .before .before .if1 .left) (c .before .before .before .before .if2 .left)) (c .before .before .go-to-line .ensures e t h)
 
 pub go-to-spec : {M : Type 1} → statement M
 go-to-spec =

@@ -30,7 +30,7 @@ same-length : tie.Need-same-length
 same-length c = search needs
 
 returns : tie.Need-returns
-returns c = λ e x t h. eof-on _ x e t h (c .read-to .ensures) (c .before .before .before .before .shift-down .ensures) refl refl refl refl refl refl refl refl
+returns c = λ e t h. eof-on _ e t h (c .read-to .ensures) (c .before .before .before .before .shift-down .ensures) refl refl refl refl refl refl refl refl
 
 pub go-to-eof-spec : {M : Type 1} → statement M
 go-to-eof-spec =

@@ -29,9 +29,9 @@ returns c =
     let s = c .before .before .before .before .before .before .before .before .before .before .before in
     let read = c .before .before .before .before .before .before .before .before .before .read-to in
     let to = c .before .before .before .before .before .before .before .to-source in
-    λ e x t h.
+    λ e t h.
     came-as (c .before .before .gap-to .ensures _ (source-away _ (raised-holds (s .args .a) (read .ensures) (h .holds)) (to .ensures) (sym (to .kept .0)))) _ _
-    (line-eof _ x _ (s .pre .1) e t h (read .ensures) (to .ensures) (c .before .before .before .before .if1 .taken))
+    (line-eof _ _ (s .pre .1) e t h (read .ensures) (to .ensures) (c .before .before .before .before .if1 .taken))
 
 slice-read-if2 : tie.Need-slice-read-if2
 slice-read-if2 c = search needs
@@ -50,16 +50,16 @@ returns-2 c =
     let s = c .before .before .before .before .before .before .before .before .before .before .before .before .before in
     let read = c .before .before .before .before .before .before .before .before .before .before .before .read-to in
     let to = c .before .before .before .before .before .before .before .before .before .to-source in
-    λ e x t h.
+    λ e t h.
     came-as (c .before .before .gap-to2 .ensures _ (source-away _ (raised-holds (s .args .a) (read .ensures) (h .holds)) (to .ensures) (sym (to .kept .0)))) _ _
-    (line-dead _ x _ (s .pre .1) e t h (read .ensures) (to .ensures) (c .before .before .before .before .before .before .if1 .left) (c .before .before .before .before .if2 .taken))
+    (line-dead _ _ (s .pre .1) e t h (read .ensures) (to .ensures) (c .before .before .before .before .before .before .if1 .left) (c .before .before .before .before .if2 .taken))
 
 same-length-3 : tie.Need-same-length-3
 same-length-3 c = search needs
 
 returns-3 : tie.Need-returns-3
 returns-3 c =
-    λ e x t h. line-live _ x _ (c .before .before .before .before .before .before .before .before .before .pre .1) e t h (c .before .before .before .before .before .before .before .read-to .ensures) (c .before .before .before .before .before .to-source .ensures) (c .before .before .if1 .left) (c .if2 .left)
+    λ e t h. line-live _ _ (c .before .before .before .before .before .before .before .before .before .pre .1) e t h (c .before .before .before .before .before .before .before .read-to .ensures) (c .before .before .before .before .before .to-source .ensures) (c .before .before .if1 .left) (c .if2 .left)
 
 pub go-to-line-spec : {M : Type 1} → statement M
 go-to-line-spec =

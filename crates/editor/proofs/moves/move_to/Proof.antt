@@ -10,7 +10,7 @@ same-length : tie.Need-same-length
 same-length c = search needs
 
 returns : tie.Need-returns
-returns c = λ e x t h. move-by _ x e t _ _ _ (c .before .before .go-to .ensures e x t h)
+returns c = λ e t h. move-by _ _ e t _ _ _ (c .before .before .go-to .ensures e t h)
 
 pub move-to-spec : {M : Type 1} → statement M
 move-to-spec = tie.close (tie.spec go-to-requires same-length returns)

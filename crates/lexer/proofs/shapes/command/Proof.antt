@@ -150,8 +150,24 @@ unfolding shapeOf lookUp commandTable packed packedFrom shapeIn plainOf seekOf c
 returns-36 c = rw (c .match .keys36)
 
 returns-37 : tie.Need-returns-37
+unfolding shapeOf lookUp commandTable packed packedFrom shapeIn plainOf seekOf changeOf
+returns-37 c = rw (c .match .keys37)
+
+returns-38 : tie.Need-returns-38
+unfolding shapeOf lookUp commandTable packed packedFrom shapeIn plainOf seekOf changeOf
+returns-38 c = rw (c .match .keys38)
+
+returns-39 : tie.Need-returns-39
+unfolding shapeOf lookUp commandTable packed packedFrom shapeIn plainOf seekOf changeOf
+returns-39 c = rw (c .match .keys39)
+
+returns-40 : tie.Need-returns-40
+unfolding shapeOf lookUp commandTable packed packedFrom shapeIn plainOf seekOf changeOf
+returns-40 c = rw (c .match .keys40)
+
+returns-41 : tie.Need-returns-41
 unfolding shapeOf commandTable packed packedFrom shapeIn
-returns-37 c = in-no-row (Unit {0}) commandTable (c .before .args .letters) (c .match .rest)
+returns-41 c = in-no-row (Unit {0}) commandTable (c .before .args .letters) (c .match .rest)
 
 pub command-spec : {M : Type 1} → statement M
 command-spec =
@@ -193,4 +209,8 @@ command-spec =
     returns-34
     returns-35
     returns-36
-    returns-37)
+    returns-37
+    returns-38
+    returns-39
+    returns-40
+    returns-41)

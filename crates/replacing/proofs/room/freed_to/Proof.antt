@@ -8,7 +8,8 @@ use Rattle.editor.specs.Records.{encAll}
 use Rattle.spans.specs.Spans.{freedBy, Stands}
 use Rattle.spans.proofs.Standing.{stands-held, stands-in, stands-record}
 use Rattle.replacing.specs.Freed.{freed}
-use Rattle.replacing.proofs.Freed.{freed-none, freed-cons, Counting, counting-first, counting-less, counting-done, counting-on, counting-fits}
+use Rattle.spans.proofs.Sums.{Counting, counting-first, counting-less, counting-done, counting-on}
+use Rattle.replacing.proofs.Freed.{freed-none, freed-cons, counting-fits}
 use Rattle.replacing.proofs.room.freed_to.Statement.{statement}
 use Rattle.replacing.proofs.room.freed_to.Tie as tie
 

@@ -35,6 +35,9 @@ enum-told-9 c = search needs
 enum-told-10 : tie.Need-enum-told-10
 enum-told-10 c = search needs
 
+enum-told-11 : tie.Need-enum-told-11
+enum-told-11 c = search needs
+
 returns : tie.Need-returns
 unfolding plainKind
 returns c = (rw (c .enum-told .given .1), omega arith)
@@ -75,6 +78,10 @@ returns-10 : tie.Need-returns-10
 unfolding plainKind
 returns-10 c = (rw (c .enum-told10 .given .1), omega arith)
 
+returns-11 : tie.Need-returns-11
+unfolding plainKind
+returns-11 c = (rw (c .enum-told11 .given .1), omega arith)
+
 pub plain-kind-spec : {M : Type 1} → statement M
 plain-kind-spec =
     tie.close
@@ -89,6 +96,7 @@ plain-kind-spec =
     enum-told-8
     enum-told-9
     enum-told-10
+    enum-told-11
     returns
     returns-2
     returns-3
@@ -98,4 +106,5 @@ plain-kind-spec =
     returns-7
     returns-8
     returns-9
-    returns-10)
+    returns-10
+    returns-11)

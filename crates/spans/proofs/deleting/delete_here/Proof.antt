@@ -1,4 +1,4 @@
-use Rattle.definitions.specs.Given.{carried}
+use Rattle.definitions.specs.Given.{noGlobals}
 use Rattle.spans.proofs.Wholes.{reached, reached-spanned, here-stop, delete-on}
 use borrow.Author.Needs.{needs}
 use Rattle.spans.proofs.deleting.delete_here.Statement.{statement}
@@ -17,13 +17,13 @@ strike-span-requires : tie.Need-strike-span-requires
 strike-span-requires c κs =
     let s = c .before .before .before .before .before .before .before in
     let w = s .pre in
-    reached-spanned (reached _ (c .before .before .found2 .given .1) (c .before .before .before .before .span-end .ensures (w .0) carried (w .1) (w .2)))
+    reached-spanned (reached _ (c .before .before .found2 .given .1) (c .before .before .before .before .span-end .ensures (w .0) (w .1) (w .2)))
 
 same-length : tie.Need-same-length
 same-length c = search needs
 
 returns : tie.Need-returns
-returns c = λ e x t h. here-stop x _ _ e t _ (c .before .found .given .1) (c .before .before .before .span-end .ensures e x t h)
+returns c = λ e t h. here-stop noGlobals _ _ e t _ (c .before .found .given .1) (c .before .before .before .span-end .ensures e t h)
 
 same-length-2 : tie.Need-same-length-2
 same-length-2 c = search needs
@@ -31,7 +31,7 @@ same-length-2 c = search needs
 returns-2 : tie.Need-returns-2
 returns-2 c =
     let r = c .before .before .strike-span in
-    λ e x t h. delete-on _ _ x _ e t (r .kept .0) (reached _ (c .before .before .before .before .before .found2 .given .1) (c .before .before .before .before .before .before .before .span-end .ensures e x t h)) (r .ensures)
+    λ e t h. delete-on _ _ _ e t (r .kept .0) (reached _ (c .before .before .before .before .before .found2 .given .1) (c .before .before .before .before .before .before .before .span-end .ensures e t h)) (r .ensures)
 
 pub delete-here-spec : {M : Type 1} → statement M
 delete-here-spec =

@@ -19,9 +19,9 @@ read-to-requires c κs = search needs
 returns : tie.Need-returns
 returns c =
     let l = c .before .before .before .before in
-    λ e x t n h w q.
+    λ e t n h w q.
     next-reads _ (l .live-from .result) (l .live-from .ensures) refl
-    (λ b a s z. c .read-to .ensures ∙ ap (raised _) (next-new b a s z (c .before .before .before .if1 .taken) (c .before .if2 .taken))) _ x e t n h w q
+    (λ b a s z. c .read-to .ensures ∙ ap (raised _) (next-new b a s z (c .before .before .before .if1 .taken) (c .before .if2 .taken))) _ e t n h w q
 
 add-read-to : tie.Need-add-read-to
 add-read-to c =
@@ -34,9 +34,9 @@ read-to-requires-2 c κs = search needs
 returns-2 : tie.Need-returns-2
 returns-2 c =
     let l = c .before .before .before in
-    λ e x t n h w q.
+    λ e t n h w q.
     next-reads _ (l .live-from .result) (l .live-from .ensures) refl
-    (λ b a s z. c .read-to2 .ensures ∙ ap (raised _) (⊎-elim (λ v. next-old b a s z (v .0 .taken) (v .2 .left)) (λ v. next-eof b a s z (v .left)) (c .before .before .if1 .came))) _ x e t n h w q
+    (λ b a s z. c .read-to2 .ensures ∙ ap (raised _) (⊎-elim (λ v. next-old b a s z (v .0 .taken) (v .2 .left)) (λ v. next-eof b a s z (v .left)) (c .before .before .if1 .came))) _ e t n h w q
 
 pub next-from-spec : {M : Type 1} → statement M
 next-from-spec =

@@ -25,7 +25,7 @@ next-from-requires c κs =
 returns : tie.Need-returns
 returns c =
     let s = c .before .before .before .before .before in
-    λ e x t h. c .next-from .ensures e x t 1 h (alone-ends e t h (s .pre .1) _ (c .before .record-end .ensures)) (next-after e t h (s .pre .1) (through (c .before .before)))
+    λ e t h. c .next-from .ensures e t 1 h (alone-ends e t h (s .pre .1) _ (c .before .record-end .ensures)) (next-after e t h (s .pre .1) (through (c .before .before)))
 
 pub read-next-spec : {M : Type 1} → statement M
 read-next-spec =

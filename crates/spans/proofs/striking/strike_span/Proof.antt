@@ -26,7 +26,7 @@ returns : tie.Need-returns
 returns c =
     let s = c .before .before .before .before .before .before .before .before .strike-to .ensures in
     let l = c .before .before .before .before .land-live .ensures in
-    λ e x t n h w. struck-span _ x e t n h w s l (c .read-current .ensures)
+    λ e t n h w. struck-span _ e t n h w s l (c .read-current .ensures)
 
 pub strike-span-spec : {M : Type 1} → statement M
 strike-span-spec =
