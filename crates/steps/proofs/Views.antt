@@ -21,6 +21,28 @@ use Rattle.seeks.specs.declared.Way.the-variants.{Forward, Backward, Deleting}
 use Rattle.seeks.specs.Looks.{testOf, seekOf}
 use Rattle.steps.specs.Steps.{askTest, askLook, Made, AnswersStep}
 
+-- what is asked and is nothing else is the test of a line
+pub look-asked : (a : Ask) → (a ≡ Round → ⊥) → (a ≡ Holds → ⊥) → (a ≡ HoldsNot → ⊥) → (a ≡ AtEof → ⊥) → (a ≡ Begin → ⊥) → (a ≡ BeginBack → ⊥) → (a ≡ Command → ⊥)
+    → (way : Way) × (a ≡ askLook way)
+unfolding askLook
+look-asked Round n _ _ _ _ _ _ = absurd (n refl)
+look-asked Holds _ n _ _ _ _ _ = absurd (n refl)
+look-asked HoldsNot _ _ n _ _ _ _ = absurd (n refl)
+look-asked AtEof _ _ _ n _ _ _ = absurd (n refl)
+look-asked Begin _ _ _ _ n _ _ = absurd (n refl)
+look-asked BeginBack _ _ _ _ _ n _ = absurd (n refl)
+look-asked Find _ _ _ _ _ _ _ = (Forward, refl)
+look-asked FindBack _ _ _ _ _ _ _ = (Backward, refl)
+look-asked FindDelete _ _ _ _ _ _ _ = (Deleting, refl)
+look-asked Command _ _ _ _ _ _ n = absurd (n refl)
+
+-- a search that is neither F nor BF is DF
+pub deletes-asked : (way : Way) (a : Ask) → a ≡ askLook way → (a ≡ Find → ⊥) → (a ≡ FindBack → ⊥) → a ≡ FindDelete
+unfolding askLook
+deletes-asked Forward a q n _ = absurd (n q)
+deletes-asked Backward a q _ n = absurd (n q)
+deletes-asked Deleting a q _ _ = q
+
 -- the words of an item's search
 module _ (s w : List ℕ) (item : ℕ) (h : (se : Search) × SearchOf s w item se) where
   pub search-inside : (item + 2 < getD w (item + 1) 0) × (getD w (item + 1) 0 ≤ length w)

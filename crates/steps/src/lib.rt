@@ -49,6 +49,18 @@ fn test<'a>(
     seeks::test(script, w, k, m, table, j, st, holds)
 }
 
+// Which way the search goes whose test of a line is asked.
+fn way_of(what: Ask) -> Way
+    requires { ⌜ ((way : Way) × (what ≡ askLook way)) ⌝ }
+    ensures { λ r. ⌜ what ≡ askLook r ⌝ }
+{
+    match what {
+        Ask::Find => Way::Forward,
+        Ask::FindBack => Way::Backward,
+        _ => Way::Deleting,
+    }
+}
+
 // F, BF or DF from the current line on. Where none of `left` lines matches, the budget is spent.
 fn search(
     script: &[u8],
@@ -130,9 +142,8 @@ pub fn answer_step(
         Ask::AtEof => once(seeks::test_eof(j, st)),
         Ask::Begin => once(seeks::begin(j, st)),
         Ask::BeginBack => once(seeks::begin_back(j, st)),
-        Ask::Find => search(script, table, w, x, j, st, Way::Forward, left),
-        Ask::FindBack => search(script, table, w, x, j, st, Way::Backward, left),
-        Ask::FindDelete => search(script, table, w, x, j, st, Way::Deleting, left),
         Ask::Command => once(command(script, table, w, x.item, j, st)),
+        // One call for the three searches: only so is it made part of the loop over the steps, and their answers need not go through memory.
+        _ => search(script, table, w, x, j, st, way_of(what), left),
     }
 }

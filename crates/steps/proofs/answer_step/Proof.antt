@@ -1,8 +1,12 @@
 -- `steps::answer_step` meets its contract. Assumes nothing.
 use mathlib.Core.Path.{refl}
 use mathlib.Core.Bool.{true, false}
-use Rattle.steps.specs.Steps.{askTest, askLook}
+use mathlib.Core.List.{List, [], _∷_}
+use Prim.Native.Nat.{ℕ}
+use types.Run.{miss}
+use Rattle.steps.specs.Steps.{askTest}
 use Rattle.steps.proofs.Globals.{same-only}
+use Rattle.steps.proofs.Views.{look-asked}
 use Rattle.steps.proofs.Answering.{command-at, after-test, after-command, after-eof, after-begin, after-begin-back, after-round}
 use borrow.Author.Needs.{needs}
 use Rattle.steps.proofs.answer_step.Statement.{statement}
@@ -64,35 +68,27 @@ once-requires-6 c κs = search needs
 enum-told-7 : tie.Need-enum-told-7
 enum-told-7 c = search needs
 
-search-requires : tie.Need-search-requires
-unfolding askLook
-search-requires c κs = search needs
-
-enum-told-8 : tie.Need-enum-told-8
-enum-told-8 c = search needs
-
-search-requires-2 : tie.Need-search-requires-2
-unfolding askLook
-search-requires-2 c κs = search needs
-
-enum-told-9 : tie.Need-enum-told-9
-enum-told-9 c = search needs
-
-search-requires-3 : tie.Need-search-requires-3
-unfolding askLook
-search-requires-3 c κs = search needs
-
-enum-told-10 : tie.Need-enum-told-10
-enum-told-10 c = search needs
-
 command-requires : tie.Need-command-requires
 command-requires c κs =
     let p = c .before .before .before .before .before .before .before .before .pre .0 in
     let y = p .0 in
-    ((y .0, y .2, command-at _ _ _ _ (y .1) (y .2) (y .3) (y .4) _ (c .before .before .enum-told10 .given .1) (y .5) (y .6 .1), y .6), p .1)
+    ((y .0, y .2, command-at _ _ _ _ (y .1) (y .2) (y .3) (y .4) _ (c .before .before .enum-told7 .given .1) (y .5) (y .6 .1), y .6), p .1)
 
 once-requires-7 : tie.Need-once-requires-7
 once-requires-7 c κs = search needs
+
+-- the tags of what a search asks
+abbrev looks : List ℕ
+looks = 6 ∷ 7 ∷ 8 ∷ []
+
+way-of-requires : tie.Need-way-of-requires
+way-of-requires c κs =
+    look-asked _ (λ q. miss looks 0 tt (rw q at (c .before .before .match .keys8))) (λ q. miss looks 1 tt (rw q at (c .before .before .match .keys8))) (λ q. miss looks 2 tt (rw q at (c .before .before .match .keys8)))
+    (λ q. miss looks 3 tt (rw q at (c .before .before .match .keys8))) (λ q. miss looks 4 tt (rw q at (c .before .before .match .keys8))) (λ q. miss looks 5 tt (rw q at (c .before .before .match .keys8)))
+    (λ q. miss looks 9 tt (rw q at (c .before .before .match .keys8)))
+
+search-requires : tie.Need-search-requires
+search-requires c κs = search needs
 
 returns : tie.Need-returns
 returns c = (after-round _ _ _ _ _ _ _ _ _ (c .once .ensures) refl (c .before .enum-told .given .1), same-only _)
@@ -142,7 +138,7 @@ same-length-9 : tie.Need-same-length-9
 same-length-9 c = search needs
 
 returns-7 : tie.Need-returns-7
-returns-7 c = (c .before .before .search .ensures, same-only _)
+returns-7 c = let f = c .before .before .before .before .before .command .ensures in (after-command _ _ _ _ _ _ _ _ _ _ _ (c .once7 .ensures) (c .before .before .before .before .before .before .before .before .enum-told7 .given .1) (f .0), f .1)
 
 same-length-10 : tie.Need-same-length-10
 same-length-10 c = search needs
@@ -151,25 +147,7 @@ same-length-11 : tie.Need-same-length-11
 same-length-11 c = search needs
 
 returns-8 : tie.Need-returns-8
-returns-8 c = (c .before .before .search2 .ensures, same-only _)
-
-same-length-12 : tie.Need-same-length-12
-same-length-12 c = search needs
-
-same-length-13 : tie.Need-same-length-13
-same-length-13 c = search needs
-
-returns-9 : tie.Need-returns-9
-returns-9 c = (c .before .before .search3 .ensures, same-only _)
-
-same-length-14 : tie.Need-same-length-14
-same-length-14 c = search needs
-
-same-length-15 : tie.Need-same-length-15
-same-length-15 c = search needs
-
-returns-10 : tie.Need-returns-10
-returns-10 c = let f = c .before .before .before .before .before .command .ensures in (after-command _ _ _ _ _ _ _ _ _ _ _ (c .once7 .ensures) (c .before .before .before .before .before .before .before .before .enum-told10 .given .1) (f .0), f .1)
+returns-8 c = (c .before .before .search .ensures, same-only _)
 
 pub answer-step-spec : {M : Type 1} → statement M
 answer-step-spec =
@@ -193,14 +171,10 @@ answer-step-spec =
     begin-back-requires
     once-requires-6
     enum-told-7
-    search-requires
-    enum-told-8
-    search-requires-2
-    enum-told-9
-    search-requires-3
-    enum-told-10
     command-requires
     once-requires-7
+    way-of-requires
+    search-requires
     returns
     same-length
     same-length-2
@@ -219,10 +193,4 @@ answer-step-spec =
     returns-7
     same-length-10
     same-length-11
-    returns-8
-    same-length-12
-    same-length-13
-    returns-9
-    same-length-14
-    same-length-15
-    returns-10)
+    returns-8)
