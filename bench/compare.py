@@ -10,8 +10,6 @@ import os, resource, subprocess, sys, tempfile
 
 HERE = os.path.dirname(os.path.abspath(__file__))
 ROOT = os.path.dirname(HERE)
-ROUNDS = int(sys.argv[1]) if len(sys.argv) > 1 else 10
-SEASON = "F B/R02/; E/90/120/\nF B/R03/; D\nIS/R04 open 07:15 60/\n"
 
 def table(lines):
     return "".join(f"R{i:05d} open {i // 60 % 24:02d}:{i % 60:02d} 90\n" for i in range(1, lines + 1))
@@ -56,17 +54,20 @@ def jobs(lines):
          "/^R02/s/90/120/\n/^R03/c\\\nR04 open 07:15 60\n", "g/^R02/s/90/120/\ng/^R03/s/.*/R04 open 07:15 60/\nw OUT\nq\n"),
     ]
 
-def best(command, stdin, out):
-    least = None
-    for _ in range(ROUNDS):
-        before = resource.getrusage(resource.RUSAGE_CHILDREN)
-        with open(stdin) as i, open(out, "w") as o:
-            done = subprocess.run(command, stdin=i, stdout=o, stderr=subprocess.PIPE)
-        after = resource.getrusage(resource.RUSAGE_CHILDREN)
-        if done.returncode: sys.exit(f"{command}: status {done.returncode}: {done.stderr.decode()}")
-        took = after.ru_utime + after.ru_stime - before.ru_utime - before.ru_stime
-        least = took if least is None else min(least, took)
-    return 1000 * least
+def once(command, stdin, out):
+    """Processor time of one run in milliseconds, start-up included."""
+    before = resource.getrusage(resource.RUSAGE_CHILDREN)
+    with open(stdin) as i, open(out, "w") as o:
+        done = subprocess.run(command, stdin=i, stdout=o, stderr=subprocess.PIPE)
+    after = resource.getrusage(resource.RUSAGE_CHILDREN)
+    if done.returncode: sys.exit(f"{command}: status {done.returncode}: {done.stderr.decode()}")
+    return 1000 * (after.ru_utime + after.ru_stime - before.ru_utime - before.ru_stime)
+
+def best(rounds, command, stdin, out):
+    return min(once(command, stdin, out) for _ in range(rounds))
+
+def build(zedrun, *objects):
+    subprocess.run(["gcc", "-std=c11", "-O2", "-Iinclude", "-o", zedrun, "bench/zedrun.c", "loader/files.c", *objects], check=True)
 
 def read(path):
     with open(path, "rb") as f: return f.read()
@@ -78,36 +79,37 @@ def third(lines):
     """ed has no steps of lines: the lines to delete are named from the last on."""
     return "".join(f"{i}d\n" for i in range(1 + (lines - 1) // 3 * 3, 0, -3)) + "w OUT\nq\n"
 
-def compare(folder, zedrun, lines):
+def compare(folder, zedrun, lines, rounds):
     print(f"{'edit':32} {'zed ms':>8} {'sed ms':>8} {'ed ms':>9} {'sed/zed':>8} {'ed/zed':>8}")
     old, script, sed, ed, out = (os.path.join(folder, n) for n in ("OLD", "ZED", "SED", "ED", "OUT"))
     for name, text, z, s, e in jobs(lines):
         e = (e or third(lines)).replace("OUT", out + ".ed")
         write(old, text), write(script, z), write(sed, s), write(ed, e)
-        zt = best([zedrun, old, script], os.devnull, out + ".zed")
-        st = best(["sed", "-f", sed, old], os.devnull, out + ".sed")
-        et = best(["ed", "-s", old], ed, os.devnull)
+        zt = best(rounds, [zedrun, old, script], os.devnull, out + ".zed")
+        st = best(rounds, ["sed", "-f", sed, old], os.devnull, out + ".sed")
+        et = best(rounds, ["ed", "-s", old], ed, os.devnull)
         if not read(out + ".zed") == read(out + ".sed") == read(out + ".ed"): sys.exit(f"{name}: the results differ")
         print(f"{name:32} {zt:8.1f} {st:8.1f} {et:9.1f} {st / zt:8.2f} {et / zt:8.2f}")
 
-def grows(folder, zedrun, few, many):
+def grows(folder, zedrun, few, many, rounds):
     print(f"\n{'one run, microseconds':32} {few:>8} {many:>8} {'grows by':>9}   lines grow by {many / few:.1f}")
     old, script = os.path.join(folder, "OLD"), os.path.join(folder, "ZED")
     for (name, t1, z1, _, _), (_, t2, z2, _, _) in list(zip(jobs(few), jobs(many)))[:-1]:
         took = []
         for text, z in ((t1, z1), (t2, z2)):
             write(old, text), write(script, z)
-            done = subprocess.run([zedrun, old, script, str(5 * ROUNDS)], stdout=subprocess.DEVNULL, stderr=subprocess.PIPE, check=True)
+            done = subprocess.run([zedrun, old, script, str(5 * rounds)], stdout=subprocess.DEVNULL, stderr=subprocess.PIPE, check=True)
             took.append(float(done.stderr))
         print(f"{name:32} {took[0]:8.0f} {took[1]:8.0f} {took[1] / took[0]:9.2f}")
 
 def main():
     os.chdir(ROOT)
+    rounds = int(sys.argv[1]) if len(sys.argv) > 1 else 10
     subprocess.run(["rt", "staticlib", "zed"], check=True, stdout=subprocess.DEVNULL)
     with tempfile.TemporaryDirectory() as folder:
         zedrun = os.path.join(folder, "zedrun")
-        subprocess.run(["gcc", "-std=c11", "-O2", "-Iinclude", "-o", zedrun, "bench/zedrun.c", "loader/files.c", "target/staticlib/libzed.a"], check=True)
-        compare(folder, zedrun, 65535)
-        grows(folder, zedrun, 6553, 65535)
+        build(zedrun, "target/staticlib/libzed.a")
+        compare(folder, zedrun, 65535, rounds)
+        grows(folder, zedrun, 6553, 65535, rounds)
 
 if __name__ == "__main__": main()

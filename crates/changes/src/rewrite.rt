@@ -4,13 +4,13 @@ ghost use mathlib.Core.Bool.{true};
 ghost use mathlib.Core.List.{List, [], _∷_, _++_};
 ghost use Prim.Native.Nat.{_+_, _≤_, _<_};
 ghost use lib.ListN.{length, take, drop, set};
-ghost use Rattle.definitions.specs.Bytes.{eqLine, isLine, allText};
+ghost use Rattle.definitions.specs.Bytes.{isLine, allText};
 ghost use Rattle.definitions.specs.Journal.{Record};
 ghost use Rattle.definitions.specs.Edit.{splice};
 ghost use Rattle.definitions.specs.Editor.{retext};
 ghost use Rattle.definitions.specs.StepProgram.{gives, changes};
 ghost use Rattle.editor.specs.Shows.{Holds, ShowsText, Completes};
-ghost use Rattle.changes.specs.Current.{part, written, EndsAt, HasEnds, Builds, MakesAnew, Replaces, Replacing, HasLine, Writes};
+ghost use Rattle.changes.specs.Current.{written, EndsAt, HasEnds, Builds, MakesAnew, Replaces, Replacing, HasLine, Writes};
 use editor::Moved;
 use editor::State;
 
@@ -38,14 +38,6 @@ fn record_ends(j: &[u8], st: State) -> Ends
         old: end,
         end: end + 1,
     }
-}
-
-// Are the bytes of j from `from` to `to` the first len bytes of line.
-fn is_same(j: &[u8], from: usize, to: usize, line: &[u8], len: usize) -> bool
-    requires { ⌜ (from ≤ to) × (to ≤ length (now j)) × (len ≤ length (now line)) ⌝ }
-    ensures { λ r. ⌜ r ≡ eqLine (part (now (j .entry)) from to) (take len (now (line .entry))) ⌝ }
-{
-    text::same(&j[from..to], &line[..len])
 }
 
 // One byte of a record.
@@ -92,7 +84,7 @@ fn build_record(rec: &mut [u8], j: &[u8], st: State, c: Ends, line: &[u8], len: 
     }
     let from = at + 2;
     let old = c.old;
-    if is_same(j, from, old, line, len) {
+    if text::is_same(j, from, old, line, len) {
         plain_record(rec, 61, line, len);
         return len + 3;
     }

@@ -16,7 +16,8 @@ use Rattle.theorems.specs.Lines.{and-right}
 use Rattle.text.specs.Lines.{part}
 use Rattle.text.proofs.Parts.{part-none, part-cons}
 use Rattle.matching.proofs.Counts.{no-place, found-here, not-here}
-use Rattle.matching.specs.Quals.{anchorOf, columnsOf, qualifiersOf, foundOf}
+use Rattle.matching.proofs.Plain.{plain-none}
+use Rattle.matching.specs.Quals.{plain, qualifiersOf, foundOf}
 use Rattle.matching.specs.declared.Quals.{Quals}
 use Rattle.matching.specs.declared.Found.{Found}
 use Rattle.matching.specs.declared.Found.the-variants.{At, Nothing}
@@ -154,13 +155,9 @@ module _ (s put : List ℕ) where
           by (some a) g h = absurd (h (omega (arith, g .fits)))
 
 -- what `find` gives without qualifiers
-abbrev plain : Quals
-plain = record { anchor = 0; count = 0; last = false; negated = false; word = false; fold = false; skip = false; from = 0; to = 0 }
-
-module _ (s l : List ℕ) (p : ℕ) (r : Found) (e : foundOf r ≡ placeOf (qualified (qualifiersOf plain) s) p l) where
+module _ (s l : List ℕ) (p : ℕ) (r : Found) (q : Quals) (none : q ≡ plain) (e : foundOf r ≡ placeOf (qualified (qualifiersOf q) s) p l) where
   plainly : foundOf r ≡ placeOf (qualified noQualifiers s) p l
-  unfolding qualifiersOf anchorOf columnsOf noQualifiers
-  plainly = e
+  plainly = rw (← plain-none, ← none) e
 
   pub is-at : (i : ℕ) → r ≡ At i → i ≡ nextPlace s l p
   unfolding foundOf placeOr

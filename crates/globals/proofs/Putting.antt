@@ -58,7 +58,7 @@ unfolding LeftAs
 long-anyhow (got l) out line h = h
 long-anyhow (stop n) out line h = h
 
-left-few : (x : Got Line) (m : ℕ) (out : List ℕ) → LeftAs (Text m) out x → m ≤ 255
+pub left-few : (x : Got Line) (m : ℕ) (out : List ℕ) → LeftAs (Text m) out x → m ≤ 255
 unfolding LeftAs
 left-few (got l) m out h = h .0
 left-few (stop n) m out h = absurd h

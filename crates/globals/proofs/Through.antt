@@ -16,6 +16,7 @@ use Rattle.globals.specs.Standing.{GlobalAt, StandingAt, most, StandingB
 use Rattle.globals.specs.Passing.{LeftAs, MakesGlobal, PassesOne, PassesAll}
 use Rattle.globals.specs.declared.Passed.{Passed}
 use Rattle.globals.specs.declared.Passed.the-variants.{Text, Long}
+use Rattle.globals.proofs.Putting.{left-few}
 
 -- ---- the first of several
 
@@ -36,11 +37,6 @@ one-long (global s put) gs l line h = by (ltb 255 (length (putForEach s put 0 l)
         → _≡_ {A = Got Line} (elim t [ true ↦ stop n25 | false ↦ passedThrough gs (putForEach s put 0 l) ]) (stop n25)
     by true h = refl
     by false h = absurd h
-
-one-few : (x : Got Line) (m : ℕ) (line : List ℕ) → LeftAs (Text m) line x → m ≤ 255
-unfolding LeftAs
-one-few (got l) m line h = h .0
-one-few (stop n) m line h = absurd h
 
 -- ---- the globals from the ith word on
 
@@ -149,7 +145,7 @@ module _ (s w l line : List ℕ) (len i : ℕ) (a : Acted s w l line len i) wher
       pub act-few : (m : ℕ) → r ≡ Text m → ((c : Carried) × Standing s w c) → m ≤ 255
       act-few m e (carried gs, h) =
           let y = another (h .end) gs (a .so (h .end) gs (h .below)) in
-          one-few (passedThrough (y .x ∷ []) (take len line)) m line′ (subst (λ (r : Passed). LeftAs r line′ (passedThrough (y .x ∷ []) (take len line))) e (left-so (h .end) gs (h .below) y))
+          left-few (passedThrough (y .x ∷ []) (take len line)) m line′ (subst (λ (r : Passed). LeftAs r line′ (passedThrough (y .x ∷ []) (take len line))) e (left-so (h .end) gs (h .below) y))
 
 -- the reserve is there
 pub has-reserve : (s w : List ℕ) → ((c : Carried) × Standing s w c) → reserve ≤ length w

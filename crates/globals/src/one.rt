@@ -10,7 +10,6 @@ use items::heads::kind_of;
 use items::kinds::GLOBAL_AFTER;
 use items::kinds::GLOBAL_BEFORE;
 use matching::Found;
-use matching::Quals;
 use matching::search::length_at;
 use matching::search::start_at;
 use text::copies::copy_in;
@@ -20,18 +19,7 @@ fn next_place(line: &[u8], at: usize, s: &[u8]) -> usize
     requires { ⌜ at ≤ length (now line) ⌝ }
     ensures { λ r. ⌜ r ≡ nextPlace (now (s .entry)) (now (line .entry)) at ⌝ }
 {
-    let plain = Quals {
-        anchor: 0,
-        count: 0,
-        last: false,
-        negated: false,
-        word: false,
-        fold: false,
-        skip: false,
-        from: 0,
-        to: 0,
-    };
-    let found = matching::find(line, at, plain, s);
+    let found = matching::find(line, at, matching::no_qualifiers(), s);
     match found {
         Found::At(i) => i,
         Found::Nothing => line.len(),

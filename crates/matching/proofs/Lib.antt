@@ -1,5 +1,6 @@
 pub mod Bytes
 pub mod Strings
+pub mod Plain
 pub mod Texts
 pub mod Scans
 pub mod Counts

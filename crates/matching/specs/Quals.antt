@@ -1,5 +1,6 @@
 -- What the values of the code stand for, in the terms of the definitions. Assumes nothing.
 use mathlib.Core.Path.{_≡_}
+use mathlib.Core.Bool.{false}
 use mathlib.Core.Option.{Option, none, some}
 use Prim.Native.Nat.{ℕ, zero, suc, _≤_}
 use lib.ListN.{length}
@@ -25,6 +26,10 @@ columnsOf (suc n) m = columns (suc n) m
 unfoldable pub qualifiersOf : Quals → Qualifiers
 qualifiersOf q =
     qualifiers (anchorOf (q .anchor)) (q .count) (q .last) (q .negated) (q .word) (q .fold) (q .skip) (columnsOf (q .from) (q .to))
+
+-- no qualifiers
+abbrev pub plain : Quals
+plain = record { anchor = 0; count = 0; last = false; negated = false; word = false; fold = false; skip = false; from = 0; to = 0 }
 
 -- the part of the line is the text t, and lies within the line
 pub record TextIn (l : Line) (r : Span) (t : Text) : Type 0 where

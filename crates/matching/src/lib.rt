@@ -8,7 +8,7 @@ ghost use mathlib.Core.Path.{_≡_};
 ghost use Prim.Native.Nat.{_+_, _≤_};
 ghost use lib.ListN.{length};
 ghost use Rattle.definitions.specs.Matching.{qualified, standsAt, onlyAt, placeOf, matches};
-ghost use Rattle.matching.specs.Quals.{qualifiersOf, foundOf};
+ghost use Rattle.matching.specs.Quals.{plain, qualifiersOf, foundOf};
 use place::stands;
 use scan::from_left;
 use scan::from_right;
@@ -25,6 +25,23 @@ pub struct Quals {
     pub skip: bool,
     pub from: usize,
     pub to: usize,
+}
+
+// No qualifiers.
+pub fn no_qualifiers() -> Quals
+    ensures { λ r. ⌜ r ≡ plain ⌝ }
+{
+    Quals {
+        anchor: 0,
+        count: 0,
+        last: false,
+        negated: false,
+        word: false,
+        fold: false,
+        skip: false,
+        from: 0,
+        to: 0,
+    }
 }
 
 // The text that is searched: a part of the line.

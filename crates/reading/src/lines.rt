@@ -2,8 +2,8 @@
 ghost use mathlib.Core.Path.{_≡_};
 ghost use mathlib.Core.Bool.{true};
 ghost use Prim.Native.Nat.{_+_, _-_, _≤_, _<_};
-ghost use lib.ListN.{length, take, drop};
-ghost use Rattle.definitions.specs.Bytes.{eqLine, isLine};
+ghost use lib.ListN.{length, take};
+ghost use Rattle.definitions.specs.Bytes.{isLine};
 ghost use Rattle.reading.specs.Carrying.{SomeStand};
 ghost use Rattle.reading.specs.Lines.{AtUnread, KeptAt, PassesText, SomePassed, Changes, TakesText, ReadsLine, ReadsLines};
 use editor::Moved;
@@ -19,14 +19,6 @@ pub fn pass_text(script: &[u8], w: &[u32], j: &[u8], at: usize, line: &mut [u8])
     let n = x.n;
     text::copies::copy_in(line, 0, j, x.from, n);
     globals::pass(script, w, line, n)
-}
-
-// Are the bytes of j from `from` to `to` the first m bytes of line.
-pub fn is_same(j: &[u8], from: usize, to: usize, line: &[u8], m: usize) -> bool
-    requires { ⌜ (from ≤ to) × (to ≤ length (now j)) × (m ≤ length (now line)) ⌝ }
-    ensures { λ r. ⌜ r ≡ eqLine (take (to - from) (drop from (now (j .entry)))) (take m (now (line .entry))) ⌝ }
-{
-    text::same(&j[from..to], &line[..m])
 }
 
 // The kept record from f up to the gap becomes a changed one, with the first m bytes of line for its text. There is room.
@@ -53,7 +45,7 @@ fn take_text(j: &mut [u8], st: State, f: usize, line: &[u8], m: usize) -> Moved
     ensures { λ r. ⌜ TakesText f (take m (now (line .entry))) (now (j .entry)) st (now (j .exit)) r ⌝ }
 {
     let end = st.front - 1;
-    if is_same(j, f + 2, end, line, m) {
+    if text::is_same(j, f + 2, end, line, m) {
         return Moved::On(st);
     }
     let room = st.back - st.front;

@@ -11,7 +11,8 @@ use Rattle.definitions.specs.Matching.{Qualifiers}
 use Rattle.definitions.specs.Reader.{Cursor, got, refused, bytesLeft, nextByte, skipSpaces, isDelimiter}
 use Rattle.definitions.specs.Strings.{noQualifiers, qualifierByte, readQualifier, readQualifiers, startQualifiers}
 use Rattle.matching.specs.declared.Quals.{Quals}
-use Rattle.matching.specs.Quals.{anchorOf, columnsOf, qualifiersOf}
+use Rattle.matching.specs.Quals.{plain, qualifiersOf}
+use Rattle.matching.proofs.Plain.{plain-none}
 use Rattle.answers.specs.declared.Answer.{Answer}
 use Rattle.answers.specs.Answers.{QualifiersOr}
 use Rattle.lexer.specs.Places.{cursorAt}
@@ -19,12 +20,8 @@ use Rattle.lexer.proofs.AtPlace.{next-inside}
 use Rattle.strings.specs.Answers.{Small, qualifierHere, QualifierAt, QualifiersRead}
 
 -- no qualifiers, as the code writes them
-abbrev pub none-yet : Quals
-none-yet = record { anchor = 0; count = 0; last = false; negated = false; word = false; fold = false; skip = false; from = 0; to = 0 }
-
-pub none-are : qualifiersOf none-yet ≡ noQualifiers
-unfolding qualifiersOf noQualifiers anchorOf columnsOf
-none-are = refl
+pub none-are : (q : Quals) → q ≡ plain → (qualifiersOf q ≡ noQualifiers) × Small q × (q .from ≡ 0)
+none-are q e = rw e (plain-none, record { anchor = omega arith; count = omega arith; from = omega arith; to = omega arith; unset = λ e. refl }, refl)
 
 -- a delimiter is a byte of the script
 pub opens-inside : (s : List ℕ) (i : ℕ) → isDelimiter (nextByte (cursorAt s i)) ≡ true → i < length s

@@ -9,7 +9,6 @@ use lexer::strings::past_delimiter;
 use lexer::strings::quoted;
 use lexer::strings::string_end;
 use matching::Quals;
-use qualifiers::no_qualifiers;
 use qualifiers::read_qualifiers;
 ghost use mathlib.Core.Path.{_≡_};
 ghost use Prim.Native.Nat.{ℕ, _≤_};
@@ -123,7 +122,7 @@ pub fn two_plain_strings(s: &[u8], at: usize) -> Answer
         return Answer::Refused(4, open);
     }
     let first = Answer::OneString {
-        quals: no_qualifiers(),
+        quals: matching::no_qualifiers(),
         start,
         end,
         next,

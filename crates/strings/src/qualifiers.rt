@@ -2,7 +2,7 @@
 ghost use mathlib.Core.Path.{_≡_};
 ghost use Prim.Native.Nat.{_≤_};
 ghost use lib.ListN.{length};
-ghost use Rattle.definitions.specs.Strings.{noQualifiers, readCount, readColumns, startQualifiers};
+ghost use Rattle.definitions.specs.Strings.{readCount, readColumns, startQualifiers};
 ghost use Rattle.matching.specs.Quals.{qualifiersOf};
 ghost use Rattle.lexer.specs.Places.{cursorAt};
 ghost use Rattle.lexer.specs.Answers.{NumberRead, itself, Numbered};
@@ -115,28 +115,12 @@ fn read_qualifier(s: &[u8], at: usize, q: Quals, in_search: bool) -> Answer
     added_at(add_letter(q, upper(b), in_search), at, at + 1)
 }
 
-pub fn no_qualifiers() -> Quals
-    ensures { λ r. ⌜ (qualifiersOf r ≡ noQualifiers) × Small r × (r .from ≡ 0) ⌝ }
-{
-    Quals {
-        anchor: 0,
-        count: 0,
-        last: false,
-        negated: false,
-        word: false,
-        fold: false,
-        skip: false,
-        from: 0,
-        to: 0,
-    }
-}
-
 // The qualifiers up to the opening delimiter, which stands at the place answered.
 pub fn read_qualifiers(s: &[u8], at: usize, in_search: bool) -> Answer
     requires { ⌜ at ≤ length (now s) ⌝ }
     ensures { λ r. ⌜ QualifiersRead (now (s .entry)) at (startQualifiers «in_search» (cursorAt (now (s .entry)) at)) r ⌝ }
 {
-    let mut q = no_qualifiers();
+    let mut q = matching::no_qualifiers();
     let mut i = skip_spaces(s, at);
     loop {
         if is_delimiter(next_byte(s, i)) {

@@ -25,7 +25,7 @@ fn grows_by(script: &[u8], w: &[u32], j: &[u8], at: usize) -> Growth
         return Growth::Long;
     };
     let end = editor::walk::record_end(j, at) - 1;
-    if reading::lines::is_same(j, at + 2, end, &line, m) {
+    if text::is_same(j, at + 2, end, &line, m) {
         return Growth::Bytes(0);
     }
     Growth::Bytes(m + 1)

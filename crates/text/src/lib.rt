@@ -5,10 +5,10 @@ pub mod runs;
 
 ghost use mathlib.Core.Path.{_≡_};
 ghost use Prim.Native.Nat.{_+_, _≤_};
-ghost use lib.ListN.{length, drop};
+ghost use lib.ListN.{length, take, drop};
 ghost use Rattle.definitions.specs.Bytes.{eqLine, upper as «upper-of»};
 ghost use Rattle.definitions.specs.Table.{isScript};
-ghost use Rattle.text.specs.Lines.{lineEnd, linesForm, tableForm};
+ghost use Rattle.text.specs.Lines.{part, lineEnd, linesForm, tableForm};
 ghost use Rattle.text.specs.Buffer.{laid};
 
 // a to z become A to Z.
@@ -117,6 +117,14 @@ pub fn same(a: &[u8], b: &[u8]) -> bool
         i += 1;
     }
     true
+}
+
+// Are the bytes of j from `from` to `to` the first m bytes of line.
+pub fn is_same(j: &[u8], from: usize, to: usize, line: &[u8], m: usize) -> bool
+    requires { ⌜ (from ≤ to) × (to ≤ length (now j)) × (m ≤ length (now line)) ⌝ }
+    ensures { λ r. ⌜ r ≡ eqLine (part from to (now (j .entry))) (take m (now (line .entry))) ⌝ }
+{
+    same(&j[from..to], &line[..m])
 }
 
 // Copies `src` into `dest` from `at` on.

@@ -1,6 +1,7 @@
 -- `strings::two_plain_strings` meets its contract. Assumes nothing.
 use borrow.Author.Needs.{needs}
 use Rattle.answers.proofs.Taking.{is-two, no-two, up-strings}
+use Rattle.strings.proofs.Opening.{none-are}
 use Rattle.strings.proofs.Unqualified.{plain-refused, plain-empty, opening-in, plain-first, plain-both}
 use Rattle.strings.proofs.two_plain_strings.Statement.{statement}
 use Rattle.strings.proofs.two_plain_strings.Tie as tie
@@ -42,7 +43,7 @@ with-second-requires c κs =
     let start = c .before .before .before .before .before .before .before .before .before in
     let skipped = c .before .before .before .before .before .before .before .skip-spaces in
     let string = is-two (c .before .before .before .before .before .before .quoted .ensures) (c .before .before .before .before .string .given .1) in
-    let none = c .before .no-qualifiers .ensures in
+    let none = none-are _ (c .before .no-qualifiers .ensures) in
     (_, _, _, plain-first (start .args .s .now) (start .args .at) _ (skipped .ensures .0) (skipped .ensures .1 .0) _ _ _ string _ (none .0) (none .1) (none .2))
 
 returns-3 : tie.Need-returns-3
@@ -50,7 +51,7 @@ returns-3 c =
     let start = c .before .before .before .before .before .before .before .before .before .before in
     let skipped = c .before .before .before .before .before .before .before .before .skip-spaces in
     let string = is-two (c .before .before .before .before .before .before .before .quoted .ensures) (c .before .before .before .before .before .string .given .1) in
-    let none = c .before .before .no-qualifiers .ensures in
+    let none = none-are _ (c .before .before .no-qualifiers .ensures) in
     plain-both (start .args .s .now) (start .args .at) _ (skipped .ensures .0) (skipped .ensures .1 .0) _ _ _ string _ (none .0) (none .1) (none .2) (c .before .before .before .if1 .left) (c .with-second .ensures)
 
 pub two-plain-strings-spec : {M : Type 1} → statement M

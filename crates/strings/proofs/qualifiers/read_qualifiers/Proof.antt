@@ -5,7 +5,7 @@ use native.Mathlib.Omega.{arith}
 use lib.ListN.{length}
 use borrow.Author.Needs.{needs}
 use Rattle.answers.proofs.Taking.{is-qualifiers, no-qualifiers, up-qualifiers}
-use Rattle.strings.proofs.Opening.{Begun, begins, opened, refused-up, goes-round}
+use Rattle.strings.proofs.Opening.{none-are, Begun, begins, opened, refused-up, goes-round}
 use Rattle.strings.proofs.qualifiers.read_qualifiers.Statement.{statement}
 use Rattle.strings.proofs.qualifiers.read_qualifiers.Tie as tie
 
@@ -24,9 +24,9 @@ skip-spaces-requires c κs = search needs
 loop-holds : tie.Need-loop-holds Inv-loop μ-loop
 loop-holds c =
     let start = c .before .before .before in
-    let no-qualifiers = c .before .no-qualifiers in
+    let none = none-are _ (c .before .no-qualifiers .ensures) in
     let skip-spaces = c .skip-spaces in
-    begins (start .args .s .now) (start .args .at) (start .args .in-search) _ _ (skip-spaces .ensures .0) (skip-spaces .ensures .1 .0) (skip-spaces .ensures .1 .1) (no-qualifiers .ensures .0) (no-qualifiers .ensures .1) (no-qualifiers .ensures .2)
+    begins (start .args .s .now) (start .args .at) (start .args .in-search) _ _ (skip-spaces .ensures .0) (skip-spaces .ensures .1 .0) (skip-spaces .ensures .1 .1) (none .0) (none .1) (none .2)
 
 next-byte-requires : tie.Need-next-byte-requires Inv-loop μ-loop
 next-byte-requires c κs = search needs

@@ -1,8 +1,8 @@
 use mathlib.Core.Path.{sym}
 use lib.Seq.{length-take-le}
 use borrow.Author.Needs.{needs}
-use Rattle.changes.proofs.rewrite.is_same.Statement.{statement}
-use Rattle.changes.proofs.rewrite.is_same.Tie as tie
+use Rattle.text.proofs.is_same.Statement.{statement}
+use Rattle.text.proofs.is_same.Tie as tie
 
 sub-same : tie.Need-sub-same
 sub-same c = search needs
