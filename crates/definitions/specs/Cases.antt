@@ -9,10 +9,11 @@ use Rattle.definitions.specs.Run.{Answer, answer, refusal, workLength, r
 use Rattle.definitions.specs.Program.{printed, programPrints}
 use Rattle.definitions.specs.Everything.{everything}
 
--- A case: the budget, the table, the script, and the answer: number, steps, furthest, place, records. Or a table, a script, and what the test program
--- prints of them.
+-- A case: the budget, the table, the script, and the answer: number, steps, furthest, place, records. Or the journal buffer's length in place of the
+-- budget. Or a table, a script, and what the test program prints of them.
 pub data Case : Type 0 where
   case : ℕ → String → String → Answer → Case
+  fits : ℕ → String → String → Answer → Case
   prints : String → String → String → Case
 
 -- what is compared: an answer, or printed bytes
@@ -20,19 +21,21 @@ pub data Shown : Type 0 where
   ends : Answer → Shown
   shows : List ℕ → Shown
 
--- by the definitions, with the least work area and a journal buffer of 65,536 bytes
+-- the largest budget
+unfoldable pub largest : ℕ
+largest = 4294967295
+
+-- by the definitions, with the least work area; where not stated, a journal buffer of 65,536 bytes and the largest budget
 unfoldable pub computed : Case → Shown
 computed (case budget table script a) = ends (runAnswer (bytes table) (bytes script) budget (workLength (bytes script)) 65536)
+computed (fits size table script a) = ends (runAnswer (bytes table) (bytes script) largest (workLength (bytes script)) size)
 computed (prints table script out) = shows (programPrints (bytes table) (bytes script))
 
 -- as document 01 has it
 unfoldable pub stated : Case → Shown
 stated (case budget table script a) = ends a
+stated (fits size table script a) = ends a
 stated (prints table script out) = shows (bytes out)
-
--- the largest budget
-unfoldable pub largest : ℕ
-largest = 4294967295
 
 unfoldable pub k1Table : String
 k1Table = "R01 open 06:10 90\nR02 open 06:25 90\nR03 open 07:00 60\n"
@@ -156,6 +159,10 @@ wishTwoCases =
     ∷ case largest "a\na\na\n" "GE/a/b/; IS/a/; D\n" (answer 0 3 2 0 (inserted (bytes "a") ∷ deleted (bytes "a") ∷ changed (bytes "a") (bytes "b") ∷ changed (bytes "a") (bytes "b") ∷ []))
     -- a stop among the unread lines leaves all of them kept, and has the script's length as place (W2.12)
     ∷ case largest "a\na\nb\n" "GE/a/c/; 4 GE/b/bbbb/\n" (answer 25 9 1 22 (same "a" ∷ same "a" ∷ same "b" ∷ []))
+    ∷ fits 14 "a\na\na\n" "GE/a/b/; N\n" (answer 26 2 2 11 (same "a" ∷ changed (bytes "a") (bytes "b") ∷ same "a" ∷ []))
+    -- 26 is tested after the last global, on the journal with the line's record: 11 bytes here; the line keeps its text and counts as read (W2.7, W2.8)
+    ∷ fits 11 "a\na\n" "GE/a/b/; GE/b/cc/; N\n" (answer 0 3 2 0 (same "a" ∷ changed (bytes "a") (bytes "cc") ∷ []))
+    ∷ fits 10 "a\na\n" "GE/a/b/; GE/b/cc/; N\n" (answer 26 3 2 19 (same "a" ∷ same "a" ∷ []))
     -- sixteen may stand, and after CG sixteen more (W2.3)
     ∷ case largest "a\n" "16 GE/a/a/; CG; 17 GE/a/a/\n" (answer 31 67 1 19 (same "a" ∷ []))
     -- the two strings are read as E's; the first may not be empty, and takes no qualifier (W2.1, W2.2)

@@ -8,7 +8,7 @@ use Rattle.definitions.specs.Bytes.{Line, linesOf}
 use Rattle.definitions.specs.Table.{isTable}
 use Rattle.definitions.specs.Tape.{Tape, unread, restLines}
 use Rattle.definitions.specs.Given.{given, bytes}
-use Rattle.definitions.specs.Editor.{Ed, journal}
+use Rattle.definitions.specs.Editor.{Ed}
 use Rattle.definitions.specs.Reading.{opening}
 use Rattle.definitions.specs.StepProgram.{RunState, state, textOf, Out, on, edited, halt}
 use Rattle.definitions.specs.Edit.{Op, step}

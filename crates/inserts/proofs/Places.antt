@@ -1,6 +1,6 @@
 -- I with a line: the move, and then the insertion where it came to. Assumes nothing.
 use mathlib.Core.Path.{_≡_, refl}
-use mathlib.Core.Option.{Option, none, some}
+use mathlib.Core.Option.{Option, none}
 use mathlib.Core.List.{List, [], _∷_}
 use Prim.Native.Nat.{ℕ, _-_}
 use lib.ListN.{length}
@@ -8,14 +8,13 @@ use Rattle.definitions.specs.Bytes.{Line}
 use Rattle.definitions.specs.Tape.{Tape}
 use Rattle.definitions.specs.Given.{Given, Carried}
 use Rattle.definitions.specs.Editor.{Ed, Target, put}
-use Rattle.definitions.specs.Reading.{Ran}
 use Rattle.definitions.specs.StepProgram.{gives, _>>=_, _>>_, runs, state, changes, perform}
 use Rattle.definitions.specs.Edit.{goTo, Op, program, step}
-use Rattle.editor.specs.Shows.{ShowsText, lent, Came, Answered, Performs, targetNumbered}
+use Rattle.editor.specs.Shows.{lent, Came, Answered, Performs, targetNumbered}
 use Rattle.editor.specs.declared.State.{State}
 use Rattle.editor.specs.declared.Moved.{Moved}
 use Rattle.editor.specs.declared.Moved.the-variants.{On, Stop}
-use Rattle.editor.proofs.Parts.{lent-same, Went, went, perform-then, perform-halt}
+use Rattle.editor.proofs.Parts.{lent-same, perform-then, perform-halt}
 use Rattle.inserts.specs.Lines.{spotOf}
 use Rattle.inserts.proofs.Codes.{spot-some}
 

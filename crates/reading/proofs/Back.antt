@@ -1,14 +1,14 @@
 -- The gap goes back over records that it has passed. Assumes nothing.
-use mathlib.Core.Path.{_≡_, refl, sym, ap, _∙_}
+use mathlib.Core.Path.{_≡_, sym, ap, _∙_}
 use Prim.Native.Nat.{ℕ, _+_, _-_, _≤_}
 use native.Mathlib.Omega.{arith}
-use mathlib.Core.List.{List, [], _∷_, _++_, reverseAux, append-assoc}
+use mathlib.Core.List.{List, [], _∷_, _++_, reverseAux}
 use lib.ListN.{length, length-append}
 use Rattle.gap.specs.Gap.{zeros, ZeroGap, movedUp}
 use Rattle.gap.proofs.Laws.{up-parts}
 use Rattle.definitions.specs.Journal.{Record}
 use Rattle.theorems.specs.RecordLaws.{sources-append, sources-reverse}
-use Rattle.editor.specs.Records.{enc, encAll, encBefore, Goods, oldBytes}
+use Rattle.editor.specs.Records.{encAll, encBefore, Goods, oldBytes}
 use Rattle.editor.specs.Shows.{Holds}
 use Rattle.editor.specs.declared.State.{State}
 use Rattle.editor.proofs.Records.{old-bytes-nil, old-bytes-cons, old-bytes-reverse, all-before, enc-append, goods-append}

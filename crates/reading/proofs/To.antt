@@ -10,10 +10,10 @@ use Rattle.definitions.specs.Bytes.{Line}
 use Rattle.definitions.specs.Journal.{Record, kept, changed, deleted, inserted, oldOf, oldSide, upToLine, afterLine}
 use Rattle.definitions.specs.Tape.{Tape, unread, ended, restLines, bind}
 use Rattle.definitions.specs.Given.{Given, Carried, noGlobals}
-use Rattle.definitions.specs.Editor.{Ed, ed, beforeOf, afterOf, records, sources, furthest, stopNumber, Target, line, eof}
+use Rattle.definitions.specs.Editor.{Ed, ed, beforeOf, afterOf, records, sources, furthest, stopNumber, line, eof}
 use Rattle.definitions.specs.Editor.{Stop as StopNumber}
 use Rattle.definitions.specs.Reading.{Ran, gave, stopped, onceRead, seen, readLine, readLines, readTo}
-use Rattle.definitions.specs.StepProgram.{gives, runs}
+use Rattle.definitions.specs.StepProgram.{runs}
 use Rattle.definitions.specs.Edit.{readUpTo}
 use Rattle.theorems.specs.RecordLaws.{reverse-append, reverse-twice, sources-append, sources-reverse, sources-kept}
 use Rattle.theorems.specs.ReadLines.{runs-read, lines-ended}

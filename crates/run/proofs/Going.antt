@@ -1,5 +1,5 @@
 -- The run's loop: where it stands after each round, and how it ends. Assumes nothing.
-use mathlib.Core.Path.{_≡_, refl, sym, ap, _∙_, subst}
+use mathlib.Core.Path.{_≡_, refl, sym, _∙_, subst}
 use mathlib.Core.Logic.{_⊎_, inl, inr}
 use mathlib.Core.Bool.{true, false, cond}
 use mathlib.Core.List.{List, []}
@@ -22,7 +22,7 @@ use Rattle.control.specs.declared.Wanted.{Wanted}
 use Rattle.control.specs.declared.Next.{Next}
 use Rattle.control.specs.declared.Next.the-variants.{Finished, Want}
 use Rattle.control.specs.Shown.{ItemsKept, ShowsCtl, ShowsWant, ShowsNext}
-use Rattle.control.proofs.Standing.{WordsKept, ctl-stays}
+use Rattle.control.proofs.Standing.{ctl-stays}
 use Rattle.editor.specs.declared.State.{State}
 use Rattle.editor.specs.Current.{Ready}
 use Rattle.seeks.specs.declared.Looked.the-variants.{Yes, No, Stop}

@@ -12,7 +12,7 @@ use Rattle.definitions.specs.Bytes.{Line}
 use Rattle.definitions.specs.Journal.{Record, kept, changed, deleted, inserted, erase, oldSide, oldOf, recordLength, journalLength}
 use Rattle.definitions.specs.Editor.{sources}
 use Rattle.theorems.specs.RecordLaws.{old-append}
-use Rattle.editor.specs.Records.{enc, encAll, encBefore, mark, Goods, oldBytes, zeroPlace}
+use Rattle.editor.specs.Records.{enc, encAll, encBefore, Goods, oldBytes, zeroPlace}
 use Rattle.editor.specs.Shows.{Holds, Stays}
 use Rattle.editor.specs.declared.State.{State}
 use Rattle.editor.proofs.Records.{text-place, line-text, three-bytes, enc-length, enc-append, goods-append}

@@ -8,7 +8,7 @@ use Prim.Native.Nat.{ℕ, _+_}
 use native.Mathlib.Omega.{arith}
 use lib.ListN.{length, length-append}
 use lib.Dec.{eqb, leb}
-use borrow.Author.Tests.{ne-eqb, eqb-true}
+use borrow.Author.Tests.{eqb-true}
 use Rattle.definitions.specs.Bytes.{Line, isText, linesOf, before, lastByte, allText, isLine, allLines, areLines, lineBytes, linesBytes}
 use Rattle.theorems.specs.Lines.{text-not-lf, lines-other}
 use Rattle.text.specs.Lines.{upToLF, cutAt}

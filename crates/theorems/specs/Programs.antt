@@ -11,7 +11,7 @@ use Rattle.definitions.specs.Tape.{Tape, Reads, ret, bind}
 use Rattle.definitions.specs.Given.{Given, Carried}
 use Rattle.definitions.specs.Editor.{Ed, ed, current, Stop, Got, got, stop, Move, moved}
 use Rattle.definitions.specs.Reading.{Ran, gave, stopped, onceRead, readTo}
-use Rattle.definitions.specs.StepProgram.{Program, gives, stops, looks, reads, moves, _>>=_, _>>_, onceMoved, runs, RunState, state, Did, Out, finish, perform}
+use Rattle.definitions.specs.StepProgram.{Program, gives, stops, looks, reads, moves, _>>=_, _>>_, onceMoved, runs, state, Did, finish, perform}
 use Rattle.definitions.specs.Edit.{stopIf, orStop, either, go, lineIn, lineOr, Op, program, step}
 
 module _ {A B : Type 0} (g : Given) (c : Carried) (k : A → Program B) where

@@ -1,4 +1,3 @@
-use Prim.Native.Nat.{_-_}
 use native.Mathlib.Omega.{arith}
 use Rattle.lexer.proofs.Parts.{past-closed, past-open, past-end}
 use borrow.Author.Needs.{needs}
