@@ -143,7 +143,9 @@ pub fn answer_step(
         Ask::Begin => once(seeks::begin(j, st)),
         Ask::BeginBack => once(seeks::begin_back(j, st)),
         Ask::Command => once(command(script, table, w, x.item, j, st)),
-        // One call for the three searches: only so is it made part of the loop over the steps, and their answers need not go through memory.
-        _ => search(script, table, w, x, j, st, way_of(what), left),
+        // One call for the three: only so does the compiler make it a part of the loop over the steps, and no step's answer goes through memory.
+        Ask::Find | Ask::FindBack | Ask::FindDelete => {
+            search(script, table, w, x, j, st, way_of(what), left)
+        }
     }
 }
