@@ -386,44 +386,38 @@ static void passed_lengths(void) {
 }
 
 /*
- * The shortest journal buffer with which a run with globals is done, and one byte less: then 26 on reading, by the command itself, or after the
- * script's end with the script's length as place.
+ * A run with globals whose journal buffer has `least` bytes at the least: done with so many and with more, and with one byte less it ends with 26,
+ * on reading, by the command itself, or after the script's end with the script's length as place.
  */
+static void needs_room(const char *table, const char *script, size_t least, uint64_t furthest, uint64_t place, const char *before) {
+    struct outcome o = run(table, script, 99, 999), exact = run(table, script, 99, least);
+
+    check(script, o.kept && exact.kept && o.answer.number == 0 && memcmp(&o.answer, &exact.answer, sizeof o.answer) == 0 &&
+                      memcmp(o.journal, exact.journal, (size_t)o.answer.length) == 0);
+    wants_read(script, run(table, script, 99, least - 1), 26, furthest, place, before);
+    free(o.journal), free(exact.journal);
+}
+
 static void passed_rooms(void) {
-    static const struct {
-        const char *table, *script;
-        size_t least;
-        uint64_t furthest, place;
-        const char *before;
-    } cases[] = {
-        { "a\na\na\n", "GE/a/b/;N;CG\n", 14, 2, 8, "==a\n==a\n==a\n" },
-        { "a\na\na\n", "GE/a/b/;M *\n", 16, 3, 8, "==a\n<>a\nb\n==a\n" },
-        { "a\na\na\n", "GE/a/b/\n", 16, 1, 8, "==a\n==a\n==a\n" },
-        { "a\na\na\n", "GE/a/b/;N\n", 16, 2, 10, "==a\n<>a\nb\n==a\n" },
-        { "a\na\na\n", "GE/a/bb/;GE/bb/c/\n", 16, 1, 18, "==a\n==a\n==a\n" },
-        { "a\na\n", "GE/a/b/;D\n", 10, 2, 8, "==a\n==a\n" },
-        { "a\na\na\n", "GE/a/b/;D 1 2\n", 16, 3, 8, "==a\n<>a\nb\n==a\n" },
-        { "a\na\na\n", "GE/a/b/;R\nx\nZ\nCG\n", 18, 2, 8, "==a\n<>a\nb\n==a\n" },
-        { "a\na\na\n", "GE/a/b/;CL//;CG\n", 15, 2, 8, "==a\n<>a\nb\n==a\n" },
-        { "a\na\na\n", "GE/a/b/;F/b/;CG\n", 14, 2, 8, "==a\n==a\n==a\n" },
-        { "a\na\na\n", "GE/a/b/;DF/b/;CG\n", 14, 2, 8, "==a\n==a\n==a\n" },
-        { "a\na\na\n", "GE/a/b/;I 3\nx\nZ\n", 20, 3, 8, "==a\n<>a\nb\n<>a\nb\n" },
-        { "a\na\na\n", "GE/a/b/;I *\nx\nZ\n", 20, 4, 8, "==a\n<>a\nb\n<>a\nb\n" },
-        { "a\na\na\n", "GE/a/b/;W;N\n", 16, 1, 12, "==a\n==a\n==a\n" },
-        { "a\na\na\n", "GE/a/b/;AGP;N\n\\ end\n", 16, 1, 20, "==a\n==a\n==a\n" },
-        { "a\na\na\n", "IS/x/;D;GE/a/b/\n", 18, 2, 16, "++x\n--a\n==a\n==a\n" },
-        { "a\na\na\n", "%;GE/a/b/\n", 18, 1, 10, "<>a\nA\n==a\n==a\n" },
-        { "a\nab\nc\n", "GE/a//;N;CG\n", 15, 2, 7, "==a\n==ab\n==c\n" },
-        { "a\nb\na\n", "GE/a//\n", 13, 1, 7, "==a\n==b\n==a\n" },
-    };
-    for (size_t i = 0; i < sizeof cases / sizeof cases[0]; i++) {
-        struct outcome o = run(cases[i].table, cases[i].script, 99, 999), exact = run(cases[i].table, cases[i].script, 99, cases[i].least);
-        check(cases[i].script, o.kept && exact.kept && o.answer.number == 0 && memcmp(&o.answer, &exact.answer, sizeof o.answer) == 0 &&
-                                   memcmp(o.journal, exact.journal, (size_t)o.answer.length) == 0);
-        wants_read(cases[i].script, run(cases[i].table, cases[i].script, 99, cases[i].least - 1), 26, cases[i].furthest, cases[i].place,
-                   cases[i].before);
-        free(o.journal), free(exact.journal);
-    }
+    needs_room("a\na\na\n", "GE/a/b/;N;CG\n", 14, 2, 8, "==a\n==a\n==a\n");
+    needs_room("a\na\na\n", "GE/a/b/;M *\n", 16, 3, 8, "==a\n<>a\nb\n==a\n");
+    needs_room("a\na\na\n", "GE/a/b/\n", 16, 1, 8, "==a\n==a\n==a\n");
+    needs_room("a\na\na\n", "GE/a/b/;N\n", 16, 2, 10, "==a\n<>a\nb\n==a\n");
+    needs_room("a\na\na\n", "GE/a/bb/;GE/bb/c/\n", 16, 1, 18, "==a\n==a\n==a\n");
+    needs_room("a\na\n", "GE/a/b/;D\n", 10, 2, 8, "==a\n==a\n");
+    needs_room("a\na\na\n", "GE/a/b/;D 1 2\n", 16, 3, 8, "==a\n<>a\nb\n==a\n");
+    needs_room("a\na\na\n", "GE/a/b/;R\nx\nZ\nCG\n", 18, 2, 8, "==a\n<>a\nb\n==a\n");
+    needs_room("a\na\na\n", "GE/a/b/;CL//;CG\n", 15, 2, 8, "==a\n<>a\nb\n==a\n");
+    needs_room("a\na\na\n", "GE/a/b/;F/b/;CG\n", 14, 2, 8, "==a\n==a\n==a\n");
+    needs_room("a\na\na\n", "GE/a/b/;DF/b/;CG\n", 14, 2, 8, "==a\n==a\n==a\n");
+    needs_room("a\na\na\n", "GE/a/b/;I 3\nx\nZ\n", 20, 3, 8, "==a\n<>a\nb\n<>a\nb\n");
+    needs_room("a\na\na\n", "GE/a/b/;I *\nx\nZ\n", 20, 4, 8, "==a\n<>a\nb\n<>a\nb\n");
+    needs_room("a\na\na\n", "GE/a/b/;W;N\n", 16, 1, 12, "==a\n==a\n==a\n");
+    needs_room("a\na\na\n", "GE/a/b/;AGP;N\n\\ end\n", 16, 1, 20, "==a\n==a\n==a\n");
+    needs_room("a\na\na\n", "IS/x/;D;GE/a/b/\n", 18, 2, 16, "++x\n--a\n==a\n==a\n");
+    needs_room("a\na\na\n", "%;GE/a/b/\n", 18, 1, 10, "<>a\nA\n==a\n==a\n");
+    needs_room("a\nab\nc\n", "GE/a//;N;CG\n", 15, 2, 7, "==a\n==ab\n==c\n");
+    needs_room("a\nb\na\n", "GE/a//\n", 13, 1, 7, "==a\n==b\n==a\n");
 }
 
 /* 65,535 lines through one global and through sixteen, read and after the script's end; the journal buffer exact and one short. */

@@ -9,6 +9,7 @@ use lib.Seq.{length-take-le}
 use Rattle.definitions.specs.Bytes.{Line, eqLine, isLine}
 use Rattle.definitions.specs.Journal.{Record, kept, changed, deleted, inserted, change, rewrite, oldOf}
 use Rattle.definitions.specs.Tape.{Tape, restLines}
+use Rattle.definitions.specs.Given.{Carried}
 use Rattle.definitions.specs.Editor.{Ed, ed, beforeOf, afterOf, isLive, retext, edit, edits}
 use Rattle.definitions.specs.StepProgram.{gives, changes}
 use Rattle.editor.specs.Records.{enc, mark, Good}
@@ -182,10 +183,10 @@ module _ {j : List ℕ} {st : State} (l : Line) (fine : isLine l ≡ true) (d re
         (omega (arith, w .4 .ends, w .4 .holds .order), w .4 .fits)
 
     -- what `rewrite_current` does: there is no room
-    pub rewrites-full : (q : ℕ) → c .end < st .front + c .n → Completes j st (gives (changes (retext l q ∷ []))) j (Stop 26 st)
+    pub rewrites-full : (q : ℕ) → c .end < st .front + c .n → (x : Carried) → Completes x j st (gives (changes (retext l q ∷ []))) j (Stop 26 st)
     unfolding beforeOf afterOf edits edit
-    rewrites-full q few (ed b [] p) x t h = absurd (shown-record b p t h more)
-    rewrites-full q few (ed b (r ∷ a) p) x t h =
+    rewrites-full q few x (ed b [] p) t h = absurd (shown-record b p t h more)
+    rewrites-full q few x (ed b (r ∷ a) p) t h =
         let A : List Record = a ++ map kept (restLines t) in
         let w : Replacing j st (c .end) rec (c .n) b r A (rewrite r l) = replacing b r A (h .holds) (h .grounded) in
         changes-full x (retext l q ∷ []) (ed b (r ∷ a) p) t j j st
@@ -200,6 +201,6 @@ module _ {j : List ℕ} {st : State} (l : Line) (fine : isLine l ≡ true) (d re
         let w : SetTo st (c .end) (c .n) k s b (rewrite r l ∷ A) q = puts b r A (rewrite r l) (replacing b r A (h .holds) (h .grounded)) in
         retext-shows l q b r a p t h (w .holds) (w .furthest) (w .lines) (w .p)
 
-    pub rewrites-on : (k : List ℕ) (q : ℕ) (s : State) → length k ≡ length j → Replaces j st (c .end) rec (c .n) q k s → Completes j st (gives (changes (retext l q ∷ []))) k (On s)
+    pub rewrites-on : (k : List ℕ) (q : ℕ) (s : State) → length k ≡ length j → Replaces j st (c .end) rec (c .n) q k s → (x : Carried) → Completes x j st (gives (changes (retext l q ∷ []))) k (On s)
     unfolding edits
-    rewrites-on k q s same puts e x t h = changes-on x (retext l q ∷ []) e t j k s same (rewritten-shows k q s puts e t h)
+    rewrites-on k q s same puts x e t h = changes-on x (retext l q ∷ []) e t j k s same (rewritten-shows k q s puts e t h)

@@ -92,6 +92,6 @@ module _ (table j : List ℕ) (st : State) (i n : ℕ) (new d line : List ℕ) (
         rw (new-text e t w)
         (line-of (splice (currentLine e) i n new) (splice-text (currentLine e) i n new (shown-text e t (w .text .shows)) fine) (omega (arith, did e t w .0, short)))
 
-    pub writes-on : (k : List ℕ) (q : ℕ) (m : Moved) → Completes j st (gives (changes (retext (take len line) q ∷ []))) k m → Writes table j st (i + n) (λ l. splice l i n new) q k m
+    pub writes-on : (k : List ℕ) (q : ℕ) (m : Moved) → ((c : Carried) → Completes c j st (gives (changes (retext (take len line) q ∷ []))) k m) → Writes table j st (i + n) (λ l. splice l i n new) q k m
     writes-on k q m puts e c t w =
-        rw (write-on (lent j) c (splice (currentLine e) i n new) q e t (omega (arith, did e t w .0, short)), ← new-text e t w) (puts e c t (w .text .shows))
+        rw (write-on (lent j) c (splice (currentLine e) i n new) q e t (omega (arith, did e t w .0, short)), ← new-text e t w) (puts c e t (w .text .shows))

@@ -7,6 +7,7 @@ ghost use mathlib.Core.Bool.{true};
 ghost use Prim.Native.Nat.{_+_, _≤_};
 ghost use lib.ListN.{length};
 ghost use Rattle.definitions.specs.Bytes.{allText, lower as «lower-of»};
+ghost use Rattle.definitions.specs.Given.{Carried};
 ghost use Rattle.definitions.specs.Edit.{Op, alteredPoint, pointBy as «point-by», cased as «cased-of»};
 ghost use Rattle.editor.specs.Shows.{ShowsText, Performs, atPoint};
 ghost use Rattle.editor.specs.Current.{ShownOf, PerformsOf, IsReady, PerformsOn};
@@ -29,7 +30,7 @@ fn point_to(st: State, q: usize) -> Moved
 // PR: p = 0.
 pub fn point_start(j: &[u8], st: State) -> Moved
     requires { ⌜ ShowsText (now j) st ⌝ }
-    ensures { λ r. ⌜ Performs (now (j .entry)) st Op.pointStart (now (j .entry)) r ⌝ }
+    ensures { λ r. ⌜ ((c : Carried) → Performs c (now (j .entry)) st Op.pointStart (now (j .entry)) r) ⌝ }
 {
     let at = st.back;
     if at >= j.len() {
@@ -41,7 +42,7 @@ pub fn point_start(j: &[u8], st: State) -> Moved
 // <: p one to the left.
 pub fn left(j: &[u8], st: State) -> Moved
     requires { ⌜ ShowsText (now j) st ⌝ }
-    ensures { λ r. ⌜ Performs (now (j .entry)) st Op.left (now (j .entry)) r ⌝ }
+    ensures { λ r. ⌜ ((c : Carried) → Performs c (now (j .entry)) st Op.left (now (j .entry)) r) ⌝ }
 {
     let at = st.back;
     if at >= j.len() {

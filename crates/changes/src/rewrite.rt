@@ -6,6 +6,7 @@ ghost use Prim.Native.Nat.{_+_, _≤_, _<_};
 ghost use lib.ListN.{length, take, drop, set};
 ghost use Rattle.definitions.specs.Bytes.{isLine, allText};
 ghost use Rattle.definitions.specs.Journal.{Record};
+ghost use Rattle.definitions.specs.Given.{Carried};
 ghost use Rattle.definitions.specs.Edit.{splice};
 ghost use Rattle.definitions.specs.Editor.{retext};
 ghost use Rattle.definitions.specs.StepProgram.{gives, changes};
@@ -130,7 +131,7 @@ pub fn put_record(j: &mut [u8], st: State, end: usize, rec: &[u8], n: usize, q: 
 // The current line's text becomes the first len bytes of line, and p becomes q. 26: the journal would exceed its buffer.
 fn rewrite_current(j: &mut [u8], st: State, line: &[u8], len: usize, q: usize) -> Moved
     requires { ⌜ ShowsText (now j) st × (st .back < length (now j)) × (len ≤ length (now line)) × (isLine (take len (now line)) ≡ true) ⌝ }
-    ensures { λ r. ⌜ Completes (now (j .entry)) st (gives (changes (retext (take len (now (line .entry))) q ∷ []))) (now (j .exit)) r ⌝ }
+    ensures { λ r. ⌜ ((c : Carried) → Completes c (now (j .entry)) st (gives (changes (retext (take len (now (line .entry))) q ∷ []))) (now (j .exit)) r) ⌝ }
 {
     let mut rec = [0u8; 514];
     let c = record_anew(&mut rec, j, st, line, len);

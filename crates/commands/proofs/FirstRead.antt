@@ -18,7 +18,7 @@ use Rattle.theorems.specs.OldSide.{oldEd, journal-old}
 use Rattle.theorems.specs.ReadTo.{oldRan}
 use Rattle.theorems.specs.Step.{runs-faithful}
 use Rattle.theorems.specs.Programs.{runs-assoc}
-use Rattle.editor.specs.Shows.{lent, Came, Answered, CompletesPlain, pointOf}
+use Rattle.editor.specs.Shows.{lent, Came, Answered, Completes, pointOf}
 use Rattle.editor.specs.Current.{currentLine, TableOf, ShowsOf, ShownOf}
 use Rattle.editor.specs.declared.State.{State}
 use Rattle.editor.specs.declared.Moved.{Moved}
@@ -51,7 +51,7 @@ module _ (c : Carried) (f : ℕ → List Editing) (b : Through) (e : Ed) (t : Ta
 
   -- they are read: the rest is as where no global stands
   pub here-read : {i : List ℕ} {m : Moved} {s : State} (k : List ℕ) (r : Moved) → m ≡ On s → Came i m (runs (lent j) c (spanHere b) e t) → length i ≡ length j
-      → CompletesPlain i s (changeHere f b) k r → Answered k r (perform (lent j) (changeHere f b) (state e c) t)
+      → Completes noGlobals i s (changeHere f b) k r → Answered k r (perform (lent j) (changeHere f b) (state e c) t)
   here-read {i} {m} {s} k r q h long plain = by (went (runs (lent j) c (spanHere b) e t) (rw q at h))
     where
       by : Went i s (runs (lent j) c (spanHere b) e t) → Answered k r (perform (lent j) (changeHere f b) (state e c) t)

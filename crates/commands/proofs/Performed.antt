@@ -8,6 +8,7 @@ use lib.Dec.{eqb}
 use borrow.Author.Tests.{ne-eqb}
 use Rattle.definitions.specs.Bytes.{Line}
 use Rattle.definitions.specs.Tape.{bind}
+use Rattle.definitions.specs.Given.{Carried, noGlobals}
 use Rattle.definitions.specs.StepProgram.{runs, finish, perform, state}
 use Rattle.definitions.specs.Edit.{Op, program, step, quit}
 use Rattle.items.specs.Kinds.{wordShape, pairShape, fourShape, stringShape, changeShape, shapeOf, cancelKind}
@@ -17,7 +18,7 @@ use Rattle.items.proofs.Meaning.{words, formOf, Means, shape-left, meant, meant
 use Rattle.editor.specs.declared.State.{State}
 use Rattle.editor.specs.declared.Moved.{Moved}
 use Rattle.editor.specs.declared.Moved.the-variants.{Stop}
-use Rattle.editor.specs.Shows.{lent, ShowsText, Answers, Answered, Performs, PerformsPlain}
+use Rattle.editor.specs.Shows.{lent, ShowsText, Answers, Answered, Performs}
 use Rattle.items.specs.Reserve.{reserve}
 use Rattle.globals.specs.Standing.{standing}
 use Rattle.globals.proofs.Standing.{none-stand}
@@ -35,14 +36,14 @@ quits table j st e c t h = (refl, h .shows)
 -- ---- what stands
 
 -- whatever stands
-pub anyhow : {s w j : List ℕ} {st : State} (b : List ℕ) (r : Moved) (op : Op) → Performs j st op b r → PerformsBy s w j st op b r
-anyhow b r op does = λ e c t stands h. does e c t h
+pub anyhow : {s w j : List ℕ} {st : State} (b : List ℕ) (r : Moved) (op : Op) → ((c : Carried) → Performs c j st op b r) → PerformsBy s w j st op b r
+anyhow b r op does = λ e c t stands h. does c e t h
 
 pub anyhow-with : {s table w j : List ℕ} {st : State} (b : List ℕ) (r : Moved) {op other : Op} → op ≡ other → PerformsOf table j st other b r → PerformsWith s table w j st op b r
 anyhow-with b r q does = rw q (λ e c t stands h. does e c t h)
 
 -- none stands
-pub plainly : {s w j : List ℕ} {st : State} (b : List ℕ) (r : Moved) (op : Op) → eqb (standing w) 0 ≡ true → PerformsPlain j st op b r → PerformsBy s w j st op b r
+pub plainly : {s w j : List ℕ} {st : State} (b : List ℕ) (r : Moved) (op : Op) → eqb (standing w) 0 ≡ true → Performs noGlobals j st op b r → PerformsBy s w j st op b r
 plainly {s} {w} b r op none does = λ e c t stands h. rw (none-stand s w c none stands) (does e t h)
 
 pub plainly-joins : {s table w j : List ℕ} {st : State} (b : List ℕ) (r : Moved) (l : Line) → eqb (standing w) 0 ≡ true → Joins table j st l b r → PerformsWith s table w j st (Op.join l) b r
@@ -61,8 +62,8 @@ pub performs-as : {table j : List ℕ} {st : State} (b : List ℕ) (r : Moved) {
 performs-as b r q does = rw q does
 
 -- a command that does not read the table
-pub tableless : {table j : List ℕ} {st : State} (b : List ℕ) (r : Moved) {op other : Op} → op ≡ other → Performs j st other b r → PerformsOf table j st op b r
-tableless b r q does = rw q (λ e c t h. does e c t (h .shows))
+pub tableless : {table j : List ℕ} {st : State} (b : List ℕ) (r : Moved) {op other : Op} → op ≡ other → ((c : Carried) → Performs c j st other b r) → PerformsOf table j st op b r
+tableless b r q does = rw q (λ e c t h. does c e t (h .shows))
 
 pub without-table : {s table w : List ℕ} {k : ℕ} {j : List ℕ} {st : State} (b : List ℕ) (r : Moved) → PerformsLines s w k j st b r → PerformsAt s table w k j st b r
 without-table b r does op e c t h stands ready = does op e c t h stands (ready .shows)

@@ -11,6 +11,7 @@ use Rattle.definitions.specs.Bytes.{Line, linesOf, lineBytes, linesBytes, allTe
 use Rattle.definitions.specs.Table.{isTable}
 use Rattle.definitions.specs.Journal.{Record, kept, changed, deleted, inserted, oldOf, oldSide}
 use Rattle.definitions.specs.Tape.{Tape, restLines}
+use Rattle.definitions.specs.Given.{Carried}
 use Rattle.definitions.specs.Editor.{Ed, ed, beforeOf, afterOf, current, n20, stopNumber, put}
 use Rattle.definitions.specs.StepProgram.{gives, changes}
 use Rattle.definitions.specs.Edit.{Op, program, step}
@@ -143,7 +144,7 @@ module _ {table j : List ℕ} {st : State} (d line : List ℕ) (n : ℕ) (copied
       let w = copied e t h in
       (omega (arith, ap length (w .1), length-append (currentLine e) (drop n d), w .0), rw (copied-text e t h) (shown-good e t (h .shows)))
 
-  pub copy-on : (more : st .back < length j) (k : List ℕ) (r : Moved) → Performs j st (Op.insert none (take n (drop 0 line) ∷ [])) k r → PerformsOf table j st Op.copy k r
+  pub copy-on : (more : st .back < length j) (k : List ℕ) (r : Moved) → ((c : Carried) → Performs c j st (Op.insert none (take n (drop 0 line) ∷ [])) k r) → PerformsOf table j st Op.copy k r
   unfolding step program
   copy-on more k r puts e c t h =
-      rw (perform-line (lent j) c n20 (λ x. gives (changes (put (x .0 ∷ []) ∷ []))) e t (h .shows) more, ← copied-text e t h) (puts e c t (h .shows))
+      rw (perform-line (lent j) c n20 (λ x. gives (changes (put (x .0 ∷ []) ∷ []))) e t (h .shows) more, ← copied-text e t h) (puts c e t (h .shows))

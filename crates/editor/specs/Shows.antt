@@ -8,7 +8,7 @@ use lib.Dec.{leb, eqb}
 use Rattle.definitions.specs.Bytes.{Line}
 use Rattle.definitions.specs.Journal.{Record, kept, changed, deleted, erase, upToLine, afterLine, journalBytes, journalLength}
 use Rattle.definitions.specs.Tape.{Tape, unread, ended, restLines}
-use Rattle.definitions.specs.Given.{Given, given, Room, Carried, noGlobals}
+use Rattle.definitions.specs.Given.{Given, given, Room, Carried}
 use Rattle.definitions.specs.Editor.{Ed, ed, beforeOf, afterOf, sources, furthest, current, isLive, stopNumber, land, putBefore, Target, here, line, eof}
 use Rattle.definitions.specs.Reading.{Ran, gave, stopped}
 use Rattle.definitions.specs.StepProgram.{Program, runs, state, Did, Out, on, edited, halt, perform}
@@ -130,28 +130,18 @@ Answers j (Stop m s) (halt n (state e c)) t = (m ≡ n) × Shows j s e t
 abbrev pub Answered : List ℕ → Moved → Out × Tape → Type 0
 Answered j r x = Answers j r (x .0) (x .1)
 
--- with the buffer j and its numbers st before, and the buffer k after, the function that answered r did the part m of a step
-abbrev pub DoesPart : {A : Type 0} → List ℕ → State → Program A → List ℕ → Moved → Type 0
-DoesPart j st m k r = (e : Ed) (c : Carried) (t : Tape) → Shows j st e t → Came k r (runs (lent j) c m e t)
+-- Where the globals c stand, with the buffer j and its numbers st before, and the buffer k after, the function that answered r did the part m of a step. A
+-- function that reads nothing new promises it for every c; one that may read, where none stands (`noGlobals`).
+abbrev pub DoesPart : {A : Type 0} → Carried → List ℕ → State → Program A → List ℕ → Moved → Type 0
+DoesPart c j st m k r = (e : Ed) (t : Tape) → Shows j st e t → Came k r (runs (lent j) c m e t)
 
 -- the same of a whole command
-abbrev pub Performs : List ℕ → State → Op → List ℕ → Moved → Type 0
-Performs j st op k r = (e : Ed) (c : Carried) (t : Tape) → Shows j st e t → Answered k r (step (lent j) op (state e c) t)
+abbrev pub Performs : Carried → List ℕ → State → Op → List ℕ → Moved → Type 0
+Performs c j st op k r = (e : Ed) (t : Tape) → Shows j st e t → Answered k r (step (lent j) op (state e c) t)
 
 -- the same of what is left of one
-abbrev pub Completes : List ℕ → State → Program Did → List ℕ → Moved → Type 0
-Completes j st m k r = (e : Ed) (c : Carried) (t : Tape) → Shows j st e t → Answered k r (perform (lent j) m (state e c) t)
-
--- ---- where no global stands: what a part of a step, a whole command or what is left of one comes to that may read
-
-abbrev pub DoesPlain : {A : Type 0} → List ℕ → State → Program A → List ℕ → Moved → Type 0
-DoesPlain j st m k r = (e : Ed) (t : Tape) → Shows j st e t → Came k r (runs (lent j) noGlobals m e t)
-
-abbrev pub PerformsPlain : List ℕ → State → Op → List ℕ → Moved → Type 0
-PerformsPlain j st op k r = (e : Ed) (t : Tape) → Shows j st e t → Answered k r (step (lent j) op (state e noGlobals) t)
-
-abbrev pub CompletesPlain : List ℕ → State → Program Did → List ℕ → Moved → Type 0
-CompletesPlain j st m k r = (e : Ed) (t : Tape) → Shows j st e t → Answered k r (perform (lent j) m (state e noGlobals) t)
+abbrev pub Completes : Carried → List ℕ → State → Program Did → List ℕ → Moved → Type 0
+Completes c j st m k r = (e : Ed) (t : Tape) → Shows j st e t → Answered k r (perform (lent j) m (state e c) t)
 
 -- ---- moves of the gap
 

@@ -7,6 +7,7 @@ ghost use mathlib.Core.List.{List, [], _∷_};
 ghost use Prim.Native.Nat.{ℕ, _+_, _≤_};
 ghost use lib.ListN.{length, take, drop};
 ghost use Rattle.definitions.specs.Journal.{Record};
+ghost use Rattle.definitions.specs.Given.{Carried};
 ghost use Rattle.definitions.specs.Edit.{Op};
 ghost use Rattle.editor.specs.Records.{encBefore, LineIn};
 ghost use Rattle.editor.specs.Shows.{Holds, HoldsCut, ShowsText, Performs, Puts, Strikes, Cuts};
@@ -32,7 +33,7 @@ pub fn put_line(j: &mut [u8], st: State, s: &[u8], from: usize, n: usize) -> Sta
 // IS: the n bytes of s from `from` on are inserted before the current line.
 pub fn insert_line(j: &mut [u8], st: State, s: &[u8], from: usize, n: usize) -> Moved
     requires { ⌜ ShowsText (now j) st × LineIn (now s) from n ⌝ }
-    ensures { λ r. ⌜ Performs (now (j .entry)) st (Op.insert none (take n (drop from (now (s .entry))) ∷ [])) (now (j .exit)) r ⌝ }
+    ensures { λ r. ⌜ ((c : Carried) → Performs c (now (j .entry)) st (Op.insert none (take n (drop from (now (s .entry))) ∷ [])) (now (j .exit)) r) ⌝ }
 {
     let room = st.back - st.front;
     if room < n + 3 {

@@ -4,14 +4,15 @@ use crate::State;
 ghost use mathlib.Core.Path.{_≡_};
 ghost use Prim.Native.Nat.{_<_};
 ghost use lib.ListN.{length};
+ghost use Rattle.definitions.specs.Given.{Carried, noGlobals};
 ghost use Rattle.definitions.specs.Editor.{Move, Target};
 ghost use Rattle.definitions.specs.Edit.{Op, go, goAhead, goTo};
-ghost use Rattle.editor.specs.Shows.{ShowsText, DoesPart, DoesPlain, Performs, PerformsPlain, atPoint, targetNumbered};
+ghost use Rattle.editor.specs.Shows.{ShowsText, DoesPart, Performs, atPoint, targetNumbered};
 
 // The next live line is read and becomes current, or EOF. A line is current.
 pub fn go_ahead(j: &mut [u8], st: State) -> Moved
     requires { ⌜ ShowsText (now j) st × (st .back < length (now j)) ⌝ }
-    ensures { λ r. ⌜ DoesPlain (now (j .entry)) st goAhead (now (j .exit)) r ⌝ }
+    ensures { λ r. ⌜ DoesPart noGlobals (now (j .entry)) st goAhead (now (j .exit)) r ⌝ }
 {
     let s = crate::walk::pass_record(j, st);
     let l = crate::walk::land_live(j, s);
@@ -21,7 +22,7 @@ pub fn go_ahead(j: &mut [u8], st: State) -> Moved
 // The previous live line becomes current. Where there is none the gap goes back.
 pub fn go_back(j: &mut [u8], st: State) -> Moved
     requires { ⌜ ShowsText (now j) st ⌝ }
-    ensures { λ r. ⌜ DoesPart (now (j .entry)) st (go Move.back) (now (j .exit)) r ⌝ }
+    ensures { λ r. ⌜ ((c : Carried) → DoesPart c (now (j .entry)) st (go Move.back) (now (j .exit)) r) ⌝ }
 {
     let mut s = st;
     while 0 < s.front {
@@ -39,7 +40,7 @@ pub fn go_back(j: &mut [u8], st: State) -> Moved
 // Source line a is read and becomes current. Where it cannot the gap goes back.
 pub fn go_to_line(j: &mut [u8], st: State, a: usize) -> Moved
     requires { ⌜ ShowsText (now j) st × (0 < a) ⌝ }
-    ensures { λ r. ⌜ DoesPlain (now (j .entry)) st (goTo (Target.line a)) (now (j .exit)) r ⌝ }
+    ensures { λ r. ⌜ DoesPart noGlobals (now (j .entry)) st (goTo (Target.line a)) (now (j .exit)) r ⌝ }
 {
     let was = crate::walk::read_to(st, a);
     let mut s = crate::walk::to_source(j, was, a - 1);
@@ -59,7 +60,7 @@ pub fn go_to_line(j: &mut [u8], st: State, a: usize) -> Moved
 // All lines and EOF are read, and EOF becomes current.
 pub fn go_to_eof(j: &mut [u8], st: State) -> Moved
     requires { ⌜ ShowsText (now j) st ⌝ }
-    ensures { λ r. ⌜ DoesPlain (now (j .entry)) st (goTo Target.eof) (now (j .exit)) r ⌝ }
+    ensures { λ r. ⌜ DoesPart noGlobals (now (j .entry)) st (goTo Target.eof) (now (j .exit)) r ⌝ }
 {
     let f = st.front;
     let b = st.back;
@@ -86,7 +87,7 @@ pub fn go_here(st: State) -> Moved
 // To what M names: 0 is the current line, 65536 is EOF, and any other number is that source line.
 pub fn go_to(j: &mut [u8], st: State, target: usize) -> Moved
     requires { ⌜ ShowsText (now j) st ⌝ }
-    ensures { λ r. ⌜ DoesPlain (now (j .entry)) st (goTo (targetNumbered target)) (now (j .exit)) r ⌝ }
+    ensures { λ r. ⌜ DoesPart noGlobals (now (j .entry)) st (goTo (targetNumbered target)) (now (j .exit)) r ⌝ }
 {
     if target == 0 {
         return go_here(st);
@@ -100,7 +101,7 @@ pub fn go_to(j: &mut [u8], st: State, target: usize) -> Moved
 // N
 pub fn next_line(j: &mut [u8], st: State) -> Moved
     requires { ⌜ ShowsText (now j) st ⌝ }
-    ensures { λ r. ⌜ PerformsPlain (now (j .entry)) st Op.nextLine (now (j .exit)) r ⌝ }
+    ensures { λ r. ⌜ Performs noGlobals (now (j .entry)) st Op.nextLine (now (j .exit)) r ⌝ }
 {
     let at = st.back;
     if at >= j.len() {
@@ -112,7 +113,7 @@ pub fn next_line(j: &mut [u8], st: State) -> Moved
 // P
 pub fn previous_line(j: &mut [u8], st: State) -> Moved
     requires { ⌜ ShowsText (now j) st ⌝ }
-    ensures { λ r. ⌜ Performs (now (j .entry)) st Op.previousLine (now (j .exit)) r ⌝ }
+    ensures { λ r. ⌜ ((c : Carried) → Performs c (now (j .entry)) st Op.previousLine (now (j .exit)) r) ⌝ }
 {
     go_back(j, st)
 }
@@ -120,7 +121,7 @@ pub fn previous_line(j: &mut [u8], st: State) -> Moved
 // M
 pub fn move_to(j: &mut [u8], st: State, target: usize) -> Moved
     requires { ⌜ ShowsText (now j) st ⌝ }
-    ensures { λ r. ⌜ PerformsPlain (now (j .entry)) st (Op.move (targetNumbered target)) (now (j .exit)) r ⌝ }
+    ensures { λ r. ⌜ Performs noGlobals (now (j .entry)) st (Op.move (targetNumbered target)) (now (j .exit)) r ⌝ }
 {
     go_to(j, st, target)
 }

@@ -33,10 +33,10 @@ module _ (c : Carried) (ls : List Line) (e : Ed) (t : Tape) (j : List ℕ) (n : 
   insert-stop i m {k} {s} q h = rw (spot-is, q) (perform-halt (lent j) c (goTo (targetNumbered (n - 1))) (λ u. gives (changes (put ls ∷ []))) e t i k s (rw q at h))
 
   pub insert-then : {i : List ℕ} {m : Moved} {s : State} (k : List ℕ) (r : Moved) → m ≡ On s → Came i m (runs (lent j) c (goTo (targetNumbered (n - 1))) e t)
-      → length i ≡ length j → Performs i s (Op.insert none ls) k r → Answered k r (step (lent j) (Op.insert (spotOf n) ls) (state e c) t)
+      → length i ≡ length j → ((c : Carried) → Performs c i s (Op.insert none ls) k r) → Answered k r (step (lent j) (Op.insert (spotOf n) ls) (state e c) t)
   insert-then {i} k r q h long rest =
       rw spot-is
-      (perform-then (lent j) c (goTo (targetNumbered (n - 1))) (λ u. gives (changes (put ls ∷ []))) e t k r (rw q at h) (λ v x u w. rw (lent-same j i long, here-is (lent j) ls x c u) at (rest x c u w)))
+      (perform-then (lent j) c (goTo (targetNumbered (n - 1))) (λ u. gives (changes (put ls ∷ []))) e t k r (rw q at h) (λ v x u w. rw (lent-same j i long, here-is (lent j) ls x c u) at (rest c x u w)))
 
 pub insert-none : (g : Given) (ls : List Line) (e : Ed) (c : Carried) (t : Tape) (k : List ℕ) (r : Moved) (a : Option Target) → a ≡ none
     → Answered k r (step g (Op.insert none ls) (state e c) t) → Answered k r (step g (Op.insert a ls) (state e c) t)

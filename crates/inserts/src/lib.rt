@@ -8,9 +8,10 @@ ghost use Prim.Native.Nat.{_+_, _≤_};
 ghost use lib.ListN.{length};
 ghost use Rattle.definitions.specs.Bytes.{linesOf};
 ghost use Rattle.definitions.specs.Journal.{Record};
+ghost use Rattle.definitions.specs.Given.{Carried, noGlobals};
 ghost use Rattle.definitions.specs.Edit.{Op};
 ghost use Rattle.items.specs.Words.{partOf};
-ghost use Rattle.editor.specs.Shows.{Holds, ShowsText, Performs, PerformsPlain, Puts};
+ghost use Rattle.editor.specs.Shows.{Holds, ShowsText, Performs, Puts};
 ghost use Rattle.inserts.specs.Lines.{feedPlace, Insertable, roomOf, spotOf};
 
 // The end of the line that starts at `at`: the place of its line feed, or `end`.
@@ -62,7 +63,7 @@ pub fn put_lines(j: &mut [u8], st: State, s: &[u8], start: usize, end: usize) ->
 // I: the lines are inserted before the current one. The room is tested for all of them at once.
 pub fn insert_lines(j: &mut [u8], st: State, s: &[u8], start: usize, end: usize) -> Moved
     requires { ⌜ ShowsText (now j) st × Insertable (now s) start end ⌝ }
-    ensures { λ r. ⌜ Performs (now (j .entry)) st (Op.insert none (linesOf (partOf (now (s .entry)) start end))) (now (j .exit)) r ⌝ }
+    ensures { λ r. ⌜ ((c : Carried) → Performs c (now (j .entry)) st (Op.insert none (linesOf (partOf (now (s .entry)) start end))) (now (j .exit)) r) ⌝ }
 {
     let room = st.back - st.front;
     if room < lines_room(s, start, end) {
@@ -74,7 +75,7 @@ pub fn insert_lines(j: &mut [u8], st: State, s: &[u8], start: usize, end: usize)
 // I with a line to move to or none, by its number: 0 is none, and any other number is that of the line in M, plus 1.
 pub fn insert_at(j: &mut [u8], st: State, spot: usize, s: &[u8], start: usize, end: usize) -> Moved
     requires { ⌜ ShowsText (now j) st × Insertable (now s) start end ⌝ }
-    ensures { λ r. ⌜ PerformsPlain (now (j .entry)) st (Op.insert (spotOf spot) (linesOf (partOf (now (s .entry)) start end))) (now (j .exit)) r ⌝ }
+    ensures { λ r. ⌜ Performs noGlobals (now (j .entry)) st (Op.insert (spotOf spot) (linesOf (partOf (now (s .entry)) start end))) (now (j .exit)) r ⌝ }
 {
     if spot == 0 {
         return insert_lines(j, st, s, start, end);

@@ -5,9 +5,10 @@ use editor::Moved;
 use editor::State;
 use spans::Found;
 ghost use Rattle.definitions.specs.Bytes.{linesOf};
+ghost use Rattle.definitions.specs.Given.{noGlobals};
 ghost use Rattle.definitions.specs.Edit.{Op};
 ghost use Rattle.items.specs.Words.{partOf};
-ghost use Rattle.editor.specs.Shows.{ShowsText, PerformsPlain, CompletesPlain, targetNumbered};
+ghost use Rattle.editor.specs.Shows.{ShowsText, Performs, Completes, targetNumbered};
 ghost use Rattle.inserts.specs.Lines.{Insertable};
 ghost use Rattle.spans.specs.Spans.{throughOf, changeHere, Spanned};
 ghost use Rattle.replacing.specs.Freed.{replacing, Replaces};
@@ -43,7 +44,7 @@ pub fn replace_here(
     end: usize,
 ) -> Moved
     requires { ⌜ ShowsText (now j) st × Insertable (now s) start end ⌝ }
-    ensures { λ r. ⌜ CompletesPlain (now (j .entry)) st (changeHere (replacing (linesOf (partOf (now (s .entry)) start end))) (throughOf through)) (now (j .exit)) r ⌝ }
+    ensures { λ r. ⌜ Completes noGlobals (now (j .entry)) st (changeHere (replacing (linesOf (partOf (now (s .entry)) start end))) (throughOf through)) (now (j .exit)) r ⌝ }
 {
     let found = spans::finding::span_end(j, st, through);
     match found {
@@ -63,7 +64,7 @@ pub fn replace_span(
     end: usize,
 ) -> Moved
     requires { ⌜ ShowsText (now j) st × Insertable (now s) start end ⌝ }
-    ensures { λ r. ⌜ PerformsPlain (now (j .entry)) st (Op.replace (targetNumbered from) (throughOf through) (linesOf (partOf (now (s .entry)) start end))) (now (j .exit)) r ⌝ }
+    ensures { λ r. ⌜ Performs noGlobals (now (j .entry)) st (Op.replace (targetNumbered from) (throughOf through) (linesOf (partOf (now (s .entry)) start end))) (now (j .exit)) r ⌝ }
 {
     let moved = editor::moves::go_to(j, st, from);
     match moved {

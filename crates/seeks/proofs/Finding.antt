@@ -9,13 +9,13 @@ use lib.Dec.{eqb}
 use Rattle.definitions.specs.Bytes.{Line}
 use Rattle.definitions.specs.Journal.{Record}
 use Rattle.definitions.specs.Tape.{Tape}
-use Rattle.definitions.specs.Given.{Given, Carried, carried}
+use Rattle.definitions.specs.Given.{Given, Carried, carried, noGlobals}
 use Rattle.definitions.specs.Editor.{Ed, n21, stopNumber, Move, struckBack, strikeBack, edits}
 use Rattle.definitions.specs.StepProgram.{Program, gives, _>>=_, _>>_, runs, state, Did, answers, changes, perform}
 use Rattle.definitions.specs.Search.{Search, holds}
 use Rattle.definitions.specs.Edit.{program, step, either, go, goAhead, goesOn, lineOr, lookOn, lookBack, searchHolds}
 use Rattle.definitions.specs.Control.{Seek, forward, backward, deleting, lookOp}
-use Rattle.editor.specs.Shows.{Holds, Stays, Shows, lent, Came, DoesPlain}
+use Rattle.editor.specs.Shows.{Holds, Stays, Shows, lent, Came, DoesPart}
 use Rattle.editor.specs.declared.State.{State}
 use Rattle.editor.specs.declared.Moved.{Moved}
 use Rattle.editor.specs.declared.Moved.the-variants.{On, Stop as Stopped}
@@ -63,7 +63,7 @@ reserve-in s w (carried gs, h) = omega (arith, h .below .0)
 
 module _ (s w j : List ℕ) (st : State) (i : List ℕ) (q : Moved) {k : List ℕ} {r : Moved} (same : k ≡ i) (moved : r ≡ q) where
   -- none stands
-  pub none-goes : (v : Bool) → v ≡ eqb (standing w) 0 → v ≡ true → DoesPlain j st goAhead i q → DoesPartBy s w j st goAhead k r
+  pub none-goes : (v : Bool) → v ≡ eqb (standing w) 0 → v ≡ true → DoesPart noGlobals j st goAhead i q → DoesPartBy s w j st goAhead k r
   none-goes v is yes-none f e c t stands h = rw (same, moved, none-stand s w c (sym is ∙ yes-none) stands) (f e t h)
 
   -- some do

@@ -3,15 +3,16 @@ use crate::Found;
 use editor::Moved;
 use editor::State;
 ghost use mathlib.Core.List.{[], _∷_};
+ghost use Rattle.definitions.specs.Given.{noGlobals};
 ghost use Rattle.definitions.specs.Editor.{strike};
 ghost use Rattle.definitions.specs.Edit.{Op};
-ghost use Rattle.editor.specs.Shows.{ShowsText, PerformsPlain, CompletesPlain, targetNumbered};
+ghost use Rattle.editor.specs.Shows.{ShowsText, Performs, Completes, targetNumbered};
 ghost use Rattle.spans.specs.Spans.{throughOf, changeHere};
 
 // D from the current line on.
 pub fn delete_here(j: &mut [u8], st: State, through: usize) -> Moved
     requires { ⌜ ShowsText (now j) st ⌝ }
-    ensures { λ r. ⌜ CompletesPlain (now (j .entry)) st (changeHere (λ n. strike n ∷ []) (throughOf through)) (now (j .exit)) r ⌝ }
+    ensures { λ r. ⌜ Completes noGlobals (now (j .entry)) st (changeHere (λ n. strike n ∷ []) (throughOf through)) (now (j .exit)) r ⌝ }
 {
     let found = crate::finding::span_end(j, st, through);
     match found {
@@ -23,7 +24,7 @@ pub fn delete_here(j: &mut [u8], st: State, through: usize) -> Moved
 // D: `from` is as in M. `through` is 0 for one line, 65,536 for `*`, else a source line.
 pub fn delete_span(j: &mut [u8], st: State, from: usize, through: usize) -> Moved
     requires { ⌜ ShowsText (now j) st ⌝ }
-    ensures { λ r. ⌜ PerformsPlain (now (j .entry)) st (Op.delete (targetNumbered from) (throughOf through)) (now (j .exit)) r ⌝ }
+    ensures { λ r. ⌜ Performs noGlobals (now (j .entry)) st (Op.delete (targetNumbered from) (throughOf through)) (now (j .exit)) r ⌝ }
 {
     let moved = editor::moves::go_to(j, st, from);
     match moved {

@@ -9,6 +9,7 @@ use lib.Seq.{length-take-le, take-all}
 use Rattle.definitions.specs.Bytes.{Line, isLine}
 use Rattle.definitions.specs.Journal.{Record, kept, inserted, rewrite}
 use Rattle.definitions.specs.Tape.{restLines}
+use Rattle.definitions.specs.Given.{Carried}
 use Rattle.definitions.specs.Editor.{Ed, ed, beforeOf, afterOf, putBefore, put, retext, edit, edits}
 use Rattle.definitions.specs.Edit.{cutAfter}
 use Rattle.theorems.specs.GoodLines.{taken-line, dropped-line}
@@ -49,10 +50,10 @@ module _ {j : List ℕ} {st : State} (l : Line) (n : ℕ) (inside : n ≤ length
   rest-fine = dropped-line n l fine
 
   -- what `cut_line` does: there is no room for both records
-  pub cut-full : c .end < st .front + (c .n + (n + 3)) → Completes j st (cutAfter l n) j (Stop 26 st)
+  pub cut-full : c .end < st .front + (c .n + (n + 3)) → (x : Carried) → Completes x j st (cutAfter l n) j (Stop 26 st)
   unfolding cutAfter edits edit putBefore beforeOf afterOf
-  cut-full few (ed b [] p) x t h = absurd (shown-record b p t h more)
-  cut-full few (ed b (r ∷ a) p) x t h =
+  cut-full few x (ed b [] p) t h = absurd (shown-record b p t h more)
+  cut-full few x (ed b (r ∷ a) p) t h =
       let A : List Record = a ++ map kept (restLines t) in
       let w : Replacing j st (c .end) rec (c .n) b r A (rewrite r (drop n l)) = replacing (drop n l) rest-fine d rec c made b r A (h .holds) (h .grounded) in
       changes-full x (put (take n l ∷ []) ∷ retext (drop n l) 0 ∷ []) (ed b (r ∷ a) p) t j j st
@@ -76,9 +77,9 @@ module _ {j : List ℕ} {st : State} (l : Line) (n : ℕ) (inside : n ≤ length
         ((w .0, w .3 ∷ (w .2), x .holds), (omega arith, taken-line n l fine), omega (arith, x .front, x .back))
 
     -- both records are written
-    pub cut-on : (k′ : List ℕ) (s′ : State) → length k′ ≡ length j → Puts (take n l ∷ []) k s k′ s′ → Completes j st (cutAfter l n) k′ (On s′)
+    pub cut-on : (k′ : List ℕ) (s′ : State) → length k′ ≡ length j → Puts (take n l ∷ []) k s k′ s′ → (x : Carried) → Completes x j st (cutAfter l n) k′ (On s′)
     unfolding cutAfter edits
-    cut-on k′ s′ same left e x t h =
+    cut-on k′ s′ same left x e t h =
         changes-on x (put (take n l ∷ []) ∷ retext (drop n l) 0 ∷ []) e t j k′ s′ same
         (rw (put-either (take n l ∷ []) (drop n l) 0 e)
         (put-shows (take n l ∷ []) (edit (retext (drop n l) 0) e) t (rewritten-shows (drop n l) rest-fine d rec c made more k 0 s puts e t h) left))

@@ -7,6 +7,7 @@ use native.Mathlib.Omega.{arith}
 use lib.ListN.{length, take}
 use Rattle.definitions.specs.Bytes.{isLine}
 use Rattle.definitions.specs.Matching.{Qualifiers, qualified, stringIn}
+use Rattle.definitions.specs.Given.{Carried}
 use Rattle.definitions.specs.Edit.{Op, pointBy, cutAfter, program, step}
 use Rattle.editor.specs.Records.{LineIn}
 use Rattle.editor.specs.Shows.{Completes}
@@ -32,8 +33,8 @@ module _ {table j : List ℕ} {st : State} (k : ℕ) (d line : List ℕ) (n : �
       let w : LineIn line 0 n = copied-good d line n copied (e, t, h .text) in
       rw from-start (omega (arith, w .0), omega (arith, h .long, ap length (copied-text d line n copied e t (h .text))), w .1)
 
-  pub cuts-here : (k′ : List ℕ) (r : Moved) → Completes j st (cutAfter (take (n - 0) line) k) k′ r → CompletesAt table j st k (λ l. cutAfter l k) k′ r
-  cuts-here k′ r cuts e c t h = rw (← copied-text d line n copied e t (h .text)) (rw from-start at (cuts e c t (h .text .shows)))
+  pub cuts-here : (k′ : List ℕ) (r : Moved) → ((c : Carried) → Completes c j st (cutAfter (take (n - 0) line) k) k′ r) → CompletesAt table j st k (λ l. cutAfter l k) k′ r
+  cuts-here k′ r cuts e c t h = rw (← copied-text d line n copied e t (h .text)) (rw from-start at (cuts c e t (h .text .shows)))
 
 -- ---- where the string is
 

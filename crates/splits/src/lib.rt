@@ -4,6 +4,7 @@ ghost use mathlib.Core.Bool.{true};
 ghost use Prim.Native.Nat.{_≤_, _<_};
 ghost use lib.ListN.{length};
 ghost use Rattle.definitions.specs.Bytes.{isLine};
+ghost use Rattle.definitions.specs.Given.{Carried};
 ghost use Rattle.definitions.specs.Edit.{Op, cutAfter};
 ghost use Rattle.editor.specs.Shows.{ShowsText, Completes};
 ghost use Rattle.editor.specs.Current.{IsReady, PerformsOn};
@@ -17,7 +18,7 @@ use matching::Quals;
 // for both records before one of them is written.
 fn cut_line(j: &mut [u8], st: State, line: &[u8], k: usize) -> Moved
     requires { ⌜ ShowsText (now j) st × (st .back < length (now j)) × (k ≤ length (now line)) × (isLine (now line) ≡ true) ⌝ }
-    ensures { λ r. ⌜ Completes (now (j .entry)) st (cutAfter (now (line .entry)) k) (now (j .exit)) r ⌝ }
+    ensures { λ r. ⌜ ((c : Carried) → Completes c (now (j .entry)) st (cutAfter (now (line .entry)) k) (now (j .exit)) r) ⌝ }
 {
     let n = line.len();
     let mut rec = [0u8; 514];

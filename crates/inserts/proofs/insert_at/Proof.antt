@@ -13,7 +13,7 @@ same-length : tie.Need-same-length
 same-length c = search needs
 
 returns : tie.Need-returns
-returns c = λ e t h. insert-none _ _ e noGlobals t _ _ _ (spot-none _ (c .before .before .before .before .if1 .taken)) (c .before .before .insert-lines .ensures e noGlobals t h)
+returns c = λ e t h. insert-none _ _ e noGlobals t _ _ _ (spot-none _ (c .before .before .before .before .if1 .taken)) (c .before .before .insert-lines .ensures noGlobals e t h)
 
 sub-go-to : tie.Need-sub-go-to
 sub-go-to c = search needs

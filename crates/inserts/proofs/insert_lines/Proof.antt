@@ -11,7 +11,7 @@ lines-room-requires : tie.Need-lines-room-requires
 lines-room-requires c κs = search needs
 
 returns : tie.Need-returns
-returns c = λ e x t h. insert-full x _ e t h (omega (arith, c .if1 .taken, c .before .lines-room .ensures))
+returns c = λ x e t h. insert-full x _ e t h (omega (arith, c .if1 .taken, c .before .lines-room .ensures))
 
 put-lines-requires : tie.Need-put-lines-requires
 put-lines-requires c κs = search needs
@@ -22,7 +22,7 @@ same-length c = search needs
 returns-2 : tie.Need-returns-2
 returns-2 c =
     let r = c .before .before .put-lines in
-    λ e x t h. insert-on x _ e t h (r .kept .0) (r .ensures)
+    λ x e t h. insert-on x _ e t h (r .kept .0) (r .ensures)
 
 pub insert-lines-spec : {M : Type 1} → statement M
 insert-lines-spec =

@@ -19,13 +19,13 @@ same-length : tie.Need-same-length
 same-length c = search needs
 
 returns-2 : tie.Need-returns-2
-returns-2 c = λ e x t h. begin-back-on _ _ _ (c .before .before .before .before .before .before .before .if1 .left) _ (c .before .r .given .1) e x t h (c .before .before .before .before .before .go-back .ensures e x t h)
+returns-2 c = λ e x t h. begin-back-on _ _ _ (c .before .before .before .before .before .before .before .if1 .left) _ (c .before .r .given .1) e x t h (c .before .before .before .before .before .go-back .ensures x e t h)
 
 same-length-2 : tie.Need-same-length-2
 same-length-2 c = search needs
 
 returns-3 : tie.Need-returns-3
-returns-3 c = λ e x t h. begin-back-stop _ _ _ (c .before .before .before .before .before .before .before .if1 .left) _ _ (c .before .r2 .given .1) e x t h (c .before .before .before .before .before .go-back .ensures e x t h)
+returns-3 c = λ e x t h. begin-back-stop _ _ _ (c .before .before .before .before .before .before .before .if1 .left) _ _ (c .before .r2 .given .1) e x t h (c .before .before .before .before .before .go-back .ensures x e t h)
 
 pub begin-back-spec : {M : Type 1} → statement M
 begin-back-spec =

@@ -16,13 +16,13 @@ same-length : tie.Need-same-length
 same-length c = search needs
 
 returns : tie.Need-returns
-returns c = λ e x t h. look-back-line _ _ _ _ e x t (c .before .before .before .before .before .go-back .ensures e x t h) (c .before .r .given .1)
+returns c = λ e x t h. look-back-line _ _ _ _ e x t (c .before .before .before .before .before .go-back .ensures x e t h) (c .before .r .given .1)
 
 same-length-2 : tie.Need-same-length-2
 same-length-2 c = search needs
 
 returns-2 : tie.Need-returns-2
-returns-2 c = λ e x t h. look-back-stop _ _ _ _ e x t (c .before .before .before .before .before .go-back .ensures e x t h) _ (c .before .r2 .given .1)
+returns-2 c = λ e x t h. look-back-stop _ _ _ _ e x t (c .before .before .before .before .before .go-back .ensures x e t h) _ (c .before .r2 .given .1)
 
 pub look-back-spec : {M : Type 1} → statement M
 look-back-spec =

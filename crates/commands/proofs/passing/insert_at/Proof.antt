@@ -12,7 +12,7 @@ same-length : tie.Need-same-length
 same-length c = search needs
 
 returns : tie.Need-returns
-returns c = λ e x t s h. insert-none _ _ e x t _ _ _ (spot-none _ (c .before .before .before .before .if1 .taken)) (c .before .before .insert-lines .ensures e x t h)
+returns c = λ e x t s h. insert-none _ _ e x t _ _ _ (spot-none _ (c .before .before .before .before .if1 .taken)) (c .before .before .insert-lines .ensures x e t h)
 
 sub-go-to : tie.Need-sub-go-to
 sub-go-to c = search needs

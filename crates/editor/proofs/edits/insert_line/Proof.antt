@@ -17,7 +17,7 @@ add-if1 c =
 returns : tie.Need-returns
 returns c =
     let s = c .before .before .before .before in
-    λ e x t h. insert-full x _ e t h (omega (arith, c .if1 .taken, one-length (take (s .args .n) (drop (s .args .from) (s .args .s .now))), text-length (s .args .s .now) (s .args .from) (s .args .n) (s .pre .1 .0)))
+    λ x e t h. insert-full x _ e t h (omega (arith, c .if1 .taken, one-length (take (s .args .n) (drop (s .args .from) (s .args .s .now))), text-length (s .args .s .now) (s .args .from) (s .args .n) (s .pre .1 .0)))
 
 put-line-requires : tie.Need-put-line-requires
 put-line-requires c κs =
@@ -31,7 +31,7 @@ same-length c = search needs
 returns-2 : tie.Need-returns-2
 returns-2 c =
     let r = c .before .before .put-line in
-    λ e x t h. insert-on x _ e t h (r .kept .0) (r .ensures)
+    λ x e t h. insert-on x _ e t h (r .kept .0) (r .ensures)
 
 pub insert-line-spec : {M : Type 1} → statement M
 insert-line-spec =

@@ -37,7 +37,7 @@ returns : tie.Need-returns Inv-loop μ-loop
 returns c =
     let l = c .before .before .before .before .before .before .before .before .loop in
     let r = c .before .before .before .before .unpass-record in
-    λ e x t h. back-on _ x e t h (l .inv .0 e t h) (c .before .before .before .before .before .before .if1 .taken) (r .ensures) (c .if2 .taken) (stays-on (l .inv .1) (r .ensures .1))
+    λ x e t h. back-on _ x e t h (l .inv .0 e t h) (c .before .before .before .before .before .before .if1 .taken) (r .ensures) (c .if2 .taken) (stays-on (l .inv .1) (r .ensures .1))
 
 loop-less : tie.Need-loop-less Inv-loop μ-loop
 loop-less c = c .before .before .before .before .unpass-record .ensures .2
@@ -63,7 +63,7 @@ returns-2 : tie.Need-returns-2 Inv-loop μ-loop
 returns-2 c =
     let l = c .before .before .before .before .before .before .loop in
     let none = c .before .before .before .before .if1 .left in
-    λ e x t h.
+    λ x e t h.
     came-as (c .before .before .gap-to .ensures _ (way-away (h .holds) (l .inv .0 e t h) (sym (l .inv .2)))) _ _
     (back-stop _ x e t h (l .inv .0 e t h) (omega arith))
 

@@ -10,7 +10,7 @@ same-length : tie.Need-same-length
 same-length c = search needs
 
 returns : tie.Need-returns
-returns c = λ e x t h. previous-by _ x e t _ _ (c .before .before .go-back .ensures e x t h)
+returns c = λ x e t h. previous-by _ x e t _ _ (c .before .before .go-back .ensures x e t h)
 
 pub previous-line-spec : {M : Type 1} → statement M
 previous-line-spec = tie.close (tie.spec go-back-requires same-length returns)
