@@ -2,11 +2,10 @@
 use mathlib.Core.Path.{_≡_, refl, sym, ap, _∙_}
 use mathlib.Core.Bool.{Bool, true, false, true≢false}
 use mathlib.Core.Option.{Option, none, some}
-use Prim.Native.Nat.{ℕ, _+_, _-_, _≤_, _<_}
+use Prim.Native.Nat.{ℕ, _+_, _≤_, _<_}
 use native.Mathlib.Omega.{arith}
 use mathlib.Core.List.{List, [], _∷_}
-use lib.ListN.{length, getD, drop, length-drop}
-use lib.Seq.{length-take-le}
+use lib.ListN.{length, getD}
 use lib.Dec.{leb}
 use borrow.Author.Tests.{le-leb, lt-leb, leb-true, leb-false}
 use Rattle.definitions.specs.Bytes.{Line}
@@ -30,7 +29,7 @@ use Rattle.editor.proofs.Parts.{shown-record, shown-eof}
 use Rattle.changes.specs.declared.look.Byte.the-variants.{Here, Lacks}
 use Rattle.changes.specs.declared.look.Place.the-variants.{Nowhere}
 use Rattle.changes.specs.declared.look.Place.the-variants.{At as PlaceFound}
-use Rattle.changes.specs.Current.{part, byteAt, placeAt, ByteIs, PlaceIs, Sights, Finds}
+use Rattle.changes.specs.Current.{byteAt, placeAt, ByteIs, PlaceIs, Sights, Finds}
 
 -- ---- what a part of a step comes to
 
@@ -160,9 +159,6 @@ module _ (table j : List ℕ) (st : State) where
         rw (is (ed b (r ∷ a) p) t (w .shows) (w .old), w .shows .p) (see-byte (lent j) c t b r a p (lt-leb (length (current r)) p long))
 
 -- ---- the place of a string
-
-pub part-length : (s : List ℕ) (from to : ℕ) → to ≤ length s → length (part s from to) ≡ to - from
-part-length s from to h = length-take-le (to - from) (drop from s) (omega (arith, length-drop from s))
 
 module _ (g : Given) (c : Carried) (q : Qualified) (t : Tape) where
   find-eof : (b : List Record) (p : ℕ) → runs g c (placeAt q) (ed b [] p) t ≡ (stopped n20 (ed b [] p), t)

@@ -12,6 +12,7 @@ use Rattle.definitions.specs.Tape.{Tape, restLines}
 use Rattle.definitions.specs.Given.{Carried}
 use Rattle.definitions.specs.Editor.{Ed, ed, beforeOf, afterOf, isLive, retext, edit, edits}
 use Rattle.definitions.specs.StepProgram.{gives, changes}
+use Rattle.text.specs.Lines.{part}
 use Rattle.editor.specs.Records.{enc, mark, Good}
 use Rattle.editor.specs.Shows.{Holds, Shows, ShowsText, Completes}
 use Rattle.editor.specs.declared.State.{State}
@@ -21,7 +22,7 @@ use Rattle.editor.proofs.Held.{held-mark}
 use Rattle.editor.proofs.Reading.{journal-is}
 use Rattle.editor.proofs.Parts.{shown-record}
 use Rattle.editor.proofs.Changing.{changes-on, changes-full, retext-shows}
-use Rattle.changes.specs.Current.{part, written, firstLine, EndsAt, EndsOf, HasEnds, Builds, MakesAnew, Replacing, SetTo, Replaces}
+use Rattle.changes.specs.Current.{written, firstLine, EndsAt, EndsOf, HasEnds, Builds, MakesAnew, Replacing, SetTo, Replaces}
 use Rattle.changes.specs.declared.rewrite.Ends.{Ends}
 use Rattle.changes.specs.declared.rewrite.Anew.{Anew}
 use Rattle.theorems.specs.Lines.{equal-is}
@@ -102,12 +103,12 @@ module _ (j : List ℕ) (st : State) (c : Ends) (line : List ℕ) (len : ℕ) (f
       built d k n (inserted (take len line)) (rewrite r (take len line)) (to-inserted (take len line) r (sym (held-mark (w .holds)) ∙ at)) is (simp length-append (omega (arith, text-long)))
 
   module _ (at : getD j (st .back) 0 ≡ 43 → ⊥) where
-    pub builds-kept : (same : Bool) → same ≡ eqLine (part j (st .back + 2) (c .old)) (take len line) → same ≡ true
+    pub builds-kept : (same : Bool) → same ≡ eqLine (part (st .back + 2) (c .old) j) (take len line) → same ≡ true
         → k ≡ written d (61 ∷ 61 ∷ (take len line ++ (10 ∷ []))) → n ≡ len + 3 → Builds j st c (take len line) d k n
     builds-kept same eq true′ is long b r a w =
         built d k n (kept (take len line)) (rewrite r (take len line)) (to-kept (take len line) r (w .live) (λ e. at (held-mark (w .holds) ∙ e)) (rw (w .ends .first) at (sym eq ∙ true′))) is (simp length-append (omega (arith, text-long)))
 
-    pub builds-changed : (same : Bool) → same ≡ eqLine (part j (st .back + 2) (c .old)) (take len line) → same ≡ false → (o : ℕ) → o ≡ c .old - (st .back + 2)
+    pub builds-changed : (same : Bool) → same ≡ eqLine (part (st .back + 2) (c .old) j) (take len line) → same ≡ false → (o : ℕ) → o ≡ c .old - (st .back + 2)
         → k ≡ written d (60 ∷ 62 ∷ ((take o (drop (st .back + 2) j) ++ (0 ∷ take len line)) ++ (10 ∷ []))) → n ≡ o + len + 4 → Builds j st c (take len line) d k n
     builds-changed same eq false′ o oo is long b r a w =
         let old : take o (drop (st .back + 2) j) ≡ firstLine r = rw oo (w .ends .first) in

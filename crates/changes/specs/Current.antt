@@ -2,7 +2,7 @@
 use mathlib.Core.Path.{_≡_}
 use mathlib.Core.Bool.{Bool, true, cond}
 use mathlib.Core.List.{List, _∷_, _++_}
-use Prim.Native.Nat.{ℕ, zero, suc, _+_, _-_, _≤_, _<_}
+use Prim.Native.Nat.{ℕ, zero, suc, _+_, _≤_, _<_}
 use lib.ListN.{length, take, drop, getD}
 use lib.Dec.{leb}
 use Rattle.definitions.specs.Bytes.{Line, allText}
@@ -15,6 +15,7 @@ use Rattle.definitions.specs.Reading.{Ran, gave, stopped}
 use Rattle.definitions.specs.StepProgram.{Program, gives, _>>=_, runs, state, Did, perform}
 use Rattle.definitions.specs.Matching.{Qualified, qualified}
 use Rattle.definitions.specs.Edit.{Op, Change, afterIt, beforeIt, exchange, splice, altered, alteredPoint, lineOr, placeOr24, byteHere, write}
+use Rattle.text.specs.Lines.{part}
 use Rattle.matching.specs.Quals.{qualifiersOf}
 use Rattle.matching.specs.declared.Quals.{Quals}
 use Rattle.editor.specs.declared.State.{State}
@@ -28,10 +29,6 @@ use Rattle.changes.specs.declared.look.Place.{Place}
 use Rattle.changes.specs.declared.look.Place.the-variants.{At, Nowhere}
 use Rattle.changes.specs.declared.rewrite.Ends.{Ends}
 use Rattle.changes.specs.declared.rewrite.Anew.{Anew}
-
--- the bytes of s from `from` up to `to`
-abbrev pub part : List ℕ → ℕ → ℕ → List ℕ
-part s from to = take (to - from) (drop from s)
 
 -- x written over the first bytes of d
 unfoldable pub written : List ℕ → List ℕ → List ℕ
@@ -47,11 +44,11 @@ changeOf (suc (suc n)) = exchange
 
 -- the qualified string that the script has from `from` to `to`
 abbrev pub sought : Quals → List ℕ → ℕ → ℕ → Qualified
-sought q script from to = qualified (qualifiersOf q) (part script from to)
+sought q script from to = qualified (qualifiersOf q) (part from to script)
 
 -- A, B or E of it, with the bytes that the script has from `start` to `end`
 abbrev pub alterOf : ℕ → Bool → Quals → List ℕ → ℕ → ℕ → ℕ → ℕ → Op
-alterOf kind pointing q script from to start end = Op.alter (changeOf kind) pointing (sought q script from to) (part script start end)
+alterOf kind pointing q script from to start end = Op.alter (changeOf kind) pointing (sought q script from to) (part start end script)
 
 -- the script has a string from `from` to `to`, and one of text from `start` to `end`
 pub record StringsIn (script : List ℕ) (from to start end : ℕ) : Type 0 where
@@ -60,7 +57,7 @@ pub record StringsIn (script : List ℕ) (from to start end : ℕ) : Type 0 wher
   pub second : start ≤ end
   pub within : end ≤ length script
   pub short : length script ≤ 16384
-  pub text : allText (part script start end) ≡ true
+  pub text : allText (part start end script) ≡ true
 
 -- ---- a look at the current line
 
@@ -141,7 +138,7 @@ firstLine (inserted l) = l
 
 -- where the first line of the record that starts at `at` ends, and where the record does
 pub record EndsAt (j : List ℕ) (at : ℕ) (c : Ends) (r : Record) : Type 0 where
-  pub first : part j (at + 2) (c .old) ≡ firstLine r
+  pub first : part (at + 2) (c .old) j ≡ firstLine r
   pub after : at + 2 ≤ c .old
   pub inside : c .old < c .end
   pub ends : c .end ≡ at + length (enc r)

@@ -13,6 +13,7 @@ use Rattle.definitions.specs.StepProgram.{state}
 use Rattle.definitions.specs.Edit.{Change, afterIt, beforeIt, exchange, Op, step}
 use Rattle.theorems.specs.Lines.{and-left}
 use Rattle.strings.proofs.Lines.{script-short}
+use Rattle.text.specs.Lines.{part}
 use Rattle.matching.specs.declared.Quals.{Quals}
 use Rattle.matching.specs.Quals.{qualifiersOf}
 use Rattle.matching.specs.Words.{Readable, startAt, lengthAt, endAt, qualsAt, stringAt}
@@ -27,7 +28,7 @@ use Rattle.editor.specs.declared.State.{State}
 use Rattle.editor.specs.declared.Moved.{Moved}
 use Rattle.editor.specs.Shows.{lent, Answered}
 use Rattle.editor.specs.Current.{PerformsOn}
-use Rattle.changes.specs.Current.{part, changeOf, sought, StringsIn}
+use Rattle.changes.specs.Current.{changeOf, sought, StringsIn}
 use Rattle.commands.specs.Performing.{splitBy, changeBy, pointingBy, SomeCommand, PerformsAt}
 
 less : (a b : ℕ) → (a + b) - a ≡ b
@@ -35,13 +36,13 @@ less a b = omega arith
 
 -- ---- the second string of A, B and E
 
-string-part : (s : List ℕ) (word : ℕ) (l : Line) → length s ≤ 16384 → StringIn s word l → part s (stringStart word) (stringStart word + stringLength word) ≡ l
+string-part : (s : List ℕ) (word : ℕ) (l : Line) → length s ≤ 16384 → StringIn s word l → part (stringStart word) (stringStart word + stringLength word) s ≡ l
 string-part s word l short h = rw (less (stringStart word) (stringLength word)) (string-is h short)
 
 pub record Second (s : List ℕ) (start end : ℕ) : Type 0 where
   pub inside : end ≤ length s
   pub short : length s ≤ 16384
-  pub texts : allText (part s start end) ≡ true
+  pub texts : allText (part start end s) ≡ true
 
 second : (s : List ℕ) (word : ℕ) (new : Line) → length s ≤ 16384 → StringIn s word new → isLine new ≡ true → Second s (stringStart word) (stringStart word + stringLength word)
 unfolding isLine
@@ -88,7 +89,7 @@ split-back kind false e = rw e (refl, refl)
 -- ---- a qualified string
 
 string-read : (s w : List ℕ) (k n : ℕ) (q : Qualified) → ReadsAs s w k n q → (qs : Quals) (from len : ℕ) → qs ≡ qualsAt w k → from ≡ startAt w k → len ≡ lengthAt w k
-    → qualified (qualifiersOf qs) (part s from (from + len)) ≡ q
+    → qualified (qualifiersOf qs) (part from (from + len) s) ≡ q
 unfolding stringAt
 string-read s w k n q h qs from len e f g = rw (e, f, g, less (startAt w k) (lengthAt w k)) (h .string)
 
@@ -154,11 +155,11 @@ module _ (s w : List ℕ) (k kind : ℕ) (is : kind ≡ kindAt w k) where
 
     pub alters-as : shapeOf kind ≡ changeShape → isGlobal kind ≡ false → (at : ℕ) → at ≡ endAt w (k + 1) → (start : ℕ) → start ≡ stringStart (getD w at 0) → (more : ℕ) → more ≡ stringLength (getD w at 0)
         → (change : ℕ) → change ≡ changeBy kind → (points : Bool) → points ≡ pointingBy kind
-        → PerformsOn table j st (Op.alter (changeOf change) points (sought qs s from (from + len)) (part s start (start + more))) b r → PerformsAt s table w k j st b r
+        → PerformsOn table j st (Op.alter (changeOf change) points (sought qs s from (from + len)) (part start (start + more) s)) b r → PerformsAt s table w k j st b r
     unfolding Means
     alters-as shape other at at-is start start-is more more-is change change-is points points-is does op e c t h stands ready = on (alters-mean shape other op h)
       where
-        new-is : (new : Line) (n : ℕ) → endAt w (k + 1) ≡ n → StringIn s (getD w n 0) new → part s start (start + more) ≡ new
+        new-is : (new : Line) (n : ℕ) → endAt w (k + 1) ≡ n → StringIn s (getD w n 0) new → part start (start + more) s ≡ new
         new-is new n ends x = rw (start-is, more-is, at-is ∙ ends) (string-part s (getD w n 0) new (script-short s (h .form)) x)
 
         on : Means s w k (h .end) kind changing op → Answered b r (step (lent j) op (state e c) t)

@@ -9,6 +9,7 @@ use Rattle.definitions.specs.Bytes.{isLine}
 use Rattle.definitions.specs.Matching.{Qualifiers, qualified, stringIn}
 use Rattle.definitions.specs.Given.{Carried}
 use Rattle.definitions.specs.Edit.{Op, pointBy, cutAfter, program, step}
+use Rattle.text.specs.Lines.{part}
 use Rattle.editor.specs.Records.{LineIn}
 use Rattle.editor.specs.Shows.{Completes}
 use Rattle.editor.specs.Current.{CopiesLine, IsReady, PerformsOn}
@@ -16,7 +17,7 @@ use Rattle.editor.specs.declared.State.{State}
 use Rattle.editor.specs.declared.Moved.{Moved}
 use Rattle.editor.specs.declared.Moved.the-variants.{Stop}
 use Rattle.editor.proofs.CurrentText.{copied-text, copied-good}
-use Rattle.changes.specs.Current.{part, HasLine, CompletesAt, Finds}
+use Rattle.changes.specs.Current.{HasLine, CompletesAt, Finds}
 use Rattle.changes.specs.declared.look.Place.{Place}
 use Rattle.changes.specs.declared.look.Place.the-variants.{At, Nowhere}
 use Rattle.changes.proofs.Commands.{at-less, has-less, place-stops, string-long, place-goes, at-place, has-place}
@@ -45,17 +46,17 @@ by-inside true i n = omega arith
 by-inside false i n = omega arith
 
 module _ {table j : List ℕ} {st : State} (qs : Qualifiers) (script : List ℕ) (from to : ℕ) (room : to ≤ length script) (o : Place)
-    (finds : Finds table j st (qualified qs (part script from to)) o) (after : Bool) where
-  pub split-stop : (m : ℕ) → o ≡ Nowhere m → PerformsOn table j st (Op.split after (qualified qs (part script from to))) j (Stop m st)
+    (finds : Finds table j st (qualified qs (part from to script)) o) (after : Bool) where
+  pub split-stop : (m : ℕ) → o ≡ Nowhere m → PerformsOn table j st (Op.split after (qualified qs (part from to script))) j (Stop m st)
   unfolding step program
-  split-stop m q = place-stops qs script from to room o finds m q (λ x i. cutAfter (x .0) (pointBy after i (length (stringIn (qualified qs (part script from to))))))
+  split-stop m q = place-stops qs script from to room o finds m q (λ x i. cutAfter (x .0) (pointBy after i (length (stringIn (qualified qs (part from to script))))))
 
   module _ (i : ℕ) (q : o ≡ At i) (n : ℕ) (z : n ≡ pointBy after i (to - from)) where
     pub has-cut : IsReady table j st → HasLine table j st n
     has-cut h = has-less n (omega (arith, z, by-inside after i (to - from))) (has-place qs script from to room o finds i q h)
 
-    pub split-found : (k : List ℕ) (m : Moved) → CompletesAt table j st n (λ l. cutAfter l n) k m → PerformsOn table j st (Op.split after (qualified qs (part script from to))) k m
+    pub split-found : (k : List ℕ) (m : Moved) → CompletesAt table j st n (λ l. cutAfter l n) k m → PerformsOn table j st (Op.split after (qualified qs (part from to script))) k m
     unfolding step program
     split-found k m did e c t w =
-        rw (place-goes qs script from to room o finds i q (λ x i. cutAfter (x .0) (pointBy after i (length (stringIn (qualified qs (part script from to)))))) e c t w, string-long qs script from to room o finds i q, ← z)
+        rw (place-goes qs script from to room o finds i q (λ x i. cutAfter (x .0) (pointBy after i (length (stringIn (qualified qs (part from to script)))))) e c t w, string-long qs script from to room o finds i q, ← z)
         (did e c t (at-less n e t (omega (arith, z, by-inside after i (to - from))) (at-place qs script from to room o finds i q e t w)))

@@ -1,5 +1,5 @@
 use native.Mathlib.Omega.{arith}
-use Rattle.changes.proofs.Looking.{part-length}
+use Rattle.text.proofs.Parts.{part-length}
 use Rattle.changes.proofs.Commands.{has-place, alter-stop, alter-found}
 use borrow.Author.Needs.{needs}
 use Rattle.changes.proofs.alter.Statement.{statement}
