@@ -14,6 +14,11 @@ ROOT = os.path.dirname(HERE)
 def table(lines):
     return "".join(f"R{i:05d} open {i // 60 % 24:02d}:{i % 60:02d} 90\n" for i in range(1, lines + 1))
 
+def long_table(lines):
+    """Lines of 96 bytes."""
+    return "".join(f"R{i:05d} open {i // 60 % 24:02d}:{i % 60:02d} 90, doors on the left side; the crew waits for its signal, number {i:05d}, there\n"
+                   for i in range(1, lines + 1))
+
 def season_table():
     """16 KB of stops, each with the lines that the season's script looks for."""
     stop = "R01 open 06:10 90\nR02 open 06:25 90\nR03 open 07:00 60\n"
@@ -28,13 +33,21 @@ SIXTEEN = [f"s/{a}/{b}/g" for a, b in EXCHANGED] + ["s/OPEN/& at/g", "s/120/+&/g
 def jobs(lines):
     every = table(lines)
     even = table(lines - lines % 2)
+    long = long_table(lines)
     near = f"R{lines - 5:05d}"
+    far = f"signal, number {lines - 5:05d}"
     stops = 16384 // 54
     return [
         ("change every second line", every,
          "RPT (E/90/120/; N; IFEOF AGP; N; IFEOF AGP)\n", "1~2s/90/120/\n", "1,$g/[13579] open/s/90/120/\nw OUT\nq\n"),
         ("find one line near the end", every,
          f"F/{near}/; E/90/120/\n", f"/{near}/s/90/120/\n", f"/{near}/s/90/120/\nw OUT\nq\n"),
+        ("the same in any case (U)", every,
+         f"F U/{near.lower()}/; E/90/120/\n", f"/{near.lower()}/Is/90/120/\n", f"/{near.lower()}/Is/90/120/\nw OUT\nq\n"),
+        ("find one long line", long,
+         f"F/{far}/; E/90/120/\n", f"/{far}/s/90/120/\n", f"/{far}/s/90/120/\nw OUT\nq\n"),
+        ("the same in any case (U)", long,
+         f"F U/{far.upper()}/; E/90/120/\n", f"/{far.upper()}/Is/90/120/\n", f"/{far.upper()}/Is/90/120/\nw OUT\nq\n"),
         ("delete a third of the lines", every,
          "RPT (D; IFEOF AGP; N; IFEOF AGP; N; IFEOF AGP)\n", "1~3d\n", None),
         ("cut every line in two", every,
@@ -62,6 +75,11 @@ def once(command, stdin, out):
     after = resource.getrusage(resource.RUSAGE_CHILDREN)
     if done.returncode: sys.exit(f"{command}: status {done.returncode}: {done.stderr.decode()}")
     return 1000 * (after.ru_utime + after.ru_stime - before.ru_utime - before.ru_stime)
+
+def run_time(zedrun, old, script, repeats):
+    """The best time of one run alone in microseconds, of so many."""
+    done = subprocess.run([zedrun, old, script, str(repeats)], stdout=subprocess.DEVNULL, stderr=subprocess.PIPE, check=True)
+    return float(done.stderr)
 
 def best(rounds, command, stdin, out):
     return min(once(command, stdin, out) for _ in range(rounds))
@@ -98,8 +116,7 @@ def grows(folder, zedrun, few, many, rounds):
         took = []
         for text, z in ((t1, z1), (t2, z2)):
             write(old, text), write(script, z)
-            done = subprocess.run([zedrun, old, script, str(5 * rounds)], stdout=subprocess.DEVNULL, stderr=subprocess.PIPE, check=True)
-            took.append(float(done.stderr))
+            took.append(run_time(zedrun, old, script, 5 * rounds))
         print(f"{name:32} {took[0]:8.0f} {took[1]:8.0f} {took[1] / took[0]:9.2f}")
 
 def main():

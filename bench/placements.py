@@ -4,10 +4,11 @@
     bench/placements.py BEFORE.a AFTER.a [ROUNDS]
 
 The time of the same code depends on where the linker puts it, so each library is linked at six places, behind an object of another size. The two are run
-in turn; at each place the best processor time of ROUNDS (15) is taken, start-up included, and of the six places the mean.
+in turn; at each place the best of ROUNDS (15) is taken, and of the six places the mean. First the processor time, start-up and files included; then the time
+of one run alone, the best of ten in each program.
 """
 import os, subprocess, sys, tempfile
-from compare import ROOT, build, jobs, once, write
+from compare import ROOT, build, jobs, once, run_time, write
 
 PLACES = (1, 17, 49, 113, 305, 1041)
 
@@ -27,14 +28,17 @@ def programs(folder, libraries):
             build(made[library, size], shifted(folder, size), library)
     return made
 
-def mean_of_best(made, libraries, rounds, old, script):
+def mean_of_best(made, libraries, rounds, time_of):
     best = {}
     for _ in range(rounds):
         for size in PLACES:
             for library in libraries:
-                took = once([made[library, size], old, script], os.devnull, os.devnull)
+                took = time_of(made[library, size])
                 best[library, size] = min(took, best.get((library, size), took))
     return [sum(best[library, size] for size in PLACES) / len(PLACES) for library in libraries]
+
+def shown(before, after, digits):
+    return f"{before:9.{digits}f} {after:9.{digits}f} {100 * (after / before - 1):+7.1f} %"
 
 def main():
     if len(sys.argv) < 3: sys.exit(__doc__)
@@ -44,11 +48,12 @@ def main():
     with tempfile.TemporaryDirectory() as folder:
         made = programs(folder, libraries)
         old, script = os.path.join(folder, "OLD"), os.path.join(folder, "ZED")
-        print(f"{'edit':32} {'before ms':>9} {'after ms':>9} {'change':>8}")
+        print(f"{'edit':32} {'before ms':>9} {'after ms':>9} {'change':>9} {'run us':>10} {'after us':>9} {'change':>9}")
         for name, text, z, _, _ in jobs(65535):
             if "global" in name: continue
             write(old, text), write(script, z)
-            before, after = mean_of_best(made, libraries, rounds, old, script)
-            print(f"{name:32} {before:9.2f} {after:9.2f} {100 * (after / before - 1):+7.1f} %")
+            whole = mean_of_best(made, libraries, rounds, lambda program: once([program, old, script], os.devnull, os.devnull))
+            alone = mean_of_best(made, libraries, rounds // 5 + 1, lambda program: run_time(program, old, script, 10))
+            print(f"{name:32} {shown(*whole, 2)}  {shown(*alone, 0)}")
 
 if __name__ == "__main__": main()

@@ -3,7 +3,7 @@ use mathlib.Core.Path.{_≡_, refl}
 use mathlib.Core.List.{List, [], _∷_, map}
 use Prim.Native.Nat.{ℕ}
 use Prim.Native.String.{String}
-use Rattle.definitions.specs.Bytes.{bytes}
+use Rattle.definitions.specs.Bytes.{bytes, upper}
 use Rattle.definitions.specs.Journal.{Record, kept, changed, deleted, inserted}
 use Rattle.definitions.specs.Run.{Answer, answer, refusal, workLength, runAnswer}
 use Rattle.definitions.specs.Program.{printed, programPrints}
@@ -174,3 +174,24 @@ wishTwoCases =
 pub wish-two : map computed wishTwoCases ≡ map stated wishTwoCases
 unfolding everything printed programPrints computed stated largest same wishTwoCases
 wish-two = refl
+
+-- ---- document 02, wish 3: upper case
+
+-- 97 to 122 become the byte less 32; every other byte, those over 126 too, is itself (W3.2)
+pub upper-ends : map upper (0 ∷ 96 ∷ 97 ∷ 122 ∷ 123 ∷ 225 ∷ 255 ∷ []) ≡ (0 ∷ 96 ∷ 65 ∷ 90 ∷ 123 ∷ 225 ∷ 255 ∷ [])
+unfolding everything
+upper-ends = refl
+
+unfoldable pub wishThreeCases : List Case
+wishThreeCases =
+    -- in % and in U; $ is as it was (W3.1)
+    case largest "az{\n" "3%\n" (answer 0 6 1 0 (changed (bytes "az{") (bytes "AZ{") ∷ []))
+    ∷ case largest "@[a~\n" "F U/@[A~/; 4%\n" (answer 0 10 1 0 (changed (bytes "@[a~") (bytes "@[A~") ∷ []))
+    ∷ case largest "[A]\n" "3$\n" (answer 0 6 1 0 (changed (bytes "[A]") (bytes "[a]") ∷ []))
+    -- the bytes beside the letters are not taken for one another: ` and @, { and [
+    ∷ case largest "`{\n" "IF U/@[/ (D)\n" (answer 0 1 1 0 (same "`{" ∷ []))
+    ∷ []
+
+pub wish-three : map computed wishThreeCases ≡ map stated wishThreeCases
+unfolding everything printed programPrints computed stated largest same wishThreeCases
+wish-three = refl

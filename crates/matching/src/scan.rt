@@ -9,7 +9,7 @@ ghost use Rattle.matching.specs.Scan.{otherPlaces};
 use super::Found;
 use super::place::stands;
 use scans::Kind;
-use scans::past;
+use scans::past_long;
 use text::upper;
 
 // The next place up to `top` where the string's first byte stands; `top` where none is before it.
@@ -21,9 +21,9 @@ fn next_place(line: &[u8], s: &[u8], at: usize, top: usize, fold: bool) -> usize
         return at;
     }
     if fold {
-        return past(line, at, top, Kind::NotFolded(upper(s[0])));
+        return past_long(line, at, top, Kind::NotFolded(upper(s[0])));
     }
-    past(line, at, top, Kind::Not(s[0]))
+    past_long(line, at, top, Kind::Not(s[0]))
 }
 
 // How many places an occurrence takes up.

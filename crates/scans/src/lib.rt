@@ -1,8 +1,10 @@
-// Scans of a slice: how far the bytes from a place on are of one kind. The one loop that the readers of scripts, lines and cases share.
+// Scans of a slice: how far the bytes from a place on are of one kind. What the readers of scripts, lines and cases share.
 ghost use mathlib.Core.Path.{_≡_};
 ghost use Prim.Native.Nat.{_+_, _-_, _≤_};
 ghost use lib.ListN.{length, drop};
+ghost use lib.Dec.{eqb};
 ghost use Rattle.scans.specs.Leading.{leading, isOf};
+use text::copies::lesser;
 use text::upper;
 
 // A kind of bytes.
@@ -31,7 +33,7 @@ fn is_of(kind: Kind, b: u8) -> bool
     }
 }
 
-// The place after the bytes of a kind that stand from `at` on, at most `end`.
+// The place after the bytes of a kind that stand from `at` on, at most `end`: byte by byte, for runs that are short.
 pub fn past(s: &[u8], at: usize, end: usize, kind: Kind) -> usize
     requires { ⌜ (at ≤ end) × (end ≤ length (now s)) ⌝ }
     ensures { λ r. ⌜ (r ≡ at + leading (isOf kind) (end - at) (drop at (now (s .entry)))) × (r ≤ end) ⌝ }
@@ -44,4 +46,36 @@ pub fn past(s: &[u8], at: usize, end: usize, kind: Kind) -> usize
         i += 1;
     }
     i
+}
+
+// Whether the eight bytes from `at` on are all of a kind. No way leads out of the loop, so that all eight are looked at at once.
+fn are_eight(s: &[u8], at: usize, kind: Kind) -> bool
+    requires { ⌜ at + 8 ≤ length (now s) ⌝ }
+    ensures { λ r. ⌜ r ≡ eqb (leading (isOf kind) 8 (drop at (now (s .entry)))) 8 ⌝ }
+{
+    let mut all = true;
+    let mut k: usize = 0;
+    while k < 8 {
+        all = all & is_of(kind, s[at + k]);
+        k += 1;
+    }
+    all
+}
+
+// The same place for runs that may be long: eight bytes at a time. The last eight are those before `end`, where fewer are left: some are then looked at twice.
+pub fn past_long(s: &[u8], at: usize, end: usize, kind: Kind) -> usize
+    requires { ⌜ (at ≤ end) × (end ≤ length (now s)) ⌝ }
+    ensures { λ r. ⌜ (r ≡ at + leading (isOf kind) (end - at) (drop at (now (s .entry)))) × (r ≤ end) ⌝ }
+{
+    let mut i = at;
+    if 8 <= end {
+        while i < end {
+            let from = lesser(i, end - 8);
+            if !are_eight(s, from, kind) {
+                break;
+            }
+            i = from + 8;
+        }
+    }
+    past(s, i, end, kind)
 }

@@ -11,17 +11,12 @@ ghost use Rattle.definitions.specs.Table.{isScript};
 ghost use Rattle.text.specs.Lines.{part, lineEnd, linesForm, tableForm};
 ghost use Rattle.text.specs.Buffer.{laid};
 
-// a to z become A to Z.
+// a to z become A to Z: 32 less for a byte in that range, 0 less for any other. There is no branch, so that bytes can be folded side by side.
 pub fn upper(b: u8) -> u8
     ensures { λ r. ⌜ r ≡ «upper-of» b ⌝ }
 {
-    if b < 97 {
-        return b;
-    }
-    if b > 122 {
-        return b;
-    }
-    b - 32
+    let small = (97 <= b) & (b <= 122);
+    b - 32 * (small as u8)
 }
 
 // Where a line ends.

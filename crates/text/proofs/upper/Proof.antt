@@ -1,20 +1,25 @@
-use mathlib.Core.Path.{sym}
+-- `text::upper` meets its contract. Assumes nothing.
+use native.Mathlib.Omega.{arith}
 use borrow.Author.Needs.{needs}
-use Rattle.text.proofs.Cases.{upper-low, upper-high, upper-small}
+use Rattle.definitions.specs.Bytes.{isSmall}
+use Rattle.text.proofs.Cases.{taken-most, taken-within, upper-taken}
 use Rattle.text.proofs.upper.Statement.{statement}
 use Rattle.text.proofs.upper.Tie as tie
 
-returns : tie.Need-returns
-returns c = sym (upper-low _ (c .if1 .taken))
+cast-result : tie.Need-cast-result
+cast-result c = search needs
 
-returns-2 : tie.Need-returns-2
-returns-2 c = sym (upper-high _ (c .if2 .taken))
+mul-result : tie.Need-mul-result
+unfolding isSmall
+mul-result c = omega (arith, taken-most (isSmall (c .args .b)))
 
 sub-result : tie.Need-sub-result
-sub-result c = search needs
+unfolding isSmall
+sub-result c = taken-within (c .args .b)
 
-returns-3 : tie.Need-returns-3
-returns-3 c = sym (upper-small _ (search needs) (search needs))
+returns : tie.Need-returns
+unfolding isSmall
+returns c = upper-taken (c .args .b)
 
 pub upper-spec : {M : Type 1} → statement M
-upper-spec = tie.close (tie.spec returns returns-2 sub-result returns-3)
+upper-spec = tie.close (tie.spec cast-result mul-result sub-result returns)

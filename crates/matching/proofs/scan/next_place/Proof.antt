@@ -14,20 +14,20 @@ shared-slice-read-upper c = search needs
 upper-requires : tie.Need-upper-requires
 upper-requires c κs = search needs
 
-past-requires : tie.Need-past-requires
-past-requires c κs = search needs
+past-long-requires : tie.Need-past-long-requires
+past-long-requires c κs = search needs
 
 returns-2 : tie.Need-returns-2
-returns-2 c = c .past .ensures .0 ∙ first-upper _ _ _ _ _ (c .before .before .before .if2 .taken) (omega arith) _ (c .before .upper .ensures)
+returns-2 c = c .past-long .ensures .0 ∙ first-upper _ _ _ _ _ (c .before .before .before .if2 .taken) (omega arith) _ (c .before .upper .ensures)
 
 shared-slice-read-t13 : tie.Need-shared-slice-read-t13
 shared-slice-read-t13 c = search needs
 
-past-requires-2 : tie.Need-past-requires-2
-past-requires-2 c κs = search needs
+past-long-requires-2 : tie.Need-past-long-requires-2
+past-long-requires-2 c κs = search needs
 
 returns-3 : tie.Need-returns-3
-returns-3 c = c .past2 .ensures .0 ∙ first-plain _ _ _ _ _ (c .before .before .if2 .left) (search needs)
+returns-3 c = c .past-long2 .ensures .0 ∙ first-plain _ _ _ _ _ (c .before .before .if2 .left) (search needs)
 
 pub next-place-spec : {M : Type 1} → statement M
 next-place-spec =
@@ -36,8 +36,8 @@ next-place-spec =
     returns
     shared-slice-read-upper
     upper-requires
-    past-requires
+    past-long-requires
     returns-2
     shared-slice-read-t13
-    past-requires-2
+    past-long-requires-2
     returns-3)
