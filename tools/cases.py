@@ -14,8 +14,9 @@ def line():
     if r < .1: return ''
     if r < .13: return w(R.choice([250,253,254,255]), 'ab ')
     if r < .16: return w(R.randint(240, 250), 'b ') + w(R.randint(1, 5), 'ab')
+    if r < .28: return w(R.randint(8, 60), R.choice(['abAB', 'bbbbbbbbaA', 'bbbbbbbz', 'bqzZ@[`{']))
     return w(R.randint(1, 9), R.choice(['ab', 'aab ', 'abAB1 -', 'a', ' a']))
-def string(): return w(R.choice([0,1,1,1,2,2,3]), R.choice(['ab', 'a', 'abAB1 ']))
+def string(): return w(R.choice([0,1,1,1,2,2,3]), R.choice(['ab', 'a', 'abAB1 ', 'aAzZ@[`{']))
 def num(): return str(R.choice([0,1,1,2,2,3,4,5,6,9,65535,65536,'007']) )
 def n1(): return str(R.choice([1,1,2,2,3,4,5,6,9,65535]))
 def sp(): return R.choice(['', '', ' ', '  '])

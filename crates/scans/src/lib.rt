@@ -49,7 +49,7 @@ pub fn past(s: &[u8], at: usize, end: usize, kind: Kind) -> usize
 }
 
 // Whether the eight bytes from `at` on are all of a kind. No way leads out of the loop, so that all eight are looked at at once.
-fn are_eight(s: &[u8], at: usize, kind: Kind) -> bool
+fn eight_are_of(s: &[u8], at: usize, kind: Kind) -> bool
     requires { ⌜ at + 8 ≤ length (now s) ⌝ }
     ensures { λ r. ⌜ r ≡ eqb (leading (isOf kind) 8 (drop at (now (s .entry)))) 8 ⌝ }
 {
@@ -71,7 +71,7 @@ pub fn past_long(s: &[u8], at: usize, end: usize, kind: Kind) -> usize
     if 8 <= end {
         while i < end {
             let from = lesser(i, end - 8);
-            if !are_eight(s, from, kind) {
+            if !eight_are_of(s, from, kind) {
                 break;
             }
             i = from + 8;

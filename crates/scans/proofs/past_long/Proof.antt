@@ -22,8 +22,8 @@ loop-holds c = (omega arith, omega arith, refl)
 lesser-requires : tie.Need-lesser-requires Inv-loop μ-loop
 lesser-requires c κs = search needs
 
-are-eight-requires : tie.Need-are-eight-requires Inv-loop μ-loop
-are-eight-requires c κs = omega arith
+eight-are-of-requires : tie.Need-eight-are-of-requires Inv-loop μ-loop
+eight-are-of-requires c κs = omega arith
 
 add-i : tie.Need-add-i Inv-loop μ-loop
 add-i c = omega arith
@@ -35,7 +35,7 @@ loop-again : tie.Need-loop-again Inv-loop μ-loop
 loop-again c =
     let l = c .before .before .before .before .loop in
     let a = c .before .before .before .before .before .before .before .args in
-    let all = sym (c .before .are-eight .ensures) ∙ not-false _ (c .if2 .left) in
+    let all = sym (c .before .eight-are-of .ensures) ∙ not-false _ (c .if2 .left) in
     (omega arith, omega arith, l .inv .2 ∙ reach-over (isOf (a .kind)) (a .s .now) (c .before .before .lesser .result) 8 (l .i) (a .end) (omega arith) all (omega arith) (omega arith) (omega arith))
 
 past-requires : tie.Need-past-requires Inv-loop μ-loop
@@ -54,7 +54,7 @@ past-long-spec =
     μ-loop
     loop-holds
     lesser-requires
-    are-eight-requires
+    eight-are-of-requires
     add-i
     loop-less
     loop-again

@@ -1,4 +1,4 @@
--- `scans::are_eight` meets its contract. The loop's invariant: whether the first k bytes are all of the kind. Assumes nothing.
+-- `scans::eight_are_of` meets its contract. The loop's invariant: whether the first k bytes are all of the kind. Assumes nothing.
 use mathlib.Core.Path.{_≡_, sym, _∙_}
 use mathlib.Core.Bool.{_&&_}
 use Prim.Native.Nat.{_-_, _≤_}
@@ -7,8 +7,8 @@ use lib.ListN.{drop}
 use borrow.Author.Needs.{needs}
 use Rattle.scans.specs.Leading.{isOf}
 use Rattle.scans.proofs.Runs.{allPass, pass-none, pass-next}
-use Rattle.scans.proofs.are_eight.Statement.{statement}
-use Rattle.scans.proofs.are_eight.Tie as tie
+use Rattle.scans.proofs.eight_are_of.Statement.{statement}
+use Rattle.scans.proofs.eight_are_of.Tie as tie
 
 abbrev Inv-loop : tie.InvT-loop
 Inv-loop s at kind all₀ k₀ all k = (k ≤ 8) × (all ≡ allPass (isOf kind) k (drop at s))
@@ -43,8 +43,8 @@ loop-again c =
 returns : tie.Need-returns Inv-loop μ-loop
 returns c = let done : c .before .loop .k ≡ 8 = omega arith in rw done at (c .before .loop .inv .1)
 
-pub are-eight-spec : {M : Type 1} → statement M
-are-eight-spec =
+pub eight-are-of-spec : {M : Type 1} → statement M
+eight-are-of-spec =
     tie.close
     (tie.spec
     Inv-loop
