@@ -31,7 +31,7 @@ isSmall b = leb 97 b && leb b 122
 unfoldable pub isLetter : ℕ → Bool
 isLetter b = isCapital b || isSmall b
 
--- a to z become A to Z; every other byte stays
+-- a to z become A to Z; every other byte, those over 126 too, stays (W3.2)
 unfoldable pub upper : ℕ → ℕ
 upper b = cond (isSmall b) (b - 32) b
 

@@ -1,7 +1,7 @@
 -- Laws of bytes in upper case, by what is taken off: 32 where a byte is small, 0 where it is not. Assumes nothing.
 use mathlib.Core.Path.{_≡_, refl}
 use mathlib.Core.Bool.{Bool, true, false, cond, _&&_}
-use Prim.Native.Nat.{ℕ, _-_, _*_, _≤_}
+use Prim.Native.Nat.{ℕ, _-_, _*_, _≤_, _<_}
 use native.Mathlib.Omega.{arith}
 use lib.Dec.{leb}
 use mir.Val.{boolByte}
@@ -12,24 +12,26 @@ use Rattle.definitions.specs.Bytes.{isSmall, upper}
 abbrev taken : Bool → ℕ
 taken t = 32 * boolByte t
 
-pub taken-most : (t : Bool) → taken t ≤ 32
+taken-most : (t : Bool) → taken t ≤ 32
 taken-most true = omega arith
 taken-most false = omega arith
 
-module _ (b : ℕ) where
-  pub taken-within : taken (isSmall b) ≤ b
-  unfolding isSmall
-  taken-within = go (leb 97 b) refl (leb b 122)
-    where
-      go : (t : Bool) → leb 97 b ≡ t → (u : Bool) → taken (t && u) ≤ b
-      go true e u = omega (arith, taken-most u, leb-true 97 b e)
-      go false e u = omega arith
+pub taken-fits : (t : Bool) → taken t < 256
+taken-fits t = omega (arith, taken-most t)
 
-  -- for every byte: the difference is the definition's upper case
-  pub upper-taken : b - taken (isSmall b) ≡ upper b
-  unfolding upper
-  upper-taken = go (isSmall b)
-    where
-      go : (t : Bool) → b - taken t ≡ cond t (b - 32) b
-      go true = refl
-      go false = omega arith
+-- no more than there is, where the bytes in question begin at 32 or above
+pub taken-within : (m b : ℕ) (u : Bool) → 32 ≤ m → taken (leb m b && u) ≤ b
+taken-within m b u h = go (leb m b) refl
+  where
+    go : (t : Bool) → leb m b ≡ t → taken (t && u) ≤ b
+    go true e = omega (arith, taken-most u, leb-true m b e)
+    go false e = omega arith
+
+-- for every byte: the difference is the definition's upper case
+pub upper-taken : (b : ℕ) → b - taken (isSmall b) ≡ upper b
+unfolding upper
+upper-taken b = go (isSmall b)
+  where
+    go : (t : Bool) → b - taken t ≡ cond t (b - 32) b
+    go true = refl
+    go false = omega arith

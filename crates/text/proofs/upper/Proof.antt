@@ -1,8 +1,7 @@
 -- `text::upper` meets its contract. Assumes nothing.
-use native.Mathlib.Omega.{arith}
 use borrow.Author.Needs.{needs}
 use Rattle.definitions.specs.Bytes.{isSmall}
-use Rattle.text.proofs.Cases.{taken-most, taken-within, upper-taken}
+use Rattle.text.proofs.Cases.{taken-fits, taken-within, upper-taken}
 use Rattle.text.proofs.upper.Statement.{statement}
 use Rattle.text.proofs.upper.Tie as tie
 
@@ -10,12 +9,10 @@ cast-result : tie.Need-cast-result
 cast-result c = search needs
 
 mul-result : tie.Need-mul-result
-unfolding isSmall
-mul-result c = omega (arith, taken-most (isSmall (c .args .b)))
+mul-result c = search (needs, taken-fits)
 
 sub-result : tie.Need-sub-result
-unfolding isSmall
-sub-result c = taken-within (c .args .b)
+sub-result c = search (needs, taken-within)
 
 returns : tie.Need-returns
 unfolding isSmall
