@@ -1,6 +1,6 @@
 /*
  * Small letters taken as capitals: % and U for every byte that a line can hold, and the place where a string is found, with and without U, in lines of
- * every length up to 40 and of 255 bytes, from every place on. What must come out is worked out here byte by byte.
+ * every length up to 40, from every place on, and of 255 bytes, from places 0 to 9 on. What must come out is worked out here byte by byte.
  */
 #include <stdint.h>
 #include <stdio.h>
