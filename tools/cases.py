@@ -1,5 +1,5 @@
 #!/usr/bin/env python3
-"""Makes run cases by chance: tables and scripts of the commands of document 01 and of wishes 1 and 2 of document 02, some of them damaged.
+"""Makes run cases by chance: tables and scripts of the commands of document 01 and of wishes 1 to 4 of document 02, some of them damaged.
 
     tools/cases.py SEED COUNT | tools/oracle.py outcome > FILE
     tools/vectors.py run FILE
@@ -41,6 +41,13 @@ def se(deep=0):
         bl = R.choice(['', ' ', '\n', ' \\ c&|)\n', '\n\n ']);  bl2 = R.choice(['', ' ', '\n'])
         parts.append(bl + R.choice('&|') + bl2 + se(deep + 1))
     return '(' + sp() + ''.join(parts) + sp() + (')' if R.random() < .98 else '')
+def test():
+    """The search of IF, UL, WH or UT: many with N, which counts at EOF too."""
+    if R.random() < .6: return se()
+    part = lambda: R.choice(['N', 'N', 'n', '']) + sp() + '/' + string().replace('/', 'a') + '/'
+    if R.random() < .4: return part()
+    joined = lambda: R.choice(['(%s%s%s)' % (part(), R.choice('&|'), part()), part()])
+    return '(' + joined() + R.choice([' & ', ' | ', '&', '|\n']) + joined() + ')'
 def cutting():
     """SA, SB and CL; some without their string, some CL with a qualifier."""
     name = R.choice(['SA', 'SB', 'CL', 'CL'])
@@ -96,10 +103,10 @@ def command(deep=0):
     if r < .76: return R.choice(['2', '3', '0', '4 ', '2 3']) + command(deep + 1)
     if r < .79: return 'RPT ' + command(deep + 1)
     if r < .89:
-        t = R.choice(['IF ' + se(), 'UL ' + se(), 'IFEOF']) + sp() + R.choice(['', ' THEN '])
+        t = R.choice(['IF ' + test(), 'UL ' + test(), 'IFEOF']) + sp() + R.choice(['', ' THEN '])
         if R.random() < .5: return t + ' ' + command(deep + 1)
         return t + group(deep + 1) + (sp() + R.choice(['ELSE', 'else ']) + sp() + group(deep + 1) if R.random() < .6 else '')
-    if r < .93: return R.choice(['WH ', 'UT ']) + se() + ' ' + command(deep + 1)
+    if r < .93: return R.choice(['WH ', 'UT ']) + test() + ' ' + command(deep + 1)
     return group(deep + 1)
 def group(deep): return '(' + R.choice([';', ' ; ', '\n', ';\n']).join(command(deep) for _ in range(R.randint(0, 3))) + ')'
 def script():
@@ -115,6 +122,7 @@ for _ in range(N):
     r = R.random()
     if r < .4: s = ''.join(changing() + R.choice(['; ', '\n']) for _ in range(R.choice([1, 1, 1, 2, 3, 4]))) + s
     elif r < .6: s = ''.join(changing() + R.choice(['; ', '\n']) for _ in range(R.choice([1, 1, 2, 3, 4]))) + R.choice(['', 'N', 'M 3', 'D', 'F/b/', 'W']) + '\n'
+    if R.random() < .1: s = 'M *\n' + s
     opening = len(t) + 2 * t.count('\n')
     size = R.choice([opening + R.randint(0, 30), opening + R.randint(0, 90), 4096, 4096, opening + 300])
     print((t.encode().hex() or '-'), s.encode().hex(), R.choice([0, 1, 3, 8, 20, 60, 60, 120]), 2 * len(s) + 64, size)

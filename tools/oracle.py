@@ -1,5 +1,5 @@
 #!/usr/bin/env python3
-"""Document 01 and wishes 1 to 3 of document 02 once more, written apart from the definitions: a plain interpreter for making and checking cases.
+"""Document 01 and wishes 1 to 4 of document 02 once more, written apart from the definitions: a plain interpreter for making and checking cases.
 
     tools/oracle.py check FILE      compares each line of a file of run cases (see tools/vectors.py) with what it finds
     tools/oracle.py outcome < FILE  completes lines of: table script budget work-length buffer-length
@@ -308,8 +308,8 @@ def place(q, line, p):
     return None
 
 def holds(se, line, p):
-    if line is None: return False
-    if se[0] == 'q': return (place(se[1], line, p) is not None) != bool(se[1].get('N'))
+    """Without a line, at EOF, no string is found: one with N is true, one without is false."""
+    if se[0] == 'q': return (line is not None and place(se[1], line, p) is not None) != bool(se[1].get('N'))
     return (all if se[0] == 'and' else any)([holds(x, line, p) for x in se[1]])
 
 class Editor:

@@ -195,3 +195,31 @@ wishThreeCases =
 pub wish-three : map computed wishThreeCases ≡ map stated wishThreeCases
 unfolding everything printed programPrints computed stated largest same wishThreeCases
 wish-three = refl
+
+-- ---- document 02, wish 4: N at EOF
+
+unfoldable pub wishFourCases : List Case
+wishFourCases =
+    -- IF, WH, UT, UL: a string with N is true at EOF (W4.1, W4.2)
+    case largest "a\n" "N; IF N/x/ IS/y/\n" (answer 0 3 2 0 (same "a" ∷ inserted (bytes "y") ∷ []))
+    ∷ case largest "a\n" "WH N/x/ (N)\n" (answer 20 4 2 9 (same "a" ∷ []))
+    ∷ case largest "x\n" "UT N/x/ N\n" (answer 0 3 2 0 (same "x" ∷ []))
+    ∷ case largest "a\n" "N; UL N/x/ IS/y/\n" (answer 0 2 2 0 (same "a" ∷ []))
+    -- through &, | and brackets
+    ∷ case largest "" "IF (N/a/ & /b/) IS/1/; IF (N/a/ | /b/) IS/2/\n" (answer 0 3 1 0 (inserted (bytes "2") ∷ []))
+    ∷ case largest "" "IF ((N/a/ | /b/) & (/c/ | N/d/)) IS/1/; IF ((/a/ | /b/) & N/c/) IS/2/\n" (answer 0 3 1 0 (inserted (bytes "1") ∷ []))
+    -- whatever the text and the other qualifiers; without N false, an empty string too
+    ∷ case largest "a\n" "M *; IF 2 L N/a/ IS/1/; IF N P// IS/2/; IF _1,9_NSWU/a/ IS/3/\n"
+    (answer 0 7 2 0 (same "a" ∷ inserted (bytes "1") ∷ inserted (bytes "2") ∷ inserted (bytes "3") ∷ []))
+    ∷ case largest "a\n" "M *; IF N// IS/1/; IF // IS/2/; IF E// IS/3/\n" (answer 0 5 2 0 (same "a" ∷ inserted (bytes "1") ∷ []))
+    -- F, DF and BF do not test EOF, and IFEOF is untouched (W4.2)
+    ∷ case largest "a\n" "N; F N/x/\n" (answer 21 2 2 3 (same "a" ∷ []))
+    ∷ case largest "a\n" "M *; DF N/x/\n" (answer 21 2 2 5 (same "a" ∷ []))
+    ∷ case largest "a\nb\n" "M *; BF N/b/; IS/x/; IFEOF IS/y/\n" (answer 0 6 3 0 (inserted (bytes "x") ∷ same "a" ∷ same "b" ∷ []))
+    -- one step a test
+    ∷ case 3 "" "WH N/x/ ()\n" (answer 29 3 1 0 [])
+    ∷ []
+
+pub wish-four : map computed wishFourCases ≡ map stated wishFourCases
+unfolding everything printed programPrints computed stated largest same wishFourCases
+wish-four = refl

@@ -1,8 +1,8 @@
--- Search expressions (document 01, "Script text" and "Matching"; manual 3.3.7).
-use mathlib.Core.Bool.{Bool, false, _&&_, _||_}
+-- Search expressions (document 01, "Script text" and "Matching"; document 02, wish 4; manual 3.3.7, 3.3.10).
+use mathlib.Core.Bool.{Bool, _&&_, _||_}
 use Prim.Native.Nat.{ℕ}
 use Rattle.definitions.specs.Bytes.{Line}
-use Rattle.definitions.specs.Matching.{Qualified, matches}
+use Rattle.definitions.specs.Matching.{Qualified, isNegated, matches}
 
 -- one qualified string, or two parts joined by & or by |
 pub data Search : Type 0 where
@@ -15,8 +15,8 @@ holds (one q) p l = matches q p l
 holds (both a b) p l = holds a p l && holds b p l
 holds (either a b) p l = holds a p l || holds b p l
 
--- "At EOF each qualified string fails, N or not"
+-- the search at EOF: a qualified string is true there if it has N, whatever else it says, and false if not (document 02, wish 4; W4.1; manual 3.3.10)
 unfoldable pub holdsAtEof : Search → Bool
-holdsAtEof (one q) = false
+holdsAtEof (one q) = isNegated q
 holdsAtEof (both a b) = holdsAtEof a && holdsAtEof b
 holdsAtEof (either a b) = holdsAtEof a || holdsAtEof b

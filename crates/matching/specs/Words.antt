@@ -121,6 +121,10 @@ unfoldable pub onward : List ℕ → ℕ → Bool → ℕ
 onward words k truth =
     cond (eqb (getD words k 0 % 4) 1) (cond truth (k + 1) (getD words k 0 / 4)) (cond truth (getD words k 0 / 4) (k + 1))
 
+-- the qualifiers of a string can be read at k
+abbrev pub HasQuals : List ℕ → ℕ → Type 0
+HasQuals words k = (k + 1 < length words) × (128 ≤ flagsAt words k → k + 2 < length words)
+
 -- the words of a string can be read at k
 pub record Readable (script words : List ℕ) (k : ℕ) : Type 0 where
   pub two : k + 1 < length words

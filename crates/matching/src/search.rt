@@ -1,12 +1,13 @@
 // Searches as words in the work area: reading and testing them, and writing them.
 ghost use mathlib.Core.Path.{_≡_};
-ghost use Prim.Native.Nat.{_+_, _*_, _≤_, _<_};
+ghost use Prim.Native.Nat.{ℕ, _+_, _*_, _≤_, _<_};
+ghost use mathlib.Core.List.{List};
 ghost use lib.ListN.{length};
 ghost use lib.Seq.{sets};
 ghost use Rattle.definitions.specs.Matching.{matches};
-ghost use Rattle.definitions.specs.Search.{Search, holds as «holds-of»};
+ghost use Rattle.definitions.specs.Search.{Search, holds as «holds-of», holdsAtEof};
 ghost use Rattle.matching.specs.Quals.{qualifiersOf};
-ghost use Rattle.matching.specs.Words.{bitOf, flagsOf, firstWord, secondWord, stringWords, Writable, Encodes, Readable, flagsAt, startAt, lengthAt, columnsAt, qualsAt, stringAt, endAt, onward};
+ghost use Rattle.matching.specs.Words.{bitOf, flagsOf, firstWord, secondWord, stringWords, Writable, Encodes, HasQuals, Readable, flagsAt, startAt, lengthAt, columnsAt, qualsAt, stringAt, endAt, onward};
 use super::Quals;
 use super::matches_line;
 
@@ -23,7 +24,7 @@ fn columns_at(words: &[u32], k: usize, flags: u32) -> u32
 
 // The qualifiers of the string at k.
 pub fn quals_at(words: &[u32], k: usize) -> Quals
-    requires { ⌜ (k + 1 < length (now words)) × (128 ≤ flagsAt (now words) k → k + 2 < length (now words)) ⌝ }
+    requires { ⌜ HasQuals (now words) k ⌝ }
     ensures { λ r. ⌜ r ≡ qualsAt (now (words .entry)) k ⌝ }
 {
     let flags = words[k] / 4 % 256;
@@ -107,6 +108,25 @@ pub fn holds(script: &[u8], words: &[u32], k: usize, m: usize, line: &[u8], p: u
     while at < m {
         if words[at] % 4 == 0 {
             truth = string_holds(script, words, at, line, p);
+            at = end_at(words, at);
+        } else {
+            at = after_joint(words, at, truth);
+        }
+    }
+    truth
+}
+
+// Does the search in the words from k to m hold at EOF. The words are walked as on a line; a string holds there if it has N.
+pub fn holds_at_eof(words: &[u32], k: usize, m: usize) -> bool
+    requires { ⌜ ((script : List ℕ) × (se : Search) × Encodes script (now words) k m se) ⌝ }
+    ensures { λ r. ⌜ ((script : List ℕ) (se : Search) → Encodes script (now (words .entry)) k m se → r ≡ holdsAtEof se) ⌝ }
+{
+    let mut at = k;
+    let mut truth = true;
+    while at < m {
+        if words[at] % 4 == 0 {
+            let q = quals_at(words, at);
+            truth = q.negated;
             at = end_at(words, at);
         } else {
             at = after_joint(words, at, truth);

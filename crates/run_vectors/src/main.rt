@@ -1,8 +1,9 @@
-// Runs the cases of the files run.txt, wish-01.txt and wish-02.txt through the editor.
+// Runs the cases of the files run.txt, wish-01.txt, wish-02.txt and wish-04.txt through the editor.
 use vectors::For;
 
 fn main() {
     vectors::run_file(b"run.txt", For::Editor);
     vectors::run_file(b"wish-01.txt", For::Editor);
     vectors::run_file(b"wish-02.txt", For::Editor);
+    vectors::run_file(b"wish-04.txt", For::Editor);
 }

@@ -1,28 +1,22 @@
--- The search on the current line's text. Assumes nothing.
-use mathlib.Core.Path.{_≡_, refl, sym, _∙_}
-use mathlib.Core.Bool.{Bool, false}
+-- The search on the current line's text, and at EOF. Assumes nothing.
+use mathlib.Core.Path.{_≡_, refl, _∙_}
+use mathlib.Core.Bool.{Bool}
 use Prim.Native.Nat.{ℕ, _≤_, _<_}
 use mathlib.Core.List.{List, [], _∷_}
 use lib.ListN.{length}
 use Rattle.definitions.specs.Tape.{Tape}
 use Rattle.definitions.specs.Editor.{Ed, ed}
-use Rattle.definitions.specs.Search.{Search, one, both, either, holds, holdsAtEof}
+use Rattle.definitions.specs.Search.{Search, holds, holdsAtEof}
 use Rattle.definitions.specs.Edit.{searchHolds}
 use Rattle.editor.specs.Shows.{Shows, pointOf}
 use Rattle.editor.specs.Current.{currentLine}
 use Rattle.editor.specs.declared.State.{State}
 use Rattle.editor.proofs.Parts.{shown-record, shown-eof}
 
--- "At EOF each qualified string fails, N or not"
-eof-fails : (se : Search) → holdsAtEof se ≡ false
-unfolding holdsAtEof
-eof-fails (one q) = refl
-eof-fails (both x y) = rw (eof-fails x)
-eof-fails (either x y) = rw (eof-fails x, eof-fails y)
-
-pub eof-holds : {j : List ℕ} {st : State} → length j ≤ st .back → (se : Search) (e : Ed) (t : Tape) → Shows j st e t → false ≡ searchHolds se e
+-- EOF is current
+pub eof-holds : {j : List ℕ} {st : State} → length j ≤ st .back → (se : Search) (e : Ed) (t : Tape) → Shows j st e t → holdsAtEof se ≡ searchHolds se e
 unfolding searchHolds
-eof-holds end se (ed b [] p) t h = sym (eof-fails se)
+eof-holds end se (ed b [] p) t h = refl
 eof-holds end se (ed b (r ∷ a) p) t h = absurd (shown-eof b r a p t h end)
 
 module _ {j : List ℕ} {st : State} (more : st .back < length j) (se : Search) (e : Ed) (t : Tape) (h : Shows j st e t) where

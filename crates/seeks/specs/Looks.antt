@@ -65,7 +65,7 @@ abbrev pub Searchable : List ℕ → List ℕ → ℕ → ℕ → List ℕ → L
 Searchable script words k m table j st = ((se : Search) × Encodes script words k m se) × ((e : Ed) × (t : Tape) × Ready table j st e t)
 
 module _ (script words : List ℕ) (k m : ℕ) (table j : List ℕ) (st : State) where
-  -- v says whether it holds on the current line; at EOF it does not
+  -- v says whether it holds on the current line, or at EOF
   abbrev pub Tells : Bool → Type 0
   Tells v = (se : Search) (e : Ed) (t : Tape) → Encodes script words k m se → Ready table j st e t → v ≡ searchHolds se e
 

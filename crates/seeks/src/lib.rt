@@ -32,7 +32,7 @@ pub enum Way {
     Deleting,
 }
 
-// Does the search in the words from k to m hold on the current line, with the window from p. At EOF it does not.
+// Does the search in the words from k to m hold on the current line, with the window from p, or at EOF.
 pub fn holds_here<'a>(
     script: &[u8],
     words: &[u32],
@@ -47,7 +47,7 @@ pub fn holds_here<'a>(
 {
     let at = st.back;
     if at >= j.len() {
-        return false;
+        return matching::search::holds_at_eof(words, k, m);
     }
     let line = editor::current::current_line(table, j, st);
     matching::search::holds(script, words, k, m, line, st.p)

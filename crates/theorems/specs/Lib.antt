@@ -51,4 +51,5 @@ pub mod ReadFar
 pub mod Reaching
 pub mod GroundedMoves
 pub mod Grounded
+pub mod AtEof
 pub mod WrongRuns

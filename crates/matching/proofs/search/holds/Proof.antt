@@ -1,19 +1,20 @@
 -- At each turn the test goes on to what the search says (`Turn`). Assumes nothing.
 use Prim.Native.Nat.{_-_}
 use native.Mathlib.Omega.{arith}
+use Rattle.matching.specs.Words.{Readable}
+use Rattle.matching.proofs.Running.{lineSays, line-tested}
 use Rattle.matching.proofs.Turns.{Turn, begins, finds, reads, tested, steps, joined}
 use Rattle.matching.proofs.search.holds.Statement.{statement}
 use Rattle.matching.proofs.search.holds.Tie as tie
-use Rattle.matching.proofs.search.holds.Reads as reads
 
 abbrev Inv-loop : tie.InvT-loop
-Inv-loop script words k m line p at₀ truth₀ at truth = Turn script words line p m k at truth
+Inv-loop script words k m line p at₀ truth₀ at truth = Turn words (lineSays script words line p) (Readable script words) m k at truth
 
 abbrev μ-loop : tie.MeasureT-loop
 μ-loop script words k m line p at₀ truth₀ at truth = m - at
 
 loop-holds : tie.Need-loop-holds Inv-loop μ-loop
-loop-holds c = begins _ _ _ _ _ _ (c .before .before .before .pre .0 .0) (c .before .before .before .pre .0 .1)
+loop-holds c = begins (line-tested _ _ _ _) (c .before .before .before .pre .0 .0) (c .before .before .before .pre .0 .1)
 
 mul-if1 : tie.Need-mul-if1 Inv-loop μ-loop
 mul-if1 c = omega arith
@@ -22,34 +23,34 @@ shared-slice-read-if1 : tie.Need-shared-slice-read-if1 Inv-loop μ-loop
 shared-slice-read-if1 c = omega arith
 
 string-holds-requires : tie.Need-string-holds-requires Inv-loop μ-loop
-string-holds-requires c κs = (reads _ _ _ _ _ _ _ _ (c .before .before .before .loop .inv) (c .before .before .loop-test .taken) (c .if1 .taken) .0, c .before .before .before .before .before .before .before .pre .1)
+string-holds-requires c κs = (reads (c .before .before .before .loop .inv) (c .before .before .loop-test .taken) (c .if1 .taken) .0, c .before .before .before .before .before .before .before .pre .1)
 
 end-at-requires : tie.Need-end-at-requires Inv-loop μ-loop
 end-at-requires c κs =
-    let fits = reads _ _ _ _ _ _ _ _ (c .before .before .before .before .loop .inv) (c .before .before .before .loop-test .taken) (c .before .if1 .taken) .0 in
+    let fits = reads (c .before .before .before .before .loop .inv) (c .before .before .before .loop-test .taken) (c .before .if1 .taken) .0 in
     omega (arith, fits .two)
 
 loop-less : tie.Need-loop-less Inv-loop μ-loop
 loop-less c =
-    let bounds = reads _ _ _ _ _ _ _ _ (c .before .before .before .before .before .loop .inv) (c .before .before .before .before .loop-test .taken) (c .before .before .if1 .taken) .1 in
+    let bounds = reads (c .before .before .before .before .before .loop .inv) (c .before .before .before .before .loop-test .taken) (c .before .before .if1 .taken) .1 in
     omega (arith, c .end-at .ensures, bounds)
 
 loop-again : tie.Need-loop-again Inv-loop μ-loop
-loop-again c = tested _ _ _ _ _ _ _ _ (c .before .before .before .before .before .loop .inv) (c .before .before .before .before .loop-test .taken) (c .before .before .if1 .taken) _ _ (c .end-at .ensures) (c .before .string-holds .ensures)
+loop-again c = tested (c .before .before .before .before .before .loop .inv) (c .before .before .before .before .loop-test .taken) (c .before .before .if1 .taken) (c .end-at .ensures) (c .before .string-holds .ensures)
 
 after-joint-requires : tie.Need-after-joint-requires Inv-loop μ-loop
 after-joint-requires c κs = omega arith
 
 loop-less-2 : tie.Need-loop-less-2 Inv-loop μ-loop
 loop-less-2 c =
-    let bounds = steps _ _ _ _ _ _ _ _ (c .before .before .before .before .loop .inv) (c .before .before .before .loop-test .taken) (c .before .if1 .left) in
+    let bounds = steps (c .before .before .before .before .loop .inv) (c .before .before .before .loop-test .taken) (c .before .if1 .left) in
     omega (arith, c .after-joint .ensures, bounds)
 
 loop-again-2 : tie.Need-loop-again-2 Inv-loop μ-loop
-loop-again-2 c = joined _ _ _ _ _ _ _ _ (c .before .before .before .before .loop .inv) (c .before .before .before .loop-test .taken) (c .before .if1 .left) _ (c .after-joint .ensures)
+loop-again-2 c = joined (c .before .before .before .before .loop .inv) (c .before .before .before .loop-test .taken) (c .before .if1 .left) (c .after-joint .ensures)
 
 returns : tie.Need-returns Inv-loop μ-loop
-returns c = finds _ _ _ _ _ _ _ _ (c .before .loop .inv) (c .loop-test .left)
+returns c = λ se enc. finds (line-tested _ _ _ _) se enc (c .before .loop .inv) (c .loop-test .left)
 
 pub holds-spec : {M : Type 1} → statement M
 holds-spec =

@@ -1,0 +1,157 @@
+/*
+ * Runs files of run cases (see tools/vectors.py) over the C interface: guarded FILE..
+ *
+ * Each case is run twice, with all that is lent ending, and then beginning, at a page that may not be touched; table and script may not be written. Compared are
+ * the five numbers, every byte of the journal buffer, and the old side read out of the journal, which must be the table.
+ */
+#define _DEFAULT_SOURCE
+#include <stdint.h>
+#include <stdio.h>
+#include <stdlib.h>
+#include <string.h>
+#include <sys/mman.h>
+
+#include "../include/zed.h"
+#include "../tests/check.h"
+
+enum { PAGE = 4096, PAGES = 64, BEFORE = 7, FIELDS = 11, LINE = 1 << 20 };
+
+/* A page that may not be touched, then pages that may, then another one. */
+typedef struct area {
+    uint8_t *first;
+    size_t size;
+} area;
+
+static area new_area(void) {
+    size_t size = (size_t)PAGES * PAGE;
+    uint8_t *all = mmap(NULL, size + 2 * PAGE, PROT_NONE, MAP_PRIVATE | MAP_ANONYMOUS, -1, 0);
+    area made = {all + PAGE, size};
+
+    if (all == MAP_FAILED || mprotect(made.first, size, PROT_READ | PROT_WRITE) != 0) {
+        perror("guarded");
+        exit(2);
+    }
+    return made;
+}
+
+static void allow(area a, int rights) {
+    if (mprotect(a.first, a.size, rights) != 0) {
+        perror("guarded");
+        exit(2);
+    }
+}
+
+/* So many bytes at the area's end, or at its start. */
+static uint8_t *lent(area a, size_t bytes, int at_end) {
+    return at_end ? a.first + a.size - bytes : a.first;
+}
+
+static area tables, scripts, works, journals, answers, sides;
+
+typedef struct run_case {
+    uint8_t *table, *script, *journal;
+    size_t table_length, script_length, work, room;
+    uint32_t budget;
+    uint64_t number, steps, furthest, length, place;
+} run_case;
+
+/* Hexadecimal digits to bytes, in their place; `-` is no byte. */
+static size_t unhexed(char *word) {
+    size_t n = 0;
+    unsigned byte;
+
+    if (strcmp(word, "-") == 0) return 0;
+    for (; sscanf(word + 2 * n, "%2x", &byte) == 1; n++) word[n] = (char)byte;
+    return n;
+}
+
+static int read_case(char *line, run_case *c) {
+    char *field[FIELDS];
+    int n = 0;
+
+    for (char *word = strtok(line, " \n"); word != NULL && n < FIELDS; word = strtok(NULL, " \n")) field[n++] = word;
+    if (n < FIELDS) return 0;
+    c->table = (uint8_t *)field[0];
+    c->table_length = unhexed(field[0]);
+    c->script = (uint8_t *)field[1];
+    c->script_length = unhexed(field[1]);
+    c->budget = (uint32_t)strtoul(field[2], NULL, 10);
+    c->work = strtoul(field[3], NULL, 10);
+    c->room = strtoul(field[4], NULL, 10);
+    c->number = strtoull(field[5], NULL, 10);
+    c->steps = strtoull(field[6], NULL, 10);
+    c->furthest = strtoull(field[7], NULL, 10);
+    c->length = strtoull(field[8], NULL, 10);
+    c->place = strtoull(field[9], NULL, 10);
+    c->journal = (uint8_t *)field[10];
+    return unhexed(field[10]) == c->length && c->table_length <= tables.size && c->script_length <= scripts.size && 4 * c->work <= works.size
+        && c->length <= c->room && c->room <= journals.size;
+}
+
+static int all_are(const uint8_t *bytes, size_t n, uint8_t b) {
+    for (size_t i = 0; i < n; i++)
+        if (bytes[i] != b) return 0;
+    return 1;
+}
+
+static int same_values(const run_case *c, const zed_answer *a) {
+    return a->number == c->number && a->steps == c->steps && a->furthest == c->furthest && a->length == c->length && a->place == c->place;
+}
+
+static int old_side_is_table(const run_case *c, const uint8_t *journal, int at_end) {
+    uint8_t *side = lent(sides, c->table_length, at_end);
+    size_t written;
+
+    return zed_old_side(journal, c->length, side, c->table_length, &written) == ZED_DONE && written == c->table_length
+        && memcmp(side, c->table, c->table_length) == 0;
+}
+
+static int agrees(const run_case *c, int at_end) {
+    uint8_t *table = lent(tables, c->table_length, at_end), *script = lent(scripts, c->script_length, at_end);
+    uint8_t *journal = lent(journals, c->room, at_end);
+    uint32_t *work = (uint32_t *)(void *)lent(works, 4 * c->work, at_end);
+    zed_answer *answer = (zed_answer *)(void *)lent(answers, sizeof(zed_answer), at_end);
+    uint64_t number;
+
+    memcpy(table, c->table, c->table_length);
+    memcpy(script, c->script, c->script_length);
+    memset(journal, BEFORE, c->room);
+    allow(tables, PROT_READ);
+    allow(scripts, PROT_READ);
+    number = zed_run(table, c->table_length, script, c->script_length, c->budget, work, c->work, journal, c->room, answer);
+    allow(tables, PROT_READ | PROT_WRITE);
+    allow(scripts, PROT_READ | PROT_WRITE);
+    if (number != answer->number || !same_values(c, answer)) return 0;
+    if (zed_is_refusal(number)) return all_are(journal, c->room, BEFORE);
+    return memcmp(journal, c->journal, c->length) == 0 && all_are(journal + c->length, c->room - c->length, 0) && old_side_is_table(c, journal, at_end);
+}
+
+static void run_file(const char *path) {
+    static char line[LINE];
+    char name[256];
+    FILE *file = fopen(path, "r");
+    run_case c;
+
+    check(path, file != NULL);
+    if (file == NULL) return;
+    for (int i = 1; fgets(line, sizeof line, file) != NULL; i++) {
+        snprintf(name, sizeof name, "%.200s, line %d", path, i);
+        check(name, read_case(line, &c) && agrees(&c, 1) && agrees(&c, 0));
+    }
+    fclose(file);
+}
+
+int main(int count, char **paths) {
+    if (count < 2) {
+        fputs("guarded FILE..\n", stderr);
+        return 2;
+    }
+    tables = new_area();
+    scripts = new_area();
+    works = new_area();
+    journals = new_area();
+    answers = new_area();
+    sides = new_area();
+    for (int i = 1; i < count; i++) run_file(paths[i]);
+    return checked();
+}
