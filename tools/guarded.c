@@ -1,5 +1,8 @@
 /*
- * Runs files of run cases (see tools/vectors.py) over the C interface: guarded FILE..
+ * Runs files of run cases (see tools/vectors.py) over the C interface:
+ *
+ *     gcc -std=c11 -O2 -Iinclude -o guarded tools/guarded.c target/staticlib/libzed.a
+ *     ./guarded FILE..
  *
  * Each case is run twice, with all that is lent ending, and then beginning, at a page that may not be touched; table and script may not be written. Compared are
  * the five numbers, every byte of the journal buffer, and the old side read out of the journal, which must be the table.

@@ -116,8 +116,7 @@ module _ (script words : List ℕ) (k m : ℕ) (a : Anchor) (count : ℕ) (l n w
 
   readable : Readable script words k
   readable = record {
-    two = omega (arith, ended);
-    three = λ h. ⊎-elim (λ x. absurd (omega (arith, h, read .without (x .0)))) (λ x. omega (arith, ended, x .1)) (which c);
+    quals = (omega (arith, ended), λ h. ⊎-elim (λ x. absurd (omega (arith, h, read .without (x .0)))) (λ x. omega (arith, ended, x .1)) (which c));
     string = omega (arith, starts, lengths, leaf .inside);
   }
 

@@ -55,7 +55,7 @@ eofSays words k = qualsAt words k .negated
 pub eof-tested : (script words : List ℕ) → Tested script words (eofSays words) (HasQuals words) holdsAtEof
 unfolding holdsAtEof stringAt qualifiersOf isNegated
 eof-tested script words = record {
-  string = λ k m q r. ((r .fits .two, r .fits .three), ap isNegated (r .string));
+  string = λ k m q r. (r .fits .quals, ap isNegated (r .string));
   and = λ a b. refl;
   or = λ a b. refl;
 }

@@ -127,8 +127,7 @@ HasQuals words k = (k + 1 < length words) × (128 ≤ flagsAt words k → k + 2 
 
 -- the words of a string can be read at k
 pub record Readable (script words : List ℕ) (k : ℕ) : Type 0 where
-  pub two : k + 1 < length words
-  pub three : 128 ≤ flagsAt words k → k + 2 < length words
+  pub quals : HasQuals words k
   pub string : startAt words k + lengthAt words k ≤ length script
 
 -- ---- writing the words

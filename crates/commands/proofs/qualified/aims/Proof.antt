@@ -6,16 +6,16 @@ use Rattle.commands.proofs.qualified.aims.Statement.{statement}
 use Rattle.commands.proofs.qualified.aims.Tie as tie
 
 add-at : tie.Need-add-at
-add-at c = omega (arith, aims-read _ _ _ _ (c .before .before .before .before .pre .2) (c .before .before .before .before .pre .3) (c .before .before .before .before .pre .0) .two)
+add-at c = omega (arith, aims-read _ _ _ _ (c .before .before .before .before .pre .2) (c .before .before .before .before .pre .3) (c .before .before .before .before .pre .0) .quals .0)
 
 quals-at-requires : tie.Need-quals-at-requires
-quals-at-requires c κs = let r = aims-read _ _ _ _ (c .before .before .before .before .pre .2) (c .before .before .before .before .pre .3) (c .before .before .before .before .pre .0) in (r .two, r .three)
+quals-at-requires c κs = aims-read _ _ _ _ (c .before .before .before .before .pre .2) (c .before .before .before .before .pre .3) (c .before .before .before .before .pre .0) .quals
 
 start-at-requires : tie.Need-start-at-requires
-start-at-requires c κs = omega (arith, aims-read _ _ _ _ (c .before .before .before .before .before .pre .2) (c .before .before .before .before .before .pre .3) (c .before .before .before .before .before .pre .0) .two)
+start-at-requires c κs = omega (arith, aims-read _ _ _ _ (c .before .before .before .before .before .pre .2) (c .before .before .before .before .before .pre .3) (c .before .before .before .before .before .pre .0) .quals .0)
 
 length-at-requires : tie.Need-length-at-requires
-length-at-requires c κs = aims-read _ _ _ _ (c .before .before .before .before .before .before .pre .2) (c .before .before .before .before .before .before .pre .3) (c .before .before .before .before .before .before .pre .0) .two
+length-at-requires c κs = aims-read _ _ _ _ (c .before .before .before .before .before .before .pre .2) (c .before .before .before .before .before .before .pre .3) (c .before .before .before .before .before .before .pre .0) .quals .0
 
 add-to : tie.Need-add-to
 add-to c = omega (arith, aims-read _ _ _ _ (c .before .before .before .before .before .before .before .pre .2) (c .before .before .before .before .before .before .before .pre .3) (c .before .before .before .before .before .before .before .pre .0) .string, c .length-at .ensures, c .before .start-at .ensures)

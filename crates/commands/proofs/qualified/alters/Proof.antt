@@ -5,22 +5,22 @@ use Rattle.commands.proofs.qualified.alters.Statement.{statement}
 use Rattle.commands.proofs.qualified.alters.Tie as tie
 
 add-at : tie.Need-add-at
-add-at c = omega (arith, alters-read _ _ _ _ (c .before .before .before .before .pre .2) (c .before .before .before .before .pre .3) (c .before .before .before .before .pre .4) (c .before .before .before .before .pre .0) .two)
+add-at c = omega (arith, alters-read _ _ _ _ (c .before .before .before .before .pre .2) (c .before .before .before .before .pre .3) (c .before .before .before .before .pre .4) (c .before .before .before .before .pre .0) .quals .0)
 
 quals-at-requires : tie.Need-quals-at-requires
-quals-at-requires c κs = let r = alters-read _ _ _ _ (c .before .before .before .before .pre .2) (c .before .before .before .before .pre .3) (c .before .before .before .before .pre .4) (c .before .before .before .before .pre .0) in (r .two, r .three)
+quals-at-requires c κs = alters-read _ _ _ _ (c .before .before .before .before .pre .2) (c .before .before .before .before .pre .3) (c .before .before .before .before .pre .4) (c .before .before .before .before .pre .0) .quals
 
 start-at-requires : tie.Need-start-at-requires
-start-at-requires c κs = omega (arith, alters-read _ _ _ _ (c .before .before .before .before .before .pre .2) (c .before .before .before .before .before .pre .3) (c .before .before .before .before .before .pre .4) (c .before .before .before .before .before .pre .0) .two)
+start-at-requires c κs = omega (arith, alters-read _ _ _ _ (c .before .before .before .before .before .pre .2) (c .before .before .before .before .before .pre .3) (c .before .before .before .before .before .pre .4) (c .before .before .before .before .before .pre .0) .quals .0)
 
 length-at-requires : tie.Need-length-at-requires
-length-at-requires c κs = alters-read _ _ _ _ (c .before .before .before .before .before .before .pre .2) (c .before .before .before .before .before .before .pre .3) (c .before .before .before .before .before .before .pre .4) (c .before .before .before .before .before .before .pre .0) .two
+length-at-requires c κs = alters-read _ _ _ _ (c .before .before .before .before .before .before .pre .2) (c .before .before .before .before .before .before .pre .3) (c .before .before .before .before .before .before .pre .4) (c .before .before .before .before .before .before .pre .0) .quals .0
 
 add-to : tie.Need-add-to
 add-to c = omega (arith, alters-read _ _ _ _ (c .before .before .before .before .before .before .before .pre .2) (c .before .before .before .before .before .before .before .pre .3) (c .before .before .before .before .before .before .before .pre .4) (c .before .before .before .before .before .before .before .pre .0) .string, c .length-at .ensures, c .before .start-at .ensures)
 
 end-at-requires : tie.Need-end-at-requires
-end-at-requires c κs = omega (arith, alters-read _ _ _ _ (c .before .before .before .before .before .before .before .pre .2) (c .before .before .before .before .before .before .before .pre .3) (c .before .before .before .before .before .before .before .pre .4) (c .before .before .before .before .before .before .before .pre .0) .two)
+end-at-requires c κs = omega (arith, alters-read _ _ _ _ (c .before .before .before .before .before .before .before .pre .2) (c .before .before .before .before .before .before .before .pre .3) (c .before .before .before .before .before .before .before .pre .4) (c .before .before .before .before .before .before .before .pre .0) .quals .0)
 
 mul-word : tie.Need-mul-word
 mul-word c = omega (arith, second-there _ _ _ _ (c .before .before .before .before .before .before .before .before .pre .2) (c .before .before .before .before .before .before .before .before .pre .3) (c .before .before .before .before .before .before .before .before .pre .4) _ (c .end-at .ensures) (c .before .before .before .before .before .before .before .before .pre .0))

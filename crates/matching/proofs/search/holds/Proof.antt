@@ -28,7 +28,7 @@ string-holds-requires c κs = (reads (c .before .before .before .loop .inv) (c .
 end-at-requires : tie.Need-end-at-requires Inv-loop μ-loop
 end-at-requires c κs =
     let fits = reads (c .before .before .before .before .loop .inv) (c .before .before .before .loop-test .taken) (c .before .if1 .taken) .0 in
-    omega (arith, fits .two)
+    omega (arith, fits .quals .0)
 
 loop-less : tie.Need-loop-less Inv-loop μ-loop
 loop-less c =
