@@ -71,7 +71,9 @@ static inline int zed_is_refusal(uint64_t number)
  * What to lend, for the time of the call only:
  *   table, table_length      the door timing table. Any bytes may be given. They are read and not changed.
  *   script, script_length    the script. Any bytes may be given. They are read and not changed.
- *   budget                   the most steps to make.
+ *   budget                   the most steps to make. A run that ends with any number but 29 ends the same, to the last byte of
+ *                            the journal buffer, under every budget that allows the steps it made. A run that ends with 29
+ *                            has made just this many steps; under a larger budget it goes on from where it stood.
  *   work, work_length        a work area of 32-bit numbers; 2 * script_length + 64 of them are enough for every script of
  *                            that length. It need not be cleared. What it holds afterwards means nothing.
  *   journal, journal_length  where the journal goes: at least the table's length and two bytes a line, and room for what the

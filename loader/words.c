@@ -10,6 +10,7 @@ struct meaning {
 static const char AUTHOR[] = "This is for the script's author to mend.";
 static const char KEEPER[] = "This is for the table's keeper to mend.";
 static const char LOADER[] = "This is for whoever runs the loader to mend.";
+static const char AUTHOR_OR_LOADER[] = "This is for the script's author to mend, or for whoever runs the loader to allow more.";
 static const char TABLE_OR_SCRIPT[] = "The script does not fit this table: its author should look at both.";
 
 static const struct meaning meanings[] = {
@@ -33,7 +34,7 @@ static const struct meaning meanings[] = {
     { ZED_JOURNAL_FULL, "The journal has no room for this change: give more with -r.", LOADER },
     { ZED_POINT_AT_END, "The window is at the line's end, or at its start.", TABLE_OR_SCRIPT },
     { ZED_LINE_BEFORE, "The last line to delete stands before the first.", TABLE_OR_SCRIPT },
-    { ZED_BUDGET_SPENT, "The steps allowed are spent: the script may run for ever, or -b is too small.", AUTHOR },
+    { ZED_BUDGET_SPENT, "The steps allowed are spent: the script may run for ever, or -b is too small.", AUTHOR_OR_LOADER },
     { ZED_NO_NEXT, "There is no next line to join to the current one.", TABLE_OR_SCRIPT },
     { ZED_GLOBALS_FULL, "Sixteen globals stand already, and the script gives one more.", AUTHOR },
 };
@@ -47,6 +48,14 @@ void say_number(FILE *out, uint64_t number)
         }
     }
     fprintf(out, "The run ended with number %llu.\n", (unsigned long long)number);
+}
+
+void say_going_on(FILE *out, uint64_t steps)
+{
+    if (steps == UINT32_MAX)
+        fputs("No larger -b can be given, so the script has to be mended. Its next step would be here:\n", out);
+    else
+        fputs("With a larger -b the run comes to this same point again and can only go on from there. Its next step is here:\n", out);
 }
 
 void show_place(FILE *out, const char *name, const struct bytes *script, size_t place)

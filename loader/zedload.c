@@ -210,6 +210,8 @@ static int report(const struct options *o, const struct job *job)
     fprintf(stderr, "Stopped: the table is not updated. Steps %llu, furthest line read %llu, journal in %s.\n", (unsigned long long)a->steps,
             (unsigned long long)a->furthest, o->journal);
     say_number(stderr, a->number);
+    if (a->number == ZED_BUDGET_SPENT)
+        say_going_on(stderr, a->steps);
     show_stop(stderr, o->script, &job->script, (size_t)a->place);
     return STOPPED;
 }

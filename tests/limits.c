@@ -1,7 +1,7 @@
 /*
  * Runs the editor at each limit of documents 01 and 02 (wishes 1 and 2) and one past it: lines of 255 and 256 bytes, a journal buffer exact and one
  * short for each kind of command that lengthens, lines cut and joined at their ends and at the table's, sixteen globals and seventeen, lines passed
- * through them when they are read and after the script's end, the largest table and script, the deepest nesting, the work area, every budget of a run.
+ * through them when they are read and after the script's end, the largest table and script, the deepest nesting, the work area.
  */
 #include <stdio.h>
 #include <stdlib.h>
@@ -9,52 +9,7 @@
 
 #include "../include/zed.h"
 #include "check.h"
-
-enum { FILL = 7, GUARD = 16 };
-
-static void *lend(size_t bytes) {
-    uint8_t *at = malloc(bytes + GUARD);
-    if (at == NULL) exit(2);
-    memset(at, FILL, bytes + GUARD);
-    return at;
-}
-
-static int all_are(const uint8_t *at, size_t n, uint8_t b) {
-    for (size_t i = 0; i < n; i++) {
-        if (at[i] != b) return 0;
-    }
-    return 1;
-}
-
-/* A run with the buffers that it was lent; the bytes after each buffer must stay. */
-struct outcome {
-    zed_answer answer;
-    uint8_t *journal;
-    int kept; /* past the buffers nothing is touched; past the journal all is 0, or untouched where the run was refused */
-};
-
-static struct outcome run_bytes(const char *table, size_t table_length, const char *script, size_t script_length, uint32_t budget, size_t work_length,
-                                size_t room) {
-    struct outcome o;
-    uint32_t *work = lend(work_length * sizeof *work);
-    uint64_t number;
-
-    memset(&o, 0, sizeof o);
-    o.journal = lend(room);
-    number = zed_run((const uint8_t *)table, table_length, (const uint8_t *)script, script_length, budget, work, work_length, o.journal, room,
-                     &o.answer);
-    o.kept = number == o.answer.number && all_are((uint8_t *)(work + work_length), GUARD, FILL) && all_are(o.journal + room, GUARD, FILL) &&
-             o.answer.length <= room;
-    if (o.kept) {
-        o.kept = all_are(o.journal + o.answer.length, room - o.answer.length, zed_is_refusal(number) ? FILL : 0);
-    }
-    free(work);
-    return o;
-}
-
-static struct outcome run(const char *table, const char *script, uint32_t budget, size_t room) {
-    return run_bytes(table, strlen(table), script, strlen(script), budget, 2 * strlen(script) + 64, room);
-}
+#include "runs.h"
 
 /* The run comes to this number, place and journal (NULL: any). */
 static void wants(const char *name, struct outcome o, uint64_t number, uint64_t place, const char *journal) {
@@ -503,32 +458,6 @@ static void work_areas(void) {
     wants("the table before the journal buffer", run_bytes("a", 1, "N\n", 2, 9, 68, 0), 7, 0, NULL);
 }
 
-/* With every budget below a run's steps it stops with 29 and just so many steps; from there on it is done alike. */
-static void every_budget(const char *table, const char *script) {
-    struct outcome whole = run(table, script, UINT32_MAX, 999);
-    int good = whole.kept && whole.answer.number == 0 && whole.answer.steps > 20;
-    for (uint32_t budget = 0; good && budget <= whole.answer.steps + 1; budget++) {
-        struct outcome o = run(table, script, budget, 999);
-        if (budget < whole.answer.steps) {
-            good = o.kept && o.answer.number == 29 && o.answer.steps == budget;
-        } else {
-            good = o.kept && memcmp(&o.answer, &whole.answer, sizeof o.answer) == 0 && memcmp(o.journal, whole.journal, 999) == 0;
-        }
-        free(o.journal);
-    }
-    check("every budget of a run", good);
-    free(whole.journal);
-}
-
-static void budgets(void) {
-    static const char table[] = "R01 open 06:10 90\nR02 open 06:25 90\nR03 open 07:00 60\n";
-    static const char *const scripts[] = {
-        "RPT (IFEOF AGP; UL/60/ E/90/120/; F/0/; 2(%;<); N)\nM 1; 2N; D 1 2; IS/x/; P; SA/x/; CL/-/\n",
-        "2(GE/90/95/; GA/open/-/; CG); 3GB/R/Q/; F B/Q/; F/07:/; P; CL/-/; GE/Q/R/\n",
-    };
-    for (size_t i = 0; i < sizeof scripts / sizeof scripts[0]; i++) every_budget(table, scripts[i]);
-}
-
 int main(void) {
     line_lengths();
     changed_lengths();
@@ -544,6 +473,5 @@ int main(void) {
     sizes();
     nesting();
     work_areas();
-    budgets();
     return checked();
 }

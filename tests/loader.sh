@@ -149,8 +149,32 @@ check "journal full after the end: the table stays" same table table.first
 fresh budget
 load -b 3 table season
 check "budget: status" status 1
-check "budget: in words" says "The steps allowed are spent"
+check "budget: says so" says "Stopped: the table is not updated. Steps 3, furthest line read 2"
+check "budget: in words" says "The steps allowed are spent: the script may run for ever, or -b is too small. (29)"
+check "budget: that a larger one goes on" says "With a larger -b the run comes to this same point again and can only go on from there. Its next step is here:"
+check "budget: from where" test "$(tail -n 3 err)" = "$(printf 'season, line 1, column 11:\n  F B/R02/; E/90/120/\n            ^')"
+check "budget: never says updated" silent "is updated"
 check "budget: the table stays" same table table.first
+cp table.journal journal.3
+load -b 9 table season
+check "budget one short: status" status 1
+check "budget one short: says so" says "Steps 9, furthest line read 4"
+check "budget one short: from where" says "season, line 4, column 1:"
+check "budget one short: the table stays" same table table.first
+load -b 10 table season
+check "budget just enough: status" status 0
+check "budget just enough: says so" says "Done: table is updated. Steps 10, furthest line read 4"
+cp table table.new && cp table.journal journal.10 && cp table.first table
+load table season
+check "the largest budget: status" status 0
+check "the largest budget: the same table" same table table.new
+check "the largest budget: the same journal" same table.journal journal.10
+cp table.first table
+load -b 3 table season
+check "the budget again: the same journal" same table.journal journal.3
+load -b 0 table season
+check "no step: status" status 1
+check "no step: from where" says "season, line 1, column 1:"
 
 fresh full
 load -r 3 table season

@@ -5,7 +5,8 @@
  *     ./guarded FILE..
  *
  * Each case is run twice, with all that is lent ending, and then beginning, at a page that may not be touched; table and script may not be written. Compared are
- * the five numbers, every byte of the journal buffer, and the old side read out of the journal, which must be the table.
+ * the five numbers, every byte of the journal buffer, and the old side read out of the journal, which must be the table. Then it is run under other budgets: its own
+ * steps, one less, and the largest, or, where its budget was spent, one more.
  */
 #define _DEFAULT_SOURCE
 #include <stdint.h>
@@ -109,7 +110,8 @@ static int old_side_is_table(const run_case *c, const uint8_t *journal, int at_e
         && memcmp(side, c->table, c->table_length) == 0;
 }
 
-static int agrees(const run_case *c, int at_end) {
+/* The case under some budget: the answer, and the journal buffer afterwards. */
+static zed_answer *run_under(const run_case *c, uint32_t budget, int at_end, uint8_t **left) {
     uint8_t *table = lent(tables, c->table_length, at_end), *script = lent(scripts, c->script_length, at_end);
     uint8_t *journal = lent(journals, c->room, at_end);
     uint32_t *work = (uint32_t *)(void *)lent(works, 4 * c->work, at_end);
@@ -121,12 +123,43 @@ static int agrees(const run_case *c, int at_end) {
     memset(journal, BEFORE, c->room);
     allow(tables, PROT_READ);
     allow(scripts, PROT_READ);
-    number = zed_run(table, c->table_length, script, c->script_length, c->budget, work, c->work, journal, c->room, answer);
+    number = zed_run(table, c->table_length, script, c->script_length, budget, work, c->work, journal, c->room, answer);
     allow(tables, PROT_READ | PROT_WRITE);
     allow(scripts, PROT_READ | PROT_WRITE);
-    if (number != answer->number || !same_values(c, answer)) return 0;
-    if (zed_is_refusal(number)) return all_are(journal, c->room, BEFORE);
+    *left = journal;
+    return number == answer->number ? answer : NULL;
+}
+
+/* The run comes to what the case says. */
+static int agrees(const run_case *c, uint32_t budget, int at_end) {
+    uint8_t *journal;
+    const zed_answer *answer = run_under(c, budget, at_end, &journal);
+
+    if (answer == NULL || !same_values(c, answer)) return 0;
+    if (zed_is_refusal(c->number)) return all_are(journal, c->room, BEFORE);
     return memcmp(journal, c->journal, c->length) == 0 && all_are(journal + c->length, c->room - c->length, 0) && old_side_is_table(c, journal, at_end);
+}
+
+/* It stops with 29 after so many steps. */
+static int is_spent(const run_case *c, uint32_t budget) {
+    uint8_t *journal;
+    const zed_answer *answer = run_under(c, budget, 1, &journal);
+
+    return answer != NULL && answer->number == ZED_BUDGET_SPENT && answer->steps == budget && answer->furthest <= c->furthest;
+}
+
+/* It makes one step more, and reads no less. */
+static int goes_on(const run_case *c) {
+    uint8_t *journal;
+    const zed_answer *answer = run_under(c, c->budget + 1, 1, &journal);
+
+    return answer != NULL && answer->steps == (uint64_t)c->budget + 1 && answer->furthest >= c->furthest;
+}
+
+/* Document 02, wish 5: the steps that were made are budget enough, and the largest budget changes nothing; one step less is spent; a spent budget goes on. */
+static int budgets_agree(const run_case *c) {
+    if (c->number == ZED_BUDGET_SPENT) return c->steps == c->budget && (c->budget == UINT32_MAX || goes_on(c));
+    return agrees(c, (uint32_t)c->steps, 1) && agrees(c, UINT32_MAX, 1) && (c->steps == 0 || is_spent(c, (uint32_t)c->steps - 1));
 }
 
 static void run_file(const char *path) {
@@ -139,7 +172,7 @@ static void run_file(const char *path) {
     if (file == NULL) return;
     for (int i = 1; fgets(line, sizeof line, file) != NULL; i++) {
         snprintf(name, sizeof name, "%.200s, line %d", path, i);
-        check(name, read_case(line, &c) && agrees(&c, 1) && agrees(&c, 0));
+        check(name, read_case(line, &c) && agrees(&c, c.budget, 1) && agrees(&c, c.budget, 0) && budgets_agree(&c));
     }
     fclose(file);
 }

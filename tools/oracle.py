@@ -1,5 +1,5 @@
 #!/usr/bin/env python3
-"""Document 01 and wishes 1 to 4 of document 02 once more, written apart from the definitions: a plain interpreter for making and checking cases.
+"""Document 01 and wishes 1 to 5 of document 02 once more, written apart from the definitions: a plain interpreter for making and checking cases.
 
     tools/oracle.py check FILE      compares each line of a file of run cases (see tools/vectors.py) with what it finds
     tools/oracle.py outcome < FILE  completes lines of: table script budget work-length buffer-length

@@ -223,3 +223,32 @@ wishFourCases =
 pub wish-four : map computed wishFourCases ≡ map stated wishFourCases
 unfolding everything printed programPrints computed stated largest same wishFourCases
 wish-four = refl
+
+-- ---- document 02, wish 5: budgets
+
+-- two hundred b: a line that the global makes too long, alone and in its table
+unfoldable pub longLine : String
+longLine = "bbbbbbbbbbbbbbbbbbbbbbbbbbbbbbbbbbbbbbbbbbbbbbbbbbbbbbbbbbbbbbbbbbbbbbbbbbbbbbbbbbbbbbbbbbbbbbbbbbbbbbbbbbbbbbbbbbbbbbbbbbbbbbbbbbbbbbbbbbbbbbbbbbbbbbbbbbbbbbbbbbbbbbbbbbbbbbbbbbbbbbbbbbbbbbbbbbbbbbbb"
+
+unfoldable pub longTable : String
+longTable = "a\nbbbbbbbbbbbbbbbbbbbbbbbbbbbbbbbbbbbbbbbbbbbbbbbbbbbbbbbbbbbbbbbbbbbbbbbbbbbbbbbbbbbbbbbbbbbbbbbbbbbbbbbbbbbbbbbbbbbbbbbbbbbbbbbbbbbbbbbbbbbbbbbbbbbbbbbbbbbbbbbbbbbbbbbbbbbbbbbbbbbbbbbbbbbbbbbbbbbbbbbb\n"
+
+unfoldable pub wishFiveCases : List Case
+wishFiveCases =
+    -- K7's run under smaller budgets: the step that was wanted is not counted, and the place says which it was (W5.2)
+    case 0 "a\nb\nc\n" "4N\n" (answer 29 0 1 0 (same "a" ∷ same "b" ∷ same "c" ∷ []))
+    ∷ case 1 "a\nb\nc\n" "4N\n" (answer 29 1 1 1 (same "a" ∷ same "b" ∷ same "c" ∷ []))
+    ∷ case 6 "a\nb\nc\n" "4N\n" (answer 29 6 4 0 (same "a" ∷ same "b" ∷ same "c" ∷ []))
+    -- a script that ends with its last step still goes through its unread lines, and is done, or stops there with 25 (W5.3, R28)
+    ∷ case 1 "a\na\na\n" "GE/a/b/; N\n" (answer 29 1 1 9 (same "a" ∷ same "a" ∷ same "a" ∷ []))
+    ∷ case 2 "a\na\na\n" "GE/a/b/; N\n" (answer 0 2 2 0 (same "a" ∷ changed (bytes "a") (bytes "b") ∷ changed (bytes "a") (bytes "b") ∷ []))
+    ∷ case 0 longTable "GE/b/cc/\n" (answer 29 0 1 0 (same "a" ∷ same longLine ∷ []))
+    ∷ case 1 longTable "GE/b/cc/\n" (answer 25 1 1 9 (same "a" ∷ same longLine ∷ []))
+    ∷ case 2 longTable "GE/b/cc/\n" (answer 25 1 1 9 (same "a" ∷ same longLine ∷ []))
+    -- a refusal asks for no step (W5.1)
+    ∷ case 0 "a\n" "N; F\n" (refusal 3 4)
+    ∷ []
+
+pub wish-five : map computed wishFiveCases ≡ map stated wishFiveCases
+unfolding everything printed programPrints computed stated largest same longLine longTable wishFiveCases
+wish-five = refl

@@ -6,7 +6,7 @@ use Prim.Native.Nat.{ℕ, zero, suc, _≤_}
 use lib.ListN.{length}
 use lib.Dec.{leb}
 use borrow.Author.Tests.{leb-true, le-leb}
-use Rattle.definitions.specs.Bytes.{linesOf}
+use Rattle.definitions.specs.Bytes.{Line, linesOf}
 use Rattle.definitions.specs.Table.{isTable, isScript}
 use Rattle.definitions.specs.Tape.{Tape}
 use Rattle.definitions.specs.Given.{Given, given, bytes}
@@ -134,3 +134,31 @@ asked-accepted table script budget work size h table₂ budget₂ work₂ size�
     by : (r : Script) → readScript script ≡ r → IsAccepted (runAnswer table₂ script budget₂ work₂ size₂)
     by (refusedAt n at) e = absurd (no-refusal table script budget work size n at e h)
     by (items is) e = asked-script table₂ script budget₂ work₂ size₂ is (has-work table script budget work size h .0) e a
+
+-- ---- the budget
+
+-- Whether a run is refused, with which number and where, and which items it takes: all this is the same under every budget.
+pub data Judged (g : Given) (place : ℕ) (ls : List Line) (under : ℕ → Answer) : Type 0 where
+  refuses : (n at : ℕ) → ((budget : ℕ) → under budget ≡ refusal n at) → Judged g place ls under
+  takes : (is : List Item) → ((budget : ℕ) → under budget ≡ ranItems g place budget is ls) → Judged g place ls under
+
+module _ (table script : List ℕ) (work size : ℕ) where
+  abbrev JudgedHere : (ℕ → Answer) → Type 0
+  JudgedHere under = Judged (given (bytes size)) (length script) (linesOf table) under
+
+  cond-judged : (t : Bool) (under : ℕ → Answer) (n : ℕ) → JudgedHere under → JudgedHere (λ budget. cond t (under budget) (refusal n 0))
+  cond-judged true under n h = h
+  cond-judged false under n h = refuses n 0 (λ budget. refl)
+
+  script-judged : (r : Script) → JudgedHere (λ budget. ranScript table (length script) budget size r)
+  unfolding ranScript ranTable
+  script-judged (refusedAt n at) = refuses n at (λ budget. refl)
+  script-judged (items is) =
+      cond-judged (isTable table) _ 7 (cond-judged (leb (openingLength (linesOf table)) size) (λ budget. ranItems (given (bytes size)) (length script) budget is (linesOf table)) 9 (takes is (λ budget. refl)))
+
+  -- THE LAW
+  pub judged : JudgedHere (λ budget. runAnswer table script budget work size)
+  unfolding runAnswer
+  judged =
+      cond-judged (isScript script) _ 1
+      (cond-judged (leb (workLength script) work) (λ budget. ranScript table (length script) budget size (readScript script)) 8 (script-judged (readScript script)))

@@ -35,7 +35,7 @@ oldEnd (end n steps at s) = oldState s
 unfoldable fullEnd : End → Type 0
 fullEnd (end n steps at s) = n ≡ 26
 
-unfoldable furthestAt : End → Tape → ℕ
+unfoldable pub furthestAt : End → Tape → ℕ
 furthestAt (end n steps at s) t = furthest (textOf s) t
 
 spent-old : (steps : ℕ) (s : RunState) (x : Pull) → oldEnd (spent steps s x) ≡ oldState s
@@ -212,7 +212,7 @@ unfolding answerOf answerNumber fullEnd
 answer-full g place (end zero steps at (state e c)) t x = absurd (omega (arith, x))
 answer-full g place (end (suc n) steps at s) t x = x
 
-answer-furthest : (g : Given) (place : ℕ) (x : End) (t : Tape) → answerFurthest (answerOf g place x t) ≡ furthestAt x t
+pub answer-furthest : (g : Given) (place : ℕ) (x : End) (t : Tape) → answerFurthest (answerOf g place x t) ≡ furthestAt x t
 answer-furthest g place x t = by x (answerOf g place x t) (answer-comes g place x t)
   where
     by : (y : End) (a : Answer) → Comes place y t a → answerFurthest a ≡ furthestAt y t

@@ -25,7 +25,7 @@ use Rattle.theorems.specs.Reading.{At}
 use Rattle.theorems.specs.ComesTo.{Gives, Ended, then-comes, and-comes, either-comes, test-comes, some-comes, byte-comes, within-comes, one-comes}
 use Rattle.theorems.specs.Runs.{StepOr, EndOf, inner-all, items-all, runItems-ends}
 use Rattle.theorems.specs.Changes.{HoldsEd, HoldsState, HoldsOut, step-keeps}
-use Rattle.theorems.specs.ReadFar.{AnyLine, AnyText, AnyGlobal, Sourced, sourced-closed, sourced-keeps}
+use Rattle.theorems.specs.ReadFar.{AnyLine, AnyText, AnyGlobal, Sourced, read-closed, read-keeps}
 use Rattle.theorems.specs.Reaching.{LiveRecord, Grounded, GroundedState, StoppedState, GroundedOut, other-number, Halts, ComesGrounded, struck-grounded, meetsEof}
 use Rattle.theorems.specs.GroundedMoves.{Ground, OnLine, Spans, line-grounded, spans-grounded, back-comes, point-comes, lineOr-comes, goAhead-comes, nextOr30-comes, goTo-comes, span-comes}
 
@@ -255,13 +255,13 @@ both (halt n s) t h k = k
 
 step-settled : (g : Given) (op : Op) (s : RunState) (t : Tape) → Settled s t → At (StepOr Settled StoppedState) (step g op s t)
 step-settled g op s t h =
-    both ((step g op s t) .0) ((step g op s t) .1) (step-keeps AnyLine AnyText AnyGlobal Sourced sourced-closed g op s t (sourced-keeps (program op)) (h .0)) (step-grounded g op s t (h .0) (h .1))
+    both ((step g op s t) .0) ((step g op s t) .1) (step-keeps AnyLine AnyText AnyGlobal Sourced (read-closed 1) g op s t (read-keeps 1 (program op)) (h .0)) (step-grounded g op s t (h .0) (h .1))
 
 pub opening-settled : (t : Tape) → Settled (state ((opening t) .0) noGlobals) ((opening t) .1)
 unfolding opening sources oldSide oldOf noGlobals
-opening-settled (unread []) = ((tt, tt), refl)
+opening-settled (unread []) = ((omega arith, tt), refl)
 opening-settled (unread (l ∷ ls)) = ((omega arith, tt), tt)
-opening-settled ended = ((tt, tt), refl)
+opening-settled ended = ((omega arith, tt), refl)
 
 other-state : (n : ℕ) (s : RunState) (t : Tape) → T (not (meetsEof n)) → Settled s t → StoppedState n s t
 other-state n (state e c) t k h = other-number n e t k (h .1)

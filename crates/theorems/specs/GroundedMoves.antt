@@ -21,7 +21,7 @@ use Rattle.theorems.specs.Each.{Each}
 use Rattle.theorems.specs.RecordLaws.{sources-reverse}
 use Rattle.theorems.specs.ComesTo.{Gives, OnGot, then-comes, and-comes, go-comes, test-comes}
 use Rattle.theorems.specs.Changes.{HoldsEd}
-use Rattle.theorems.specs.ReadFar.{AtLeast, atLeast-more, atLeast-both, atLeast-none, Sourced}
+use Rattle.theorems.specs.ReadFar.{AtLeast, atLeast-more, atLeast-both, atLeast-none, Sourced, first-read}
 use Rattle.theorems.specs.Reaching.{Grounded, other-number, Halts, ComesGrounded, Reaches, land-grounded, reaches-ended, reaches-live, reaches-none, drop-over, AsRead, reaches-read, ReadUpTo, sources-read, read-comes}
 
 -- ---- where a part has come to
@@ -165,7 +165,7 @@ module _ (g : Given) (c : Carried) where
   pub goTo-comes : (a : Target) (e : Ed) (t : Tape) → HoldsEd Sourced e t → Grounded e t → ComesGrounded g c Ground (goTo a) e t
   unfolding goTo
   goTo-comes a (ed before after p) t s h =
-      read-comes g c Ground (go (to a)) before after p t h a (λ rs t′ r. go-grounded (to a) (ed before (after ++ rs) p) t′ (arrived a before after p t rs t′ s r))
+      read-comes g c Ground (go (to a)) before after p t h a (λ rs t′ r. go-grounded (to a) (ed before (after ++ rs) p) t′ (arrived a before after p t rs t′ (first-read t _ s) r))
 
   -- ---- D
 

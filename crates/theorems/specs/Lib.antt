@@ -36,7 +36,6 @@ pub mod ItemLaws
 pub mod ScriptSteps
 pub mod ReadScript
 pub mod Numbers
-pub mod Budget
 pub mod Frames
 pub mod NestingExamples
 pub mod GoodScripts
@@ -51,5 +50,8 @@ pub mod ReadFar
 pub mod Reaching
 pub mod GroundedMoves
 pub mod Grounded
+pub mod Budgets
+pub mod BudgetsProof
+pub mod BudgetsLimits
 pub mod AtEof
 pub mod WrongRuns

@@ -108,6 +108,19 @@ module _ (Q : Op → Type 0) (f : (op : Op) → Q op) where
   pub items-all : (items : List Item) → ItemsOf Q items
   items-all items = each-all (ItemOf Q) item-all items
 
+  frame-all : (x : Frame) → FrameOf Q x
+  frame-all (frame g at o body) = items-all body
+
+  frames-all : (frames : List Frame) → FramesOf Q frames
+  frames-all frames = each-all (FrameOf Q) frame-all frames
+
+  pub ctl-all : (c : Ctl) → CtlOf Q c
+  ctl-all (running items frames) = (items-all items, frames-all frames)
+  ctl-all (skipping k items frames) = (items-all items, frames-all frames)
+  ctl-all (failing k items frames) = (items-all items, frames-all frames)
+  ctl-all (leaving items) = items-all items
+  ctl-all (seeking at s se k items frames) = (items-all items, frames-all frames)
+
 module _ (Q : Op → Type 0) (P : ℕ → Op → Ctl → Ctl → Type 0) (asking : Asking Q P) where
   bodyStart-of : (o : Opener) (at : ℕ) (body : List Item) (frames : List Frame) (skip : Pull)
       → ItemsOf Q body → FramesOf Q frames → PullOf Q P skip → PullOf Q P (bodyStart o at body frames skip)

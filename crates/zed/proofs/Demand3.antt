@@ -35,7 +35,7 @@ numbered : (c : Call) → Returned c → Numbered (ran c)
 unfolding runOf
 numbered c h = answer-numbered (c .table) (c .script) (c .budget) (length (c .work)) (length (c .buffer))
 
-number-is : (c : Call) → Returned c → number c ≡ answerNumber (ran c)
+pub number-is : (c : Call) → Returned c → number c ≡ answerNumber (ran c)
 unfolding values
 number-is c h = rw (h .answers)
 
@@ -46,7 +46,7 @@ end-number (answer m steps f at j) h n q k = h
 end-number (refusal m at) h n q (inl z) = absurd (omega (arith, q, z, h .0))
 end-number (refusal m at) h n q (inr z) = absurd (omega (arith, q, z, h .1))
 
-is-accepted : (c : Call) → Returned c → Accepted c → IsAccepted (defined (valued c))
+pub is-accepted : (c : Call) → Returned c → Accepted c → IsAccepted (defined (valued c))
 unfolding runOf
 is-accepted c h k =
     accepted-by-number (c .table) (c .script) (c .budget) (length (c .work)) (length (c .buffer)) (end-number (ran c) (numbered c h) (number c) (number-is c h) k)

@@ -1,4 +1,5 @@
 pub mod Answers
 pub mod Runs
 pub mod Demand3
+pub mod Budgets
 pub mod Contract

@@ -1,2 +1,3 @@
 pub mod Values
 pub mod Demand3
+pub mod Budgets
