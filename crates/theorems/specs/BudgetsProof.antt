@@ -278,14 +278,14 @@ module _ (table script : List ℕ) (work size : ℕ) where
           settles (λ q. n (sym (ap answerNumber e) ∙ q)) (rw e le) (λ larger k. sym (more-is budget larger k) ∙ h (larger - budget) ∙ sym e)
       by (waiting p h) = waiting-stood budget p h
 
-  pub same-answer : (budget : ℕ) → (answerNumber (under budget) ≡ 29 → ⊥) → (larger : ℕ) → budget ≤ larger → under larger ≡ under budget
+  same-answer : (budget : ℕ) → (answerNumber (under budget) ≡ 29 → ⊥) → (larger : ℕ) → budget ≤ larger → under larger ≡ under budget
   same-answer budget h = by (stood budget)
     where
       by : Stood budget → (larger : ℕ) → budget ≤ larger → under larger ≡ under budget
       by (settles n le k) = k
       by (wants q steps p at k f) = absurd (h q)
 
-  pub spent-answer : (budget : ℕ) → answerNumber (under budget) ≡ 29 → answerSteps (under budget) ≡ budget
+  spent-answer : (budget : ℕ) → answerNumber (under budget) ≡ 29 → answerSteps (under budget) ≡ budget
   spent-answer budget h = by (stood budget)
     where
       by : Stood budget → answerSteps (under budget) ≡ budget
@@ -293,14 +293,14 @@ module _ (table script : List ℕ) (work size : ℕ) where
       by (wants q steps p at k f) = steps
 
   -- no run makes more steps than its budget
-  pub in-budget : (budget : ℕ) → answerSteps (under budget) ≤ budget
+  in-budget : (budget : ℕ) → answerSteps (under budget) ≤ budget
   in-budget budget = by (stood budget)
     where
       by : Stood budget → answerSteps (under budget) ≤ budget
       by (settles n le k) = le
       by (wants q steps p at k f) = omega (arith, steps)
 
-  pub short-answer : (budget : ℕ) → (other : ℕ) → other < answerSteps (under budget) → answerNumber (under other) ≡ 29
+  short-answer : (budget : ℕ) → (other : ℕ) → other < answerSteps (under budget) → answerNumber (under other) ≡ 29
   short-answer budget other less = by (stood other)
     where
       by : Stood other → answerNumber (under other) ≡ 29
@@ -309,7 +309,7 @@ module _ (table script : List ℕ) (work size : ℕ) where
           absurd (omega (arith, less, le, e))
       by (wants q steps p at k f) = q
 
-  pub enough-answer : (budget : ℕ) → (answerNumber (under budget) ≡ 29 → ⊥) → (other : ℕ) → answerSteps (under budget) ≤ other → under other ≡ under budget
+  enough-answer : (budget : ℕ) → (answerNumber (under budget) ≡ 29 → ⊥) → (other : ℕ) → answerSteps (under budget) ≤ other → under other ≡ under budget
   enough-answer budget h other le = by (leb budget other) refl (stood other)
     where
       by : (b : Bool) → leb budget other ≡ b → Stood other → under other ≡ under budget
@@ -317,12 +317,32 @@ module _ (table script : List ℕ) (work size : ℕ) where
       by false e (settles n k g) = sym (g budget (omega (arith, leb-false budget other e)))
       by false e (wants q steps p at k f) = absurd (omega (arith, le, steps, f budget (leb-false budget other e) .0))
 
-  pub further-answer : (budget : ℕ) → answerNumber (under budget) ≡ 29 → (larger : ℕ) → budget < larger → Further budget larger
+  further-answer : (budget : ℕ) → answerNumber (under budget) ≡ 29 → (larger : ℕ) → budget < larger → Further budget larger
   further-answer budget h = by (stood budget)
     where
       by : Stood budget → (larger : ℕ) → budget < larger → Further budget larger
       by (settles n le k) = absurd (n h)
       by (wants q steps p at k f) = f
+
+  -- wish 5 of answers, from which it is said of outcomes and of calls
+  pub record AnswersAgree (budget : ℕ) : Type 0 where
+    pub same : (answerNumber (under budget) ≡ 29 → ⊥) → (larger : ℕ) → budget ≤ larger → under larger ≡ under budget
+    pub spent : answerNumber (under budget) ≡ 29 → answerSteps (under budget) ≡ budget
+    pub most : answerSteps (under budget) ≤ budget
+    pub enough : (answerNumber (under budget) ≡ 29 → ⊥) → (other : ℕ) → answerSteps (under budget) ≤ other → under other ≡ under budget
+    pub short : (other : ℕ) → other < answerSteps (under budget) → answerNumber (under other) ≡ 29
+    pub further : answerNumber (under budget) ≡ 29 → (larger : ℕ) → budget < larger → Further budget larger
+
+  -- THE LAW
+  pub answers-agree : (budget : ℕ) → AnswersAgree budget
+  answers-agree budget = record {
+    same = same-answer budget;
+    spent = spent-answer budget;
+    most = in-budget budget;
+    enough = enough-answer budget;
+    short = short-answer budget;
+    further = further-answer budget;
+  }
 
 -- ---- the theorem, of outcomes
 
@@ -338,12 +358,14 @@ module _ (table script : List ℕ) (work : ℕ) (buffer : List ℕ) where
 -- THE LAW: wish 5
 pub larger-budgets : LargerBudgets
 unfolding outcomeOf outcomeFrom outcomeNumber outcomeSteps outcomeFurthest
-larger-budgets table script work buffer budget = record {
-  same = λ h larger le. ap (outcomeFrom buffer) (same-answer table script work (length buffer) budget h larger le);
-  spent = spent-answer table script work (length buffer) budget;
-  most = in-budget table script work (length buffer) budget;
-  enough = λ h other le. ap (outcomeFrom buffer) (enough-answer table script work (length buffer) budget h other le);
-  short = short-answer table script work (length buffer) budget;
-  goes-on = goes-on-from table script work buffer budget;
-  further = further-answer table script work (length buffer) budget;
-}
+larger-budgets table script work buffer budget =
+    let a : AnswersAgree table script work (length buffer) budget = answers-agree table script work (length buffer) budget in
+    record {
+      same = λ h larger le. ap (outcomeFrom buffer) (a .same h larger le);
+      spent = a .spent;
+      most = a .most;
+      enough = λ h other le. ap (outcomeFrom buffer) (a .enough h other le);
+      short = a .short;
+      goes-on = goes-on-from table script work buffer budget;
+      further = a .further;
+    }

@@ -2,12 +2,11 @@
 use mathlib.Core.Path.{_≡_, sym, ap, _∙_}
 use mathlib.Core.Logic.{_⊎_, inl, inr}
 use mathlib.Core.List.{List}
-use Prim.Native.Nat.{ℕ, _≤_}
-use native.Mathlib.Omega.{arith}
+use Prim.Native.Nat.{ℕ}
 use lib.ListN.{length}
 use Rattle.definitions.specs.Run.{Answer, answer, refusal, runAnswer, answerNumber, answerSteps, answerFurthest, bufferAfter}
 use Rattle.theorems.specs.Demand3.{IsAccepted}
-use Rattle.theorems.specs.BudgetsProof.{same-answer, spent-answer, in-budget, enough-answer, short-answer, further-answer}
+use Rattle.theorems.specs.BudgetsProof.{AnswersAgree, answers-agree}
 use Rattle.zed.specs.Values.{values, runOf}
 use Rattle.zed.specs.Demand3.{Call, ran, Returned, number, steps, furthest, Accepted}
 use Rattle.zed.specs.Budgets.{DifferInBudget, EndTheSame, WishFive, LargerBudgets}
@@ -47,18 +46,17 @@ module _ (c c₂ : Call) (h : Returned c) (h₂ : Returned c₂) (d : DifferInBu
       left (inl k) = left-by-length (ran c) (unfold runOf in (is-accepted c h k)) (c .buffer) (c₂ .buffer) (d .same-room)
       left (inr q) = rw q
 
-  wish-five : WishFive c c₂
+  wish-five : AnswersAgree (c .table) (c .script) (length (c .work)) (length (c .buffer)) (c .budget) → WishFive c c₂
   unfolding runOf
-  wish-five = record {
-    same = λ o le. same-end (second ∙ same-answer (c .table) (c .script) (length (c .work)) (length (c .buffer)) (c .budget) (λ q. o (number-is c h ∙ q)) (c₂ .budget) le);
-    spent = λ q. steps-are c h ∙ spent-answer (c .table) (c .script) (length (c .work)) (length (c .buffer)) (c .budget) (sym (number-is c h) ∙ q);
-    most = rw (steps-are c h) (in-budget (c .table) (c .script) (length (c .work)) (length (c .buffer)) (c .budget));
-    enough = λ o le. same-end (second ∙ enough-answer (c .table) (c .script) (length (c .work)) (length (c .buffer)) (c .budget) (λ q. o (number-is c h ∙ q)) (c₂ .budget) (rw (steps-are c h) at le));
-    short = λ less. number-is c₂ h₂ ∙ ap answerNumber second ∙ short-answer (c .table) (c .script) (length (c .work)) (length (c .buffer)) (c .budget) (c₂ .budget) (rw (steps-are c h) at less);
-    further = λ q less. rw (steps-are c h, steps-are c₂ h₂, furthest-is c h, furthest-is c₂ h₂, second)
-        (further-answer (c .table) (c .script) (length (c .work)) (length (c .buffer)) (c .budget) (sym (number-is c h) ∙ q) (c₂ .budget) less);
+  wish-five a = record {
+    same = λ o le. same-end (second ∙ a .same (λ q. o (number-is c h ∙ q)) (c₂ .budget) le);
+    spent = λ q. steps-are c h ∙ a .spent (sym (number-is c h) ∙ q);
+    most = rw (steps-are c h) (a .most);
+    enough = λ o le. same-end (second ∙ a .enough (λ q. o (number-is c h ∙ q)) (c₂ .budget) (rw (steps-are c h) at le));
+    short = λ less. number-is c₂ h₂ ∙ ap answerNumber second ∙ a .short (c₂ .budget) (rw (steps-are c h) at less);
+    further = λ q less. rw (steps-are c h, steps-are c₂ h₂, furthest-is c h, furthest-is c₂ h₂, second) (a .further (sym (number-is c h) ∙ q) (c₂ .budget) less);
   }
 
 -- THE LAW: wish 5 of any two calls of `zed_run` that differ in the budget alone
 pub zed-larger-budgets : LargerBudgets
-zed-larger-budgets c c₂ h h₂ d = wish-five c c₂ h h₂ d
+zed-larger-budgets c c₂ h h₂ d = wish-five c c₂ h h₂ d (answers-agree (c .table) (c .script) (length (c .work)) (length (c .buffer)) (c .budget))
