@@ -16,7 +16,10 @@
 
 static const char timings[] = "R01 open 06:10 90\nR02 open 06:25 90\nR03 open 07:00 60\n";
 
-/* A script, what it comes to under the largest budget, and the place of the step that is wanted when 0, 1, 2 .. steps are made. */
+/*
+ * A script, what it comes to under the largest budget, and the place of the step that is wanted when 0, 1, 2 .. steps are made, all as the plain interpreter
+ * (tools/oracle.py) gives them.
+ */
 static const struct job {
     const char *table, *script;
     size_t room;

@@ -138,27 +138,28 @@ asked-accepted table script budget work size h table₂ budget₂ work₂ size�
 -- ---- the budget
 
 -- Whether a run is refused, with which number and where, and which items it takes: all this is the same under every budget.
-pub data Judged (g : Given) (place : ℕ) (ls : List Line) (under : ℕ → Answer) : Type 0 where
-  refuses : (n at : ℕ) → ((budget : ℕ) → under budget ≡ refusal n at) → Judged g place ls under
-  takes : (is : List Item) → ((budget : ℕ) → under budget ≡ ranItems g place budget is ls) → Judged g place ls under
+pub data Judged (g : Given) (place : ℕ) (ls : List Line) (r : Script) (under : ℕ → Answer) : Type 0 where
+  refuses : (n at : ℕ) → ((budget : ℕ) → under budget ≡ refusal n at) → Judged g place ls r under
+  takes : (is : List Item) → r ≡ items is → ((budget : ℕ) → under budget ≡ ranItems g place budget is ls) → Judged g place ls r under
 
 module _ (table script : List ℕ) (work size : ℕ) where
-  abbrev JudgedHere : (ℕ → Answer) → Type 0
-  JudgedHere under = Judged (given (bytes size)) (length script) (linesOf table) under
+  abbrev JudgedHere : Script → (ℕ → Answer) → Type 0
+  JudgedHere r under = Judged (given (bytes size)) (length script) (linesOf table) r under
 
-  cond-judged : (t : Bool) (under : ℕ → Answer) (n : ℕ) → JudgedHere under → JudgedHere (λ budget. cond t (under budget) (refusal n 0))
-  cond-judged true under n h = h
-  cond-judged false under n h = refuses n 0 (λ budget. refl)
+  cond-judged : (r : Script) (t : Bool) (under : ℕ → Answer) (n : ℕ) → JudgedHere r under → JudgedHere r (λ budget. cond t (under budget) (refusal n 0))
+  cond-judged r true under n h = h
+  cond-judged r false under n h = refuses n 0 (λ budget. refl)
 
-  script-judged : (r : Script) → JudgedHere (λ budget. ranScript table (length script) budget size r)
+  script-judged : (r : Script) → JudgedHere r (λ budget. ranScript table (length script) budget size r)
   unfolding ranScript ranTable
   script-judged (refusedAt n at) = refuses n at (λ budget. refl)
   script-judged (items is) =
-      cond-judged (isTable table) _ 7 (cond-judged (leb (openingLength (linesOf table)) size) (λ budget. ranItems (given (bytes size)) (length script) budget is (linesOf table)) 9 (takes is (λ budget. refl)))
+      cond-judged (items is) (isTable table) _ 7
+      (cond-judged (items is) (leb (openingLength (linesOf table)) size) (λ budget. ranItems (given (bytes size)) (length script) budget is (linesOf table)) 9 (takes is refl (λ budget. refl)))
 
   -- THE LAW
-  pub judged : JudgedHere (λ budget. runAnswer table script budget work size)
+  pub judged : JudgedHere (readScript script) (λ budget. runAnswer table script budget work size)
   unfolding runAnswer
   judged =
-      cond-judged (isScript script) _ 1
-      (cond-judged (leb (workLength script) work) (λ budget. ranScript table (length script) budget size (readScript script)) 8 (script-judged (readScript script)))
+      cond-judged (readScript script) (isScript script) _ 1
+      (cond-judged (readScript script) (leb (workLength script) work) (λ budget. ranScript table (length script) budget size (readScript script)) 8 (script-judged (readScript script)))

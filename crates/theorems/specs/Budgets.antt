@@ -1,15 +1,19 @@
 -- Larger budgets never disagree (document 02, wish 5), as one statement over whole outcomes: number, steps, furthest line, the journal's length, place, and every byte
 -- of the journal buffer. The unread lines of a done run (wish 2) are in it, as they are in the outcome.
 use mathlib.Core.Path.{_≡_}
-use mathlib.Core.List.{List}
-use Prim.Native.Nat.{ℕ, _+_, _≤_, _<_}
+use mathlib.Core.Option.{Option, none, some}
+use mathlib.Core.List.{List, []}
+use Prim.Native.Nat.{ℕ, zero, suc, _+_, _≤_, _<_}
 use lib.ListN.{length}
-use Rattle.definitions.specs.Tape.{Tape}
-use Rattle.definitions.specs.Given.{Given, given, bytes}
-use Rattle.definitions.specs.StepProgram.{RunState}
+use Rattle.definitions.specs.Bytes.{Line, linesOf}
+use Rattle.definitions.specs.Tape.{Tape, unread, Reads}
+use Rattle.definitions.specs.Given.{Given, given, bytes, noGlobals}
+use Rattle.definitions.specs.Reading.{opening}
+use Rattle.definitions.specs.StepProgram.{RunState, state, Out, on, edited, halt}
 use Rattle.definitions.specs.Edit.{Op, step}
-use Rattle.definitions.specs.Control.{Ctl, want, pull}
-use Rattle.definitions.specs.Run.{run, Answer, answerOf, Outcome, outcome, outcomeFrom, outcomeOf}
+use Rattle.definitions.specs.Control.{Ctl, running, Pull, finished, want, lost, pull}
+use Rattle.definitions.specs.Script.{Script, items, refusedAt, readScript}
+use Rattle.definitions.specs.Run.{choose, run, Answer, answerOf, Outcome, outcome, outcomeFrom, outcomeOf}
 
 -- ---- the terms
 
@@ -33,8 +37,32 @@ IsSpent o = outcomeNumber o ≡ 29
 abbrev pub EndsOtherwise : Outcome → Type 0
 EndsOtherwise o = IsSpent o → ⊥
 
--- Where a run stands between two steps: what is left of the script, the text with what is carried, and the unread lines. Another step is wanted; its place says which
--- (W5.2).
+-- Where a run stands between two steps: what is left of the script, the text with what is carried, and the unread lines
+pub data Point : Type 0 where
+  point : Ctl → RunState → Tape → Point
+
+-- after one more step; none where the step has ended the run
+unfoldable pub onwards : (Ctl → RunState → Tape → Option Point) → Ctl → Ctl → Out × Tape → Option Point
+onwards go c₁ c₀ (on b s, t) = go (choose b c₁ c₀) s t
+onwards go c₁ c₀ (edited s, t) = go c₁ s t
+onwards go c₁ c₀ (halt n s, t) = none
+
+unfoldable pub onceMade : (Op → RunState → Reads Out) → (Ctl → RunState → Tape → Option Point) → RunState → Tape → Pull → Option Point
+onceMade take-step go s t finished = none
+onceMade take-step go s t (want at op c₁ c₀) = onwards go c₁ c₀ (take-step op s t)
+onceMade take-step go s t lost = none
+
+-- Where a run stands after so many steps, none where it has ended before. It knows no budget: these are the steps of every run that is allowed them.
+unfoldable pub afterSteps : (Op → RunState → Reads Out) → ℕ → Ctl → RunState → Tape → Option Point
+afterSteps take-step zero c s t = some (point c s t)
+afterSteps take-step (suc n) c s t = onceMade take-step (λ c′ s′ t′. afterSteps take-step n c′ s′ t′) s t (pull c)
+
+-- the same from the opening on, for a journal buffer of `size` bytes
+unfoldable pub scriptAfter : List Line → ℕ → ℕ → Script → Option Point
+scriptAfter ls size n (items is) = let o = opening (unread ls) in afterSteps (step (given (bytes size))) n (running is []) (state (o .0) noGlobals) (o .1)
+scriptAfter ls size n (refusedAt m at) = none
+
+-- a point at which another step is wanted; its place says which (W5.2)
 pub record Pause : Type 0 where
   pub left : Ctl
   pub text : RunState
@@ -45,6 +73,9 @@ pub record Pause : Type 0 where
   pub ifFalse : Ctl
   pub wanted : pull left ≡ want place op ifTrue ifFalse
 
+abbrev pub pointOf : Pause → Point
+pointOf p = point (p .left) (p .text) (p .lines)
+
 -- the answer of a run that is given g, stands so after `steps` steps, and goes on with at most `more`; the script has `scriptLength` bytes
 unfoldable pub answerFrom : Given → ℕ → ℕ → ℕ → Pause → Answer
 answerFrom g scriptLength more steps p = let r = run (step g) more steps (p .left) (p .text) (p .lines) in answerOf g scriptLength (r .0) (r .1)
@@ -54,10 +85,11 @@ module _ (table script : List ℕ) (work : ℕ) (buffer : List ℕ) where
   abbrev pub under : ℕ → Outcome
   under budget = outcomeOf table script budget work buffer
 
-  -- A run stopped with 29 wants the step at its place, and under every budget from this one on the run is the one that goes on from there, with as many steps more as
-  -- it is given: 0 for this budget itself.
+  -- A run stopped with 29 stands where as many steps as its budget lead, and wants the step at its place. Under every budget from this one on the run is the one that
+  -- goes on from there, with as many steps more as it is given: 0 for this budget itself.
   pub record GoesOn (budget : ℕ) : Type 0 where
     pub from : Pause
+    pub reached : scriptAfter (linesOf table) (length buffer) budget (readScript script) ≡ some (pointOf from)
     pub place : outcomePlace (under budget) ≡ from .place
     pub with-more : (more : ℕ) → under (budget + more) ≡ outcomeFrom buffer (answerFrom (given (bytes (length buffer))) (length script) more budget from)
 

@@ -1,6 +1,7 @@
 -- Larger budgets never disagree: one induction over the budget says where a run stands once the steps of its budget are made. The rest follows.
 use mathlib.Core.Path.{_≡_, refl, sym, ap, _∙_}
 use mathlib.Core.Bool.{Bool, true, false}
+use mathlib.Core.Option.{Option, some}
 use mathlib.Core.List.{List, []}
 use mathlib.Core.Logic.{inl, inr}
 use Prim.Native.Nat.{ℕ, zero, suc, _+_, _-_, _≤_, _<_}
@@ -17,6 +18,7 @@ use Rattle.definitions.specs.Reading.{Ran, gave, stopped, readTo, opening}
 use Rattle.definitions.specs.StepProgram.{RunState, state, textOf, Out, on, edited, halt}
 use Rattle.definitions.specs.Edit.{Op, step}
 use Rattle.definitions.specs.Control.{Item, Ctl, running, Pull, finished, want, lost, pull}
+use Rattle.definitions.specs.Script.{items, readScript}
 use Rattle.definitions.specs.Run.{End, end, choose, endPlace, spent, stepped, stepping, run, runItems, Answer, answer, refusal, restPassed, answerOf, ranItems, runAnswer}
 use Rattle.definitions.specs.Run.{answerNumber, answerSteps, answerFurthest, answerPlace, outcomeFrom, outcomeOf}
 use Rattle.theorems.specs.Reading.{At}
@@ -25,7 +27,7 @@ use Rattle.theorems.specs.Numbers.{StepNumber, StepNumbered, stop-number
 use Rattle.theorems.specs.Accepted.{Judged, refuses, takes, judged}
 use Rattle.theorems.specs.Demand3Items.{furthestAt, answer-furthest}
 use Rattle.theorems.specs.ReadFar.{run-further}
-use Rattle.theorems.specs.Budgets.{outcomeNumber, outcomeSteps, outcomeFurthest, outcomePlace, Pause, answerFrom, GoesOn, LargerBudgets}
+use Rattle.theorems.specs.Budgets.{outcomeNumber, outcomeSteps, outcomeFurthest, outcomePlace, Point, point, onwards, onceMade, afterSteps, scriptAfter, Pause, pointOf, answerFrom, GoesOn, LargerBudgets}
 
 unfoldable endNumber : End → ℕ
 endNumber (end n steps at s) = n
@@ -102,22 +104,23 @@ module _ (take-step : Op → RunState → Reads Out) where
       rw (p .wanted) (stepped-least (λ c′ s′. run take-step more (suc steps) c′ s′) (suc steps) (p .place) (λ c′ s′ t′. run-least more (suc steps) c′ s′ t′) (p .ifTrue) (p .ifFalse)
       (x .0) (x .1))
 
-  -- ---- where a run stands once the steps of its budget are made; `under` has what it comes to with so much more budget
+  -- ---- where a run stands once the steps of its budget are made; `under` has what it comes to with so much more budget, `there` where these steps lead
 
-  data Stands (total : ℕ) (under : ℕ → End × Tape) : Type 0 where
+  data Stands (total : ℕ) (under : ℕ → End × Tape) (there : Option Point) : Type 0 where
     -- it has ended, and more budget makes no difference
-    ended : (x : End) (t : Tape) → (endNumber x ≡ 29 → ⊥) → endSteps x ≤ total → ((more : ℕ) → under more ≡ (x, t)) → Stands total under
+    ended : (x : End) (t : Tape) → (endNumber x ≡ 29 → ⊥) → endSteps x ≤ total → ((more : ℕ) → under more ≡ (x, t)) → Stands total under there
     -- a step is wanted, and with more budget the run goes on from here
-    waits : (p : Pause) → ((more : ℕ) → under more ≡ run take-step more total (p .left) (p .text) (p .lines)) → Stands total under
+    waits : (p : Pause) → there ≡ some (pointOf p) → ((more : ℕ) → under more ≡ run take-step more total (p .left) (p .text) (p .lines)) → Stands total under there
 
-  stands-as : (total : ℕ) (under under′ : ℕ → End × Tape) → ((more : ℕ) → under′ more ≡ under more) → Stands total under → Stands total under′
-  stands-as total under under′ q (ended x t n le h) = ended x t n le (λ more. q more ∙ h more)
-  stands-as total under under′ q (waits p h) = waits p (λ more. q more ∙ h more)
+  stands-as : (total : ℕ) (under under′ : ℕ → End × Tape) (there : Option Point) → ((more : ℕ) → under′ more ≡ under more) → Stands total under there → Stands total under′ there
+  stands-as total under under′ there q (ended x t n le h) = ended x t n le (λ more. q more ∙ h more)
+  stands-as total under under′ there q (waits p r h) = waits p r (λ more. q more ∙ h more)
 
   -- the script's end
-  done-stands : (total steps : ℕ) (s : RunState) (t : Tape) (under : ℕ → End × Tape) → steps ≤ total → ((more : ℕ) → under more ≡ (end 0 steps 0 s, t)) → Stands total under
+  done-stands : (total steps : ℕ) (s : RunState) (t : Tape) (under : ℕ → End × Tape) (there : Option Point) → steps ≤ total → ((more : ℕ) → under more ≡ (end 0 steps 0 s, t))
+      → Stands total under there
   unfolding endNumber endSteps
-  done-stands total steps s t under le h = ended (end 0 steps 0 s) t (λ q. omega (arith, q)) le h
+  done-stands total steps s t under there le h = ended (end 0 steps 0 s) t (λ q. omega (arith, q)) le h
 
   -- where no step is wanted, so much more budget makes no difference
   none-wanted : (steps : ℕ) (c : Ctl) (s : RunState) (t : Tape) → spent steps s (pull c) ≡ end 0 steps 0 s
@@ -126,60 +129,67 @@ module _ (take-step : Op → RunState → Reads Out) where
   none-wanted steps c s t h k zero = ap (λ (x : End). (x, t)) h
   none-wanted steps c s t h k (suc more) = k (λ c′ s′. run take-step more (suc steps) c′ s′)
 
-  spent-stands : (total steps : ℕ) → steps ≡ total → (c : Ctl) (s : RunState) (t : Tape) (x : Pull) → pull c ≡ x → Stands total (λ more. run take-step more steps c s t)
+  spent-stands : (total steps : ℕ) → steps ≡ total → (c : Ctl) (s : RunState) (t : Tape) (x : Pull) → pull c ≡ x
+      → Stands total (λ more. run take-step more steps c s t) (some (point c s t))
   unfolding spent stepping
-  spent-stands total steps h c s t finished q = done-stands total steps s t _ (omega (arith, h)) (none-wanted steps c s t (rw q) (λ go. rw q))
+  spent-stands total steps h c s t finished q = done-stands total steps s t _ _ (omega (arith, h)) (none-wanted steps c s t (rw q) (λ go. rw q))
   spent-stands total steps h c s t (want at op c₁ c₀) q =
-      waits (record { left = c; text = s; lines = t; place = at; op = op; ifTrue = c₁; ifFalse = c₀; wanted = q }) (λ more. rw h)
-  spent-stands total steps h c s t lost q = done-stands total steps s t _ (omega (arith, h)) (none-wanted steps c s t (rw q) (λ go. rw q))
+      waits (record { left = c; text = s; lines = t; place = at; op = op; ifTrue = c₁; ifFalse = c₀; wanted = q }) refl (λ more. rw h)
+  spent-stands total steps h c s t lost q = done-stands total steps s t _ _ (omega (arith, h)) (none-wanted steps c s t (rw q) (λ go. rw q))
 
   module _ (numbered : (op : Op) (s : RunState) (t : Tape) → At StepNumbered (take-step op s t)) where
-    module _ (total : ℕ) (go : ℕ → Ctl → RunState → Reads End) (h : (c : Ctl) (s : RunState) (t : Tape) → Stands total (λ more. go more c s t)) where
-      stepped-stands : (steps at : ℕ) (c₁ c₀ : Ctl) (o : Out) (t : Tape) → steps ≤ total → StepNumbered o t → Stands total (λ more. stepped (go more) steps at c₁ c₀ o t)
-      unfolding stepped endNumber endSteps
+    module _ (total : ℕ) (go : ℕ → Ctl → RunState → Reads End) (leads : Ctl → RunState → Tape → Option Point)
+        (h : (c : Ctl) (s : RunState) (t : Tape) → Stands total (λ more. go more c s t) (leads c s t)) where
+      stepped-stands : (steps at : ℕ) (c₁ c₀ : Ctl) (o : Out) (t : Tape) → steps ≤ total → StepNumbered o t
+          → Stands total (λ more. stepped (go more) steps at c₁ c₀ o t) (onwards leads c₁ c₀ (o, t))
+      unfolding stepped onwards endNumber endSteps
       stepped-stands steps at c₁ c₀ (on b s) t le x = h (choose b c₁ c₀) s t
       stepped-stands steps at c₁ c₀ (edited s) t le x = h c₁ s t
       stepped-stands steps at c₁ c₀ (halt n s) t le x = ended (end n steps (endPlace n at) s) t (not-29 n x) le (λ more. refl)
 
-      stepping-stands : (steps : ℕ) (s : RunState) (x : Pull) (t : Tape) → suc steps ≤ total → Stands total (λ more. stepping take-step (go more) steps s x t)
-      unfolding stepping bind
-      stepping-stands steps s finished t le = done-stands total steps s t _ (omega (arith, le)) (λ more. refl)
+      stepping-stands : (steps : ℕ) (s : RunState) (x : Pull) (t : Tape) → suc steps ≤ total
+          → Stands total (λ more. stepping take-step (go more) steps s x t) (onceMade take-step leads s t x)
+      unfolding stepping bind onceMade
+      stepping-stands steps s finished t le = done-stands total steps s t _ _ (omega (arith, le)) (λ more. refl)
       stepping-stands steps s (want at op c₁ c₀) t le = stepped-stands (suc steps) at c₁ c₀ ((take-step op s t) .0) ((take-step op s t) .1) le (numbered op s t)
-      stepping-stands steps s lost t le = done-stands total steps s t _ (omega (arith, le)) (λ more. refl)
+      stepping-stands steps s lost t le = done-stands total steps s t _ _ (omega (arith, le)) (λ more. refl)
 
-    run-stands : (budget steps total : ℕ) → steps + budget ≡ total → (c : Ctl) (s : RunState) (t : Tape) → Stands total (λ more. run take-step (budget + more) steps c s t)
-    unfolding run
+    run-stands : (budget steps total : ℕ) → steps + budget ≡ total → (c : Ctl) (s : RunState) (t : Tape)
+        → Stands total (λ more. run take-step (budget + more) steps c s t) (afterSteps take-step budget c s t)
+    unfolding run afterSteps
     run-stands zero steps total h c s t =
-        stands-as total (λ more. run take-step more steps c s t) _ (λ more. ap (λ (n : ℕ). run take-step n steps c s t) (zero-add more))
+        stands-as total (λ more. run take-step more steps c s t) _ _ (λ more. ap (λ (n : ℕ). run take-step n steps c s t) (zero-add more))
         (spent-stands total steps (omega (arith, h)) c s t (pull c) refl)
     run-stands (suc budget) steps total h c s t =
-        stands-as total (λ more. run take-step (suc (budget + more)) steps c s t) _ (λ more. ap (λ (n : ℕ). run take-step n steps c s t) (suc-add budget more))
-        (stepping-stands total (λ more c′ s′. run take-step (budget + more) (suc steps) c′ s′)
+        stands-as total (λ more. run take-step (suc (budget + more)) steps c s t) _ _ (λ more. ap (λ (n : ℕ). run take-step n steps c s t) (suc-add budget more))
+        (stepping-stands total (λ more c′ s′. run take-step (budget + more) (suc steps) c′ s′) (λ c′ s′ t′. afterSteps take-step budget c′ s′ t′)
         (λ c′ s′ t′. run-stands budget (suc steps) total (omega (arith, h)) c′ s′ t′) steps s (pull c) t (omega (arith, h)))
 
 -- ---- the same of the answer; `under` has the answer with so much more budget
 
 -- the answer is there, and more budget makes no difference; or a step is wanted, and with more budget the run goes on from here
-data Answers (g : Given) (place budget : ℕ) (under : ℕ → Answer) : Type 0 where
-  settled : (a : Answer) → (answerNumber a ≡ 29 → ⊥) → answerSteps a ≤ budget → ((more : ℕ) → under more ≡ a) → Answers g place budget under
-  waiting : (p : Pause) → ((more : ℕ) → under more ≡ answerFrom g place more budget p) → Answers g place budget under
+data Answers (g : Given) (place budget : ℕ) (under : ℕ → Answer) (there : Option Point) : Type 0 where
+  settled : (a : Answer) → (answerNumber a ≡ 29 → ⊥) → answerSteps a ≤ budget → ((more : ℕ) → under more ≡ a) → Answers g place budget under there
+  waiting : (p : Pause) → there ≡ some (pointOf p) → ((more : ℕ) → under more ≡ answerFrom g place more budget p) → Answers g place budget under there
 
 module _ (g : Given) (place budget : ℕ) where
-  answers-from : (under : ℕ → End × Tape) → Stands (step g) budget under → Answers g place budget (λ more. answerOf g place ((under more) .0) ((under more) .1))
-  answers-from under (ended x t n le h) =
+  answers-from : (under : ℕ → End × Tape) (there : Option Point) → Stands (step g) budget under there
+      → Answers g place budget (λ more. answerOf g place ((under more) .0) ((under more) .1)) there
+  answers-from under there (ended x t n le h) =
       settled (answerOf g place x t) (λ q. n (answer-29 g place x t q)) (rw (answer-steps g place x t) le) (λ more. ap (λ (y : End × Tape). answerOf g place (y .0) (y .1)) (h more))
-  answers-from under (waits p h) = waiting p (λ more. unfold answerFrom in (ap (λ (y : End × Tape). answerOf g place (y .0) (y .1)) (h more)))
+  answers-from under there (waits p r h) = waiting p r (λ more. unfold answerFrom in (ap (λ (y : End × Tape). answerOf g place (y .0) (y .1)) (h more)))
 
-  answers-as : (under under′ : ℕ → Answer) → ((more : ℕ) → under′ more ≡ under more) → Answers g place budget under → Answers g place budget under′
-  answers-as under under′ q (settled a n le h) = settled a n le (λ more. q more ∙ h more)
-  answers-as under under′ q (waiting p h) = waiting p (λ more. q more ∙ h more)
+  answers-as : (under under′ : ℕ → Answer) (there : Option Point) → ((more : ℕ) → under′ more ≡ under more) → Answers g place budget under there → Answers g place budget under′ there
+  answers-as under under′ there q (settled a n le h) = settled a n le (λ more. q more ∙ h more)
+  answers-as under under′ there q (waiting p r h) = waiting p r (λ more. q more ∙ h more)
 
-  items-answer : (is : List Item) (ls : List Line) → Answers g place budget (λ more. ranItems g place (budget + more) is ls)
-  unfolding ranItems runItems bind
-  items-answer is ls =
-      let o : Ed × Tape = opening (unread ls) in
-      answers-from (λ more. run (step g) (budget + more) 0 (running is []) (state (o .0) noGlobals) (o .1))
-      (run-stands (step g) (step-number g) budget 0 budget (zero-add budget) (running is []) (state (o .0) noGlobals) (o .1))
+items-answer : (size place budget : ℕ) (is : List Item) (ls : List Line)
+    → Answers (given (bytes size)) place budget (λ more. ranItems (given (bytes size)) place (budget + more) is ls) (scriptAfter ls size budget (items is))
+unfolding ranItems runItems bind scriptAfter
+items-answer size place budget is ls =
+    let o : Ed × Tape = opening (unread ls) in
+    answers-from (given (bytes size)) place budget (λ more. run (step (given (bytes size))) (budget + more) 0 (running is []) (state (o .0) noGlobals) (o .1)) _
+    (run-stands (step (given (bytes size))) (step-number (given (bytes size))) budget 0 budget (zero-add budget) (running is []) (state (o .0) noGlobals) (o .1))
 
 -- a refusal's number is not 29
 refusal-29 : (n at : ℕ) (a : Answer) → Numbered a → a ≡ refusal n at → n ≡ 29 → ⊥
@@ -220,17 +230,21 @@ module _ (table script : List ℕ) (work size : ℕ) where
   abbrev under : ℕ → Answer
   under budget = runAnswer table script budget work size
 
-  abbrev AnswersHere : ℕ → (ℕ → Answer) → Type 0
-  AnswersHere budget under = Answers (given (bytes size)) (length script) budget under
+  -- where so many steps lead
+  abbrev there : ℕ → Option Point
+  there budget = scriptAfter (linesOf table) size budget (readScript script)
+
+  abbrev AnswersHere : ℕ → Type 0
+  AnswersHere budget = Answers (given (bytes size)) (length script) budget (λ more. under (budget + more)) (there budget)
 
   -- of every run, refused ones too
-  run-answers : (budget : ℕ) → AnswersHere budget (λ more. under (budget + more))
+  run-answers : (budget : ℕ) → AnswersHere budget
   run-answers budget = by (judged table script work size)
     where
-      by : Judged (given (bytes size)) (length script) (linesOf table) under → AnswersHere budget (λ more. under (budget + more))
+      by : Judged (given (bytes size)) (length script) (linesOf table) (readScript script) under → AnswersHere budget
       by (refuses n at h) =
           settled (refusal n at) (unfold answerNumber in (refusal-29 n at (under 0) (answer-numbered table script 0 work size) (h 0))) (unfold answerSteps in (omega arith)) (λ more. h (budget + more))
-      by (takes is h) = answers-as (given (bytes size)) (length script) budget _ _ (λ more. h (budget + more)) (items-answer (given (bytes size)) (length script) budget is (linesOf table))
+      by (takes is e h) = rw e (answers-as (given (bytes size)) (length script) budget _ _ _ (λ more. h (budget + more)) (items-answer size (length script) budget is (linesOf table)))
 
   abbrev from : ℕ → ℕ → Pause → Answer
   from more steps p = answerFrom (given (bytes size)) (length script) more steps p
@@ -244,7 +258,7 @@ module _ (table script : List ℕ) (work size : ℕ) where
     -- it ends otherwise
     settles : (answerNumber (under budget) ≡ 29 → ⊥) → answerSteps (under budget) ≤ budget → ((larger : ℕ) → budget ≤ larger → under larger ≡ under budget) → Stood budget
     -- it is stopped with 29
-    wants : answerNumber (under budget) ≡ 29 → answerSteps (under budget) ≡ budget → (p : Pause) → answerPlace (under budget) ≡ p .place
+    wants : answerNumber (under budget) ≡ 29 → answerSteps (under budget) ≡ budget → (p : Pause) → there budget ≡ some (pointOf p) → answerPlace (under budget) ≡ p .place
         → ((more : ℕ) → under (budget + more) ≡ from more budget p) → ((larger : ℕ) → budget < larger → Further budget larger) → Stood budget
 
   none-more : (budget : ℕ) → under (budget + 0) ≡ under budget
@@ -253,7 +267,7 @@ module _ (table script : List ℕ) (work size : ℕ) where
   more-is : (budget larger : ℕ) → budget ≤ larger → under (budget + (larger - budget)) ≡ under larger
   more-is budget larger le = ap under (omega (arith, le))
 
-  module _ (budget : ℕ) (p : Pause) (h : (more : ℕ) → under (budget + more) ≡ from more budget p) where
+  module _ (budget : ℕ) (p : Pause) (r : there budget ≡ some (pointOf p)) (h : (more : ℕ) → under (budget + more) ≡ from more budget p) where
     stops : under budget ≡ answer 29 budget (furthest (textOf (p .text)) (p .lines)) (p .place) (journal (textOf (p .text)) (p .lines))
     stops = sym (none-more budget) ∙ h 0 ∙ from-none (given (bytes size)) (length script) budget p
 
@@ -267,30 +281,30 @@ module _ (table script : List ℕ) (work size : ℕ) where
 
     waiting-stood : Stood budget
     unfolding answerNumber answerSteps answerPlace
-    waiting-stood = wants (ap answerNumber stops) (ap answerSteps stops) p (ap answerPlace stops) h goes
+    waiting-stood = wants (ap answerNumber stops) (ap answerSteps stops) p r (ap answerPlace stops) h goes
 
   stood : (budget : ℕ) → Stood budget
   stood budget = by (run-answers budget)
     where
-      by : AnswersHere budget (λ more. under (budget + more)) → Stood budget
+      by : AnswersHere budget → Stood budget
       by (settled a n le h) =
           let e : under budget ≡ a = sym (none-more budget) ∙ h 0 in
           settles (λ q. n (sym (ap answerNumber e) ∙ q)) (rw e le) (λ larger k. sym (more-is budget larger k) ∙ h (larger - budget) ∙ sym e)
-      by (waiting p h) = waiting-stood budget p h
+      by (waiting p r h) = waiting-stood budget p r h
 
   same-answer : (budget : ℕ) → (answerNumber (under budget) ≡ 29 → ⊥) → (larger : ℕ) → budget ≤ larger → under larger ≡ under budget
   same-answer budget h = by (stood budget)
     where
       by : Stood budget → (larger : ℕ) → budget ≤ larger → under larger ≡ under budget
       by (settles n le k) = k
-      by (wants q steps p at k f) = absurd (h q)
+      by (wants q steps p r at k f) = absurd (h q)
 
   spent-answer : (budget : ℕ) → answerNumber (under budget) ≡ 29 → answerSteps (under budget) ≡ budget
   spent-answer budget h = by (stood budget)
     where
       by : Stood budget → answerSteps (under budget) ≡ budget
       by (settles n le k) = absurd (n h)
-      by (wants q steps p at k f) = steps
+      by (wants q steps p r at k f) = steps
 
   -- no run makes more steps than its budget
   in-budget : (budget : ℕ) → answerSteps (under budget) ≤ budget
@@ -298,7 +312,7 @@ module _ (table script : List ℕ) (work size : ℕ) where
     where
       by : Stood budget → answerSteps (under budget) ≤ budget
       by (settles n le k) = le
-      by (wants q steps p at k f) = omega (arith, steps)
+      by (wants q steps p r at k f) = omega (arith, steps)
 
   short-answer : (budget : ℕ) → (other : ℕ) → other < answerSteps (under budget) → answerNumber (under other) ≡ 29
   short-answer budget other less = by (stood other)
@@ -307,7 +321,7 @@ module _ (table script : List ℕ) (work size : ℕ) where
       by (settles n le k) =
           let e : answerSteps (under budget) ≡ answerSteps (under other) = ap answerSteps (k budget (omega (arith, less, in-budget budget))) in
           absurd (omega (arith, less, le, e))
-      by (wants q steps p at k f) = q
+      by (wants q steps p r at k f) = q
 
   enough-answer : (budget : ℕ) → (answerNumber (under budget) ≡ 29 → ⊥) → (other : ℕ) → answerSteps (under budget) ≤ other → under other ≡ under budget
   enough-answer budget h other le = by (leb budget other) refl (stood other)
@@ -315,14 +329,14 @@ module _ (table script : List ℕ) (work size : ℕ) where
       by : (b : Bool) → leb budget other ≡ b → Stood other → under other ≡ under budget
       by true e x = same-answer budget h other (leb-true budget other e)
       by false e (settles n k g) = sym (g budget (omega (arith, leb-false budget other e)))
-      by false e (wants q steps p at k f) = absurd (omega (arith, le, steps, f budget (leb-false budget other e) .0))
+      by false e (wants q steps p r at k f) = absurd (omega (arith, le, steps, f budget (leb-false budget other e) .0))
 
   further-answer : (budget : ℕ) → answerNumber (under budget) ≡ 29 → (larger : ℕ) → budget < larger → Further budget larger
   further-answer budget h = by (stood budget)
     where
       by : Stood budget → (larger : ℕ) → budget < larger → Further budget larger
       by (settles n le k) = absurd (n h)
-      by (wants q steps p at k f) = f
+      by (wants q steps p r at k f) = f
 
   -- wish 5 of answers, from which it is said of outcomes and of calls
   pub record AnswersAgree (budget : ℕ) : Type 0 where
@@ -353,7 +367,7 @@ module _ (table script : List ℕ) (work : ℕ) (buffer : List ℕ) where
     where
       by : Stood table script work (length buffer) budget → GoesOn table script work buffer budget
       by (settles n le k) = absurd (n h)
-      by (wants q steps p at k f) = record { from = p; place = at; with-more = λ more. ap (outcomeFrom buffer) (k more) }
+      by (wants q steps p r at k f) = record { from = p; reached = r; place = at; with-more = λ more. ap (outcomeFrom buffer) (k more) }
 
 -- THE LAW: wish 5
 pub larger-budgets : LargerBudgets
