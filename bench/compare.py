@@ -50,6 +50,8 @@ def jobs(lines):
          f"F U/{far.upper()}/; E/90/120/\n", f"/{far.upper()}/Is/90/120/\n", f"/{far.upper()}/Is/90/120/\nw OUT\nq\n"),
         ("delete a third of the lines", every,
          "RPT (D; IFEOF AGP; N; IFEOF AGP; N; IFEOF AGP)\n", "1~3d\n", None),
+        ("replace every line", every,
+         "RPT (R\nR00000 open 06:00 60\nZ\nIFEOF AGP)\n", "s/.*/R00000 open 06:00 60/\n", "1,$s/.*/R00000 open 06:00 60/\nw OUT\nq\n"),
         ("cut every line in two", every,
          "RPT (SA/ open/; N; IFEOF AGP)\n", "s/ open/&\\n/\n", "1,$s/ open/&\\\n/\nw OUT\nq\n"),
         ("join every two lines", even,

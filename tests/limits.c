@@ -157,7 +157,7 @@ static void cuts_and_joins(void) {
     } cases[] = {
         /* the left part is inserted before the line, which keeps its number and the rest */
         { "ab12\nz\n", "SA/ab/\n", 0, 1, 0, "++ab\n<>ab12\n12\n==z\n" },
-        { "ab12\nz\n", "SB/12/;M 1;D\n", 0, 2, 0, "++ab\n--ab12\n==z\n" },
+        { "ab12\nz\n", "SB/12/;M 1;D\n", 0, 2, 0, "--ab12\n++ab\n==z\n" },
         { "aXaX\n", "PA/a/;SB/a/\n", 0, 1, 0, "++aX\n<>aXaX\naX\n" },
         { "a\n", "IS/xy/;P;SA/x/\n", 0, 1, 0, "++x\n++y\n==a\n" },
         /* an empty left part, an empty rest, both; the old text again makes a kept record */
@@ -185,12 +185,12 @@ static void cuts_and_joins(void) {
         { "a\nb\nc\n", "D 2;IS/x/;M 1;CL//\n", 0, 3, 0, "<>a\nax\n--b\n==c\n" },
         { "a\nb\n", "N;IS/x/;2P;CL//\n", 0, 2, 0, "<>a\nax\n==b\n" },
         { "a\n", "IS/x/;IS/y/;2P;CL//\n", 0, 1, 0, "++xy\n==a\n" },
-        { "a\nb\n", "IS/x/;P;CL//\n", 0, 1, 0, "++xa\n--a\n==b\n" },
+        { "a\nb\n", "IS/x/;P;CL//\n", 0, 1, 0, "--a\n++xa\n==b\n" },
         /* no next line: EOF is read, also where deleted lines follow, and from an inserted line */
         { "a\n", "CL//\n", 30, 2, 0, "==a\n" },
         { "a\nb\n", "2CL//\n", 30, 3, 1, "<>a\nab\n--b\n" },
         { "a\nb\nc\n", "D 2 *;P;CL//\n", 30, 4, 8, "==a\n--b\n--c\n" },
-        { "a\n", "IS/x/;P;2CL//\n", 30, 2, 9, "++xa\n--a\n" },
+        { "a\n", "IS/x/;P;2CL//\n", 30, 2, 9, "--a\n++xa\n" },
         { "a\n", "M *;IS/x/;P;CL//\n", 30, 2, 12, "==a\n++x\n" },
         /* no line */
         { "a\nb\n", "M *;CL//\n", 20, 3, 4, "==a\n==b\n" },
@@ -369,7 +369,7 @@ static void passed_rooms(void) {
     needs_room("a\na\na\n", "GE/a/b/;I *\nx\nZ\n", 20, 4, 8, "==a\n<>a\nb\n<>a\nb\n");
     needs_room("a\na\na\n", "GE/a/b/;W;N\n", 16, 1, 12, "==a\n==a\n==a\n");
     needs_room("a\na\na\n", "GE/a/b/;AGP;N\n\\ end\n", 16, 1, 20, "==a\n==a\n==a\n");
-    needs_room("a\na\na\n", "IS/x/;D;GE/a/b/\n", 18, 2, 16, "++x\n--a\n==a\n==a\n");
+    needs_room("a\na\na\n", "IS/x/;D;GE/a/b/\n", 18, 2, 16, "--a\n++x\n==a\n==a\n");
     needs_room("a\na\na\n", "%;GE/a/b/\n", 18, 1, 10, "<>a\nA\n==a\n==a\n");
     needs_room("a\nab\nc\n", "GE/a//;N;CG\n", 15, 2, 7, "==a\n==ab\n==c\n");
     needs_room("a\nb\na\n", "GE/a//\n", 13, 1, 7, "==a\n==b\n==a\n");

@@ -1,5 +1,5 @@
 #!/usr/bin/env python3
-"""Makes run cases by chance: tables and scripts of the commands of document 01 and of wishes 1 to 5 of document 02, some of them damaged.
+"""Makes run cases by chance: tables and scripts of the commands of document 01 and of wishes 1 to 6 of document 02, some of them damaged.
 
     tools/cases.py SEED COUNT | tools/oracle.py outcome > FILE
     tools/vectors.py run FILE

@@ -1,5 +1,5 @@
 #!/usr/bin/env python3
-"""Document 01 and wishes 1 to 5 of document 02 once more, written apart from the definitions: a plain interpreter for making and checking cases.
+"""Document 01 and wishes 1 to 6 of document 02 once more, written apart from the definitions: a plain interpreter for making and checking cases.
 
     tools/oracle.py check FILE      compares each line of a file of run cases (see tools/vectors.py) with what it finds
     tools/oracle.py outcome < FILE  completes lines of: table script budget work-length buffer-length
@@ -580,9 +580,17 @@ class Editor:
                     while i < len(items) and items[i] is not None: i += 1
             i += 1
 
+    def arranged(self):
+        """Each stretch of `--` and `++` records sorted, `--` first; a sort keeps the order of equals."""
+        out, stretch = [], []
+        for record in self.recs + [None]:
+            if record and record[0] in ('--', '++'): stretch.append(record)
+            else: out, stretch = out + sorted(stretch, key=lambda r: r[0] == '++') + [record], []
+        return out[:-1]
+
     def bytes(self):
         out = b''
-        for mark, old, new in self.recs:
+        for mark, old, new in self.arranged():
             out += mark.encode() + (old + b'\n' + new if mark == '<>' else old if mark == '--' else new) + b'\n'
         return out
 

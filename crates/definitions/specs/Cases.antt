@@ -156,7 +156,7 @@ wishTwoCases =
     ∷ case largest "a\nb\n" "GE/b/c/; F/c/\n" (answer 0 4 2 0 (same "a" ∷ changed (bytes "b") (bytes "c") ∷ []))
     ∷ case largest "a\nb\n" "GE/b/cc/; CL//\n" (answer 0 2 2 0 (changed (bytes "a") (bytes "acc") ∷ deleted (bytes "b") ∷ []))
     -- D has read the next line before it deletes (W2.9); inserted lines are not acted on (W2.4)
-    ∷ case largest "a\na\na\n" "GE/a/b/; IS/a/; D\n" (answer 0 3 2 0 (inserted (bytes "a") ∷ deleted (bytes "a") ∷ changed (bytes "a") (bytes "b") ∷ changed (bytes "a") (bytes "b") ∷ []))
+    ∷ case largest "a\na\na\n" "GE/a/b/; IS/a/; D\n" (answer 0 3 2 0 (deleted (bytes "a") ∷ inserted (bytes "a") ∷ changed (bytes "a") (bytes "b") ∷ changed (bytes "a") (bytes "b") ∷ []))
     -- a stop among the unread lines leaves all of them kept, and has the script's length as place (W2.12)
     ∷ case largest "a\na\nb\n" "GE/a/c/; 4 GE/b/bbbb/\n" (answer 25 9 1 22 (same "a" ∷ same "a" ∷ same "b" ∷ []))
     ∷ fits 14 "a\na\na\n" "GE/a/b/; N\n" (answer 26 2 2 11 (same "a" ∷ changed (bytes "a") (bytes "b") ∷ same "a" ∷ []))
@@ -252,3 +252,35 @@ wishFiveCases =
 pub wish-five : map computed wishFiveCases ≡ map stated wishFiveCases
 unfolding everything printed programPrints computed stated largest same longLine longTable wishFiveCases
 wish-five = refl
+
+-- ---- document 02, wish 6: arranging
+
+unfoldable pub gone : String → Record
+gone s = deleted (bytes s)
+
+unfoldable pub came : String → Record
+came s = inserted (bytes s)
+
+unfoldable pub wishSixCases : List Case
+wishSixCases =
+    -- done or stopped, what left stands before what came (W6.1, W6.2)
+    case largest "a\nb\n" "IS/x/; D; IS/y/; D\n" (answer 0 4 3 0 (gone "a" ∷ gone "b" ∷ came "x" ∷ came "y" ∷ []))
+    ∷ case 3 "a\nb\n" "IS/x/; D; IS/y/; D\n" (answer 29 3 2 17 (gone "a" ∷ came "x" ∷ came "y" ∷ same "b" ∷ []))
+    -- kept and changed records bound a stretch
+    ∷ case largest "a\nb\nc\n" "IS/x/; D; IS/y/; N; IS/z/; D\n" (answer 0 6 4 0 (gone "a" ∷ came "x" ∷ came "y" ∷ same "b" ∷ gone "c" ∷ came "z" ∷ []))
+    ∷ case largest "a\nb\nc\n" "IS/x/; D; E/b/d/; N; IS/z/; D\n"
+    (answer 0 6 4 0 (gone "a" ∷ came "x" ∷ changed (bytes "b") (bytes "d") ∷ gone "c" ∷ came "z" ∷ []))
+    -- SA inserts the left part, then the rest is deleted
+    ∷ case largest "a\nb\nc\n" "SA/a/; D\n" (answer 0 2 2 0 (gone "a" ∷ came "a" ∷ same "b" ∷ same "c" ∷ []))
+    -- CL deletes the line after an inserted one: the `++` follows the furthest line read (W6.5)
+    ∷ case largest "a\nb\n" "IS/x/; P; CL//\n" (answer 0 3 1 0 (gone "a" ∷ came "xa" ∷ same "b" ∷ []))
+    -- in the run the order is as it was made: 23 and 28 go by it (W6.2)
+    ∷ case largest "a\nb\n" "IS/x/; D; P; D . 1\n" (answer 23 4 2 13 (gone "a" ∷ came "x" ∷ same "b" ∷ []))
+    ∷ case largest "a\nb\n" "D; IS/x/; P; D . 1\n" (answer 28 4 2 13 (gone "a" ∷ came "x" ∷ same "b" ∷ []))
+    -- the pass over the unread lines comes before (W6.3)
+    ∷ case largest "a\nb\nb\n" "IS/x/; GE/b/c/; D\n" (answer 0 3 2 0 (gone "a" ∷ came "x" ∷ changed (bytes "b") (bytes "c") ∷ changed (bytes "b") (bytes "c") ∷ []))
+    ∷ []
+
+pub wish-six : map computed wishSixCases ≡ map stated wishSixCases
+unfolding everything printed programPrints computed stated largest same gone came wishSixCases
+wish-six = refl

@@ -1,6 +1,7 @@
 pub mod Bytes
 pub mod Table
 pub mod Journal
+pub mod Arranging
 pub mod Listing
 pub mod Matching
 pub mod Search

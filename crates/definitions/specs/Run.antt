@@ -1,5 +1,5 @@
 -- The run: steps, budget, the order of refusals, the answer and the journal buffer afterwards (document 01, "Commands": steps; "Who causes
--- which number"; document 02, wish 2: the unread lines of a done run).
+-- which number"; document 02, wish 2: the unread lines of a done run; wish 6: the arranging at its end).
 use mathlib.Core.Bool.{Bool, true, false, cond}
 use mathlib.Core.List.{List, [], _++_, map}
 use Prim.Native.Nat.{ℕ, zero, suc, _+_, _-_, _*_}
@@ -8,6 +8,7 @@ use lib.Dec.{leb}
 use Rattle.definitions.specs.Bytes.{Line, linesOf}
 use Rattle.definitions.specs.Table.{isTable, isScript}
 use Rattle.definitions.specs.Journal.{Record, kept, journalBytes, journalLength}
+use Rattle.definitions.specs.Arranging.{arrange}
 use Rattle.definitions.specs.Tape.{Tape, unread, Reads, ret, bind}
 use Rattle.definitions.specs.Given.{bytes, Given, given, noGlobals}
 use Rattle.definitions.specs.Editor.{Ed, records, journal, furthest, stopNumber, eof}
@@ -70,10 +71,19 @@ unfoldable pub restPassed : ℕ → ℕ → Ed → Tape → Ran (Unit {0}) → A
 restPassed steps place e t (gave u all) = answer 0 steps (furthest e t) 0 (records all)
 restPassed steps place e t (stopped n e′) = answer (stopNumber n) steps (furthest e t) place (journal e t)
 
--- the answer of a run that is given g and ends so, the script having `place` bytes; "A stopped run leaves its unread lines kept"
+-- the answer of a run that is given g and ends so, the script having `place` bytes, its records in the order that the run left: "When the script ends or
+-- stops, the records stand as they are"; "A stopped run leaves its unread lines kept"
+unfoldable pub inRunOrder : Given → ℕ → End → Tape → Answer
+inRunOrder g place (end zero steps at (state e c)) t = restPassed steps place e t ((readTo g c eof e t) .0)
+inRunOrder g place (end (suc n) steps at s) t = answer (suc n) steps (furthest (textOf s) t) at (journal (textOf s) t)
+
+-- "The arranging is done at the run's end, stopped or not" (W6.2), after the pass over the unread lines (W6.3); a refused run has no journal
+unfoldable pub arranged : Answer → Answer
+arranged (answer n steps f at rs) = answer n steps f at (arrange rs)
+arranged (refusal n at) = refusal n at
+
 unfoldable pub answerOf : Given → ℕ → End → Tape → Answer
-answerOf g place (end zero steps at (state e c)) t = restPassed steps place e t ((readTo g c eof e t) .0)
-answerOf g place (end (suc n) steps at s) t = answer (suc n) steps (furthest (textOf s) t) at (journal (textOf s) t)
+answerOf g place x t = arranged (inRunOrder g place x t)
 
 unfoldable pub ranItems : Given → ℕ → ℕ → List Item → List Line → Answer
 ranItems g place budget is ls = let r = runItems (step g) budget is (unread ls) in answerOf g place (r .0) (r .1)

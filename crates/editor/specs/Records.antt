@@ -1,10 +1,9 @@
 -- Records as they stand in the journal buffer during a run: one line feed a record, so that they can be walked both ways. Assumes nothing.
 use mathlib.Core.Path.{_≡_}
-use mathlib.Core.Bool.{true, cond}
+use mathlib.Core.Bool.{true}
 use mathlib.Core.List.{List, [], _∷_, _++_, map}
 use Prim.Native.Nat.{ℕ, _+_, _≤_}
 use lib.ListN.{length, take, drop}
-use lib.Dec.{eqb}
 use Rattle.text.specs.Feeds.{placeOf}
 use Rattle.definitions.specs.Bytes.{Line, linesBytes, isLine}
 use Rattle.definitions.specs.Journal.{Record, kept, changed, deleted, inserted, oldSide}
@@ -62,12 +61,8 @@ LineIn s from n = (from + n ≤ length s) × (isLine (take n (drop from s)) ≡ 
 abbrev pub zeroPlace : List ℕ → ℕ
 zeroPlace l = placeOf 0 l
 
--- ---- the opening and the end
+-- ---- the opening
 
 -- the opening journal of the lines `ls`, written into the buffer j so that it ends where the buffer does: it starts at `at`
 abbrev pub OpeningAt : List Line → List ℕ → List ℕ → ℕ → Type 0
 OpeningAt ls j k at = (k ≡ take at j ++ encAll (map kept ls)) × (at + openingLength ls ≡ length j)
-
--- the byte that a 0 between two lines becomes
-abbrev pub lineEnd : ℕ → ℕ
-lineEnd x = cond (eqb x 0) 10 x

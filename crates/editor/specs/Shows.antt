@@ -6,7 +6,7 @@ use Prim.Native.Nat.{ℕ, suc, _+_, _-_, _≤_, _<_, min, max}
 use lib.ListN.{length, take, drop}
 use lib.Dec.{leb, eqb}
 use Rattle.definitions.specs.Bytes.{Line}
-use Rattle.definitions.specs.Journal.{Record, kept, changed, deleted, erase, upToLine, afterLine, journalBytes, journalLength}
+use Rattle.definitions.specs.Journal.{Record, kept, changed, deleted, erase, upToLine, afterLine}
 use Rattle.definitions.specs.Tape.{Tape, unread, ended, restLines}
 use Rattle.definitions.specs.Given.{Given, given, Room, Carried}
 use Rattle.definitions.specs.Editor.{Ed, ed, beforeOf, afterOf, sources, furthest, current, isLive, stopNumber, land, putBefore, Target, here, line, eof}
@@ -210,14 +210,6 @@ Strikes f j st k r =
 abbrev pub Cuts : ℕ → List ℕ → State → List ℕ → State → Type 0
 Cuts f j st k r =
     ((o : Line) (n : Line) (b : List Record) (a : List Record) → HoldsCut j st f o n b a → Holds k r (deleted o ∷ b) a) × Stays st r
-
--- ---- the end of a run
-
--- n bytes of journal from the buffer's start on, zeros after it
-abbrev pub ClosesJournal : List ℕ → State → List ℕ → ℕ → Type 0
-ClosesJournal j st k n =
-    (b : List Record) (a : List Record) → Holds j st b a
-    → (n ≡ journalLength (reverseAux b a)) × (k ≡ journalBytes (reverseAux b a) ++ zeros (length j - journalLength (reverseAux b a)))
 
 -- ---- numbers that are set
 

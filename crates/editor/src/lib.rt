@@ -1,8 +1,8 @@
 // The journal buffer during a run, and the commands on it.
 pub mod current;
 pub mod edits;
-pub mod ends;
 pub mod moves;
+pub mod start;
 pub mod walk;
 
 // The numbers that go with the journal buffer.

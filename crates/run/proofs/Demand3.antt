@@ -56,6 +56,7 @@ run-demand3 table script budget work buffer r bytes ran accepted =
       past = past-journal c run taken;
       old = holds c run taken .old;
       old-bytes = holds c run taken .old-bytes;
+      arranged = holds c run taken .arranged;
       after = record { rest = rest-after c run taken; passed = rest-passes c run taken };
       agreeing = λ table₂ work₂ buffer₂ r₂ bytes₂ j₂ ran₂ accepted₂ read agree h h₂.
           let s =

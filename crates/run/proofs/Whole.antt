@@ -11,6 +11,7 @@ use borrow.Author.Tests.{le-leb, lt-leb, leb-true}
 use Rattle.definitions.specs.Bytes.{Line, linesOf, lineBytes, linesBytes}
 use Rattle.definitions.specs.Table.{isTable, isScript}
 use Rattle.definitions.specs.Journal.{Record, kept, recordLength, journalLength, journalBytes}
+use Rattle.definitions.specs.Arranging.{arrange}
 use Rattle.definitions.specs.Tape.{Tape, unread, bind}
 use Rattle.definitions.specs.Given.{noGlobals}
 use Rattle.definitions.specs.Editor.{Ed, ed, beforeOf, afterOf, journal, furthest, Stop as StopNumber, n20, n21, n22, n23, n24, n25, n26, n27, n28, n30, n31, stopNumber}
@@ -19,7 +20,7 @@ use Rattle.definitions.specs.StepProgram.{state, textOf}
 use Rattle.definitions.specs.Edit.{step}
 use Rattle.definitions.specs.Control.{Item, running}
 use Rattle.definitions.specs.Script.{Script, items, refusedAt, readScript}
-use Rattle.definitions.specs.Run.{End, end, run, runItems, Answer, answer, refusal, restPassed, answerOf, ranItems, openingLength, workLength, ranTable, ranScript, runAnswer, answerNumber, answerSteps, answerFurthest, answerPlace, answerLength, bufferAfter, outcomeFrom, outcomeOf}
+use Rattle.definitions.specs.Run.{End, end, run, runItems, Answer, answer, refusal, restPassed, inRunOrder, arranged, answerOf, ranItems, openingLength, workLength, ranTable, ranScript, runAnswer, answerNumber, answerSteps, answerFurthest, answerPlace, answerLength, bufferAfter, outcomeFrom, outcomeOf}
 use Rattle.theorems.specs.GoodScripts.{good-commands}
 use Rattle.theorems.specs.JournalBytes.{lines-back}
 use Rattle.answers.specs.declared.Answer.{Answer as Read}
@@ -33,7 +34,8 @@ use Rattle.control.proofs.Scripts.{startable}
 use Rattle.editor.specs.declared.State.{State}
 use Rattle.editor.specs.declared.Moved.{Moved}
 use Rattle.editor.specs.declared.Moved.the-variants.{On, Stop}
-use Rattle.editor.specs.Shows.{Holds, ShowsText, Opens, ClosesJournal, lent, restOf}
+use Rattle.editor.specs.Shows.{Holds, ShowsText, Opens, lent, restOf}
+use Rattle.closing.specs.Closing.{ClosesJournal}
 use Rattle.editor.proofs.Reading.{journal-is}
 use Rattle.editor.proofs.Parts.{lent-same}
 use Rattle.editor.specs.Current.{PointIn, Ready}
@@ -142,7 +144,7 @@ stop-some n31 q = omega (arith, q)
 -- the unread lines: the run has stopped, or they pass
 module _ (s w j : List ℕ) (r : Ended) where
   pub unread-kept : 0 < r .number → PassesUnread s w j r j r
-  unfolding Ends answerOf EndsIn textOf
+  unfolding Ends inRunOrder EndsIn textOf
   unread-kept some (end zero steps place (state e c)) t (a, b, d, shows, stand) = absurd (omega (arith, a))
   unread-kept some (end (suc n) steps place (state e c)) t (a, b, d, shows, stand) =
       (a, b, shows .furthest, d, (beforeOf e, restOf e t, shows .holds, shown-journal e t), λ q. absurd (omega (arith, q)))
@@ -162,13 +164,13 @@ module _ (s w j : List ℕ) (r : Ended) where
       none-passes n (stopped i all) h = (h .0, same, far, refl, h .1, λ q. absurd (stop-some i q))
 
     pub unread-passed : (last : State) → m ≡ On last → PassesUnread s w j r k (record { number = 0; steps = r .steps; place = 0; st = last })
-    unfolding Ends answerOf
+    unfolding Ends inRunOrder
     unread-passed last q (end (suc n) steps place (state e c)) t (a, b, d, shows, stand) = absurd (omega (arith, a))
     unread-passed last q (end zero steps place (state e c)) t (a, b, d, shows, stand) =
         all-pass last steps e t b (shows .furthest) _ (rw q at (passes e c t stand shows))
 
     pub unread-stops : (n : ℕ) (last : State) → m ≡ Stop n last → PassesUnread s w j r k (record { number = n; steps = r .steps; place = length s; st = last })
-    unfolding Ends answerOf
+    unfolding Ends inRunOrder
     unread-stops n last q (end (suc i) steps place (state e c)) t (a, b, d, shows, stand) = absurd (omega (arith, a))
     unread-stops n last q (end zero steps place (state e c)) t (a, b, d, shows, stand) =
         none-passes last steps e t b (shows .furthest) n _ (rw q at (passes e c t stand shows))
@@ -182,11 +184,12 @@ end-holds j f r (refusal number place) h = absurd h
 -- the journal is closed
 module _ (j k : List ℕ) (f : ℕ) (r : Ended) (n : ℕ) (closes : ClosesJournal j (r .st) k n) where
   -- its length, and the buffer's bytes
-  closed : (buffer : List ℕ) (rs : List Record) → length buffer ≡ length j → HoldsAll j (r .st) rs → (n ≡ journalLength rs) × (k ≡ journalBytes rs ++ replicate (length buffer - journalLength rs) 0)
+  closed : (buffer : List ℕ) (rs : List Record) → length buffer ≡ length j → HoldsAll j (r .st) rs
+      → (n ≡ journalLength (arrange rs)) × (k ≡ journalBytes (arrange rs) ++ replicate (length buffer - journalLength (arrange rs)) 0)
   closed buffer rs long h = rw (h .3, ← long) at (closes (h .0) (h .1) (h .2))
 
   pub closes-done : r .number ≡ 0 → GivesClosed j f r (Done (r .steps) f n) k
-  unfolding EndsIn outcomeWith valuesOf outcomeFrom answerNumber answerSteps answerFurthest answerPlace answerLength bufferAfter caseOf
+  unfolding EndsIn arranged outcomeWith valuesOf outcomeFrom answerNumber answerSteps answerFurthest answerPlace answerLength bufferAfter caseOf
   closes-done none buffer (answer zero steps far place rs) long (a, b, d, e, h, at) =
       let z = closed buffer rs long h in
       let p : place ≡ 0 = at refl in
@@ -195,7 +198,7 @@ module _ (j k : List ℕ) (f : ℕ) (r : Ended) (n : ℕ) (closes : ClosesJourna
   closes-done none buffer (refusal number place) long h = absurd h
 
   pub closes-stopped : (r .number ≡ 0 → ⊥) → GivesClosed j f r (Stopped (r .number) (r .steps) f n (r .place)) k
-  unfolding EndsIn outcomeWith valuesOf outcomeFrom answerNumber answerSteps answerFurthest answerPlace answerLength bufferAfter caseOf
+  unfolding EndsIn arranged outcomeWith valuesOf outcomeFrom answerNumber answerSteps answerFurthest answerPlace answerLength bufferAfter caseOf
   closes-stopped some buffer (answer zero steps far place rs) long (a, b, d, e, h, at) = absurd (some a)
   closes-stopped some buffer (answer (suc i) steps far place rs) long (a, b, d, e, h, at) =
       let z = closed buffer rs long h in
@@ -212,7 +215,7 @@ opened-runs buffer table h place budget is = rw (h .0, le-leb (openingLength (li
 pub table-gives : (script table buffer v j k : List ℕ) (budget : ℕ) (is : List Item) (r z : Ended) (a : Answer-of) (bytes : List ℕ)
     → Opening table buffer → length j ≡ length buffer → length k ≡ length j → EndsAs script v j r (runItems (step (lent buffer)) budget is (unread (linesOf table)))
     → PassesUnread script v j r k z → GivesClosed k (r .st .furthest) z a bytes → Gives buffer (ranScript table (length script) budget (length buffer) (items is)) a bytes
-unfolding ranItems
+unfolding ranItems answerOf
 table-gives script table buffer v j k budget is r z a bytes opens long as-long ends passes closes =
     rw (opened-runs buffer table opens (length script) budget is)
     (closes buffer _ (sym (as-long ∙ long)) (rw (lent-same buffer j long) at (passes _ _ ends)))

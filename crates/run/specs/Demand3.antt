@@ -1,5 +1,5 @@
 -- Demand 3 of the code: what a caller of `run` sees, the answer's values and the bytes of the journal buffer. One statement, with the terms of document 01
--- ("Tables and the journal", from "In demand 3") and of document 02, wish 2.
+-- ("Tables and the journal", from "In demand 3") and of document 02, wishes 2 and 6.
 use mathlib.Core.Path.{_≡_}
 use mathlib.Core.Option.{some}
 use mathlib.Core.List.{List}
@@ -7,6 +7,7 @@ use Prim.Native.Nat.{ℕ, _-_, _≤_}
 use lib.ListN.{length, take, drop, replicate}
 use Rattle.definitions.specs.Bytes.{linesOf, linesBytes}
 use Rattle.definitions.specs.Journal.{Record, oldSide, upToLine, afterLine, recordsOf}
+use Rattle.definitions.specs.Arranging.{arrange}
 use Rattle.definitions.specs.Given.{Carried}
 use Rattle.theorems.specs.Each.{Each}
 use Rattle.theorems.specs.Demand3.{Agree, Passes, unreadAs, standing}
@@ -60,6 +61,8 @@ pub record Demand3 (table script : List ℕ) (budget : ℕ) (buffer : List ℕ) 
   -- the old side of the journal is exactly the table, line by line and byte by byte
   pub old : oldSide journal ≡ linesOf table
   pub old-bytes : linesBytes (oldSide journal) ≡ table
+  -- the journal is arranged (wish 6): to arrange it changes nothing
+  pub arranged : arrange journal ≡ journal
   -- no source line beyond the furthest line read is marked other than kept; or, where the run is done, other than the globals that stand at its end leave it
   pub after : LeftAfter (valuesOf r .furthest) (standing table script budget (length buffer)) table r journal
   -- Any other accepted call with a table that agrees with this one up to the furthest line read, the same script and budget, any work area and any journal

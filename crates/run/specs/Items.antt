@@ -13,7 +13,7 @@ use Rattle.definitions.specs.StepProgram.{state}
 use Rattle.definitions.specs.Edit.{step}
 use Rattle.definitions.specs.Control.{Item, running}
 use Rattle.definitions.specs.Script.{items as items-of}
-use Rattle.definitions.specs.Run.{End, end, run, runItems, Answer as Answered, answer, refusal, answerOf, openingLength, ranScript}
+use Rattle.definitions.specs.Run.{End, end, run, runItems, Answer as Answered, answer, refusal, inRunOrder, arranged, openingLength, ranScript}
 use Rattle.theorems.specs.GoodItems.{goodOp}
 use Rattle.theorems.specs.Runs.{ItemsOf}
 use Rattle.control.specs.Items.{Startable}
@@ -64,7 +64,7 @@ NoneStands script w last = StandingBelow script w last noGlobals
 
 -- ---- the unread lines of a done run (document 02, wish 2; W2.11, W2.12)
 
--- the end r, and the run's answer: number, steps, place, and the records that the buffer holds; f is the furthest line read
+-- the end r, and the run's answer: number, steps, place, and the records that the buffer holds, in the run's order; f is the furthest line read
 unfoldable pub EndsIn : List ℕ → ℕ → Ended → Answered → Type 0
 EndsIn j f r (answer number steps furthest place rs) =
     (r .number ≡ number) × (r .steps ≡ steps) × (f ≡ furthest) × (r .place ≡ place) × HoldsAll j (r .st) rs × (number ≡ 0 → place ≡ 0)
@@ -77,11 +77,11 @@ SomeEnd script w j r = (x : End) × (t : Tape) × Ends script w j r x t
 -- what a function answers that passed the unread lines of the run that ended so, where it is done; the buffer is k then
 abbrev pub PassesUnread : List ℕ → List ℕ → List ℕ → Ended → List ℕ → Ended → Type 0
 PassesUnread script w j r k z =
-    (x : End) (t : Tape) → Ends script w j r x t → EndsIn k (r .st .furthest) z (answerOf (lent j) (length script) x t)
+    (x : End) (t : Tape) → Ends script w j r x t → EndsIn k (r .st .furthest) z (inRunOrder (lent j) (length script) x t)
 
--- what a function answers that closed the journal, and the bytes of its buffer then
+-- what a function answers that closed the journal, and the bytes of its buffer then: the records are arranged (document 02, wish 6)
 abbrev pub GivesClosed : List ℕ → ℕ → Ended → Answer → List ℕ → Type 0
-GivesClosed j f r z bytes = (buffer : List ℕ) (a : Answered) → length buffer ≡ length j → EndsIn j f r a → Gives buffer a z bytes
+GivesClosed j f r z bytes = (buffer : List ℕ) (a : Answered) → length buffer ≡ length j → EndsIn j f r a → Gives buffer (arranged a) z bytes
 
 -- ---- the whole run
 

@@ -65,7 +65,7 @@ fn run_opened(
     requires { ⌜ Opening (now table) (now journal) × CanRun (now script) (now work) end budget ⌝ }
     ensures { λ r. ⌜ RunsTable (now (script .entry)) (now (work .entry)) end budget (now (table .entry)) (now (journal .entry)) (now (work .exit)) (now (journal .exit)) r ⌝ }
 {
-    let st = editor::ends::open_journal(table, journal);
+    let st = editor::start::open_journal(table, journal);
     globals::forget(work);
     run_items(script, table, work, end, budget, journal, st)
 }
@@ -98,14 +98,14 @@ fn pass_unread(script: &[u8], work: &[u32], journal: &mut [u8], ended: Ended) ->
     }
 }
 
-// The answer, and the journal at the start of its buffer.
+// The answer, and the arranged journal at the start of its buffer.
 fn close(journal: &mut [u8], ended: Ended, furthest: usize) -> Answer
     requires { ⌜ ((b : List Record) × (a : List Record) × Holds (now journal) (ended .st) b a) ⌝ }
     ensures { λ r. ⌜ GivesClosed (now (journal .entry)) furthest ended r (now (journal .exit)) ⌝ }
 {
     let number = ended.number;
     let steps = ended.steps;
-    let length = editor::ends::close_journal(journal, ended.st);
+    let length = closing::close_journal(journal, ended.st);
     if number == 0 {
         return Answer::Done {
             steps,

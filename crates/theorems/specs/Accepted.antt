@@ -15,7 +15,7 @@ use Rattle.definitions.specs.Reading.{Ran, gave, stopped, readTo}
 use Rattle.definitions.specs.StepProgram.{state}
 use Rattle.definitions.specs.Control.{Item}
 use Rattle.definitions.specs.Script.{Script, items, refusedAt, readScript}
-use Rattle.definitions.specs.Run.{End, end, Answer, refusal, restPassed, answerOf, ranItems, openingLength, workLength, ranTable, ranScript, runAnswer}
+use Rattle.definitions.specs.Run.{End, end, Answer, refusal, restPassed, inRunOrder, arranged, answerOf, ranItems, openingLength, workLength, ranTable, ranScript, runAnswer}
 use Rattle.theorems.specs.Demand3.{IsTableAccepted, IsAccepted}
 
 -- what is not refused is no refusal
@@ -110,15 +110,15 @@ accepted-asks table script budget work size h = by (readScript script) refl
       room = has-room table script budget work size is e h;
     }
 
-rest-accepted : (steps place : ℕ) (e : Ed) (t : Tape) (r : Ran (Unit {0})) → IsAccepted (restPassed steps place e t r)
-unfolding IsAccepted restPassed
+rest-accepted : (steps place : ℕ) (e : Ed) (t : Tape) (r : Ran (Unit {0})) → IsAccepted (arranged (restPassed steps place e t r))
+unfolding IsAccepted restPassed arranged
 rest-accepted steps place e t (gave u all) = tt
 rest-accepted steps place e t (stopped n e′) = tt
 
 answer-accepted : (g : Given) (place : ℕ) (x : End) (t : Tape) → IsAccepted (answerOf g place x t)
-unfolding answerOf
+unfolding answerOf inRunOrder
 answer-accepted g place (end zero steps at (state e c)) t = rest-accepted steps place e t ((readTo g c eof e t) .0)
-answer-accepted g place (end (suc n) steps at s) t = unfold IsAccepted in tt
+answer-accepted g place (end (suc n) steps at s) t = unfold IsAccepted arranged in tt
 
 asked-script : (table script : List ℕ) (budget work size : ℕ) (is : List Item) → isScript script ≡ true → readScript script ≡ items is → Asked table script work size
     → IsAccepted (runAnswer table script budget work size)

@@ -9,6 +9,7 @@ use lib.Dec.{leb}
 use Rattle.definitions.specs.Bytes.{Line, linesOf}
 use Rattle.definitions.specs.Table.{isTable, isScript}
 use Rattle.definitions.specs.Journal.{Record}
+use Rattle.definitions.specs.Arranging.{arrange}
 use Rattle.definitions.specs.Tape.{Tape, unread, ended, restLines}
 use Rattle.definitions.specs.Given.{Given, given, bytes, Carried}
 use Rattle.definitions.specs.Editor.{Ed, records, journal, eof}
@@ -17,7 +18,7 @@ use Rattle.definitions.specs.StepProgram.{RunState, state, textOf}
 use Rattle.definitions.specs.Edit.{step}
 use Rattle.definitions.specs.Control.{Item}
 use Rattle.definitions.specs.Script.{Script, items, refusedAt, readScript}
-use Rattle.definitions.specs.Run.{End, end, runItems, Answer, answer, refusal, restPassed, answerOf, ranItems, openingLength, workLength, ranTable, ranScript, runAnswer, answerRecords}
+use Rattle.definitions.specs.Run.{End, end, runItems, Answer, answer, refusal, restPassed, inRunOrder, arranged, answerOf, ranItems, openingLength, workLength, ranTable, ranScript, runAnswer, answerRecords}
 use Rattle.theorems.specs.Reading.{At}
 use Rattle.theorems.specs.ComesTo.{Keeping}
 use Rattle.theorems.specs.Runs.{AtEnd}
@@ -28,22 +29,22 @@ abbrev pub Shown : (List Record → Type 0) → Answer → Type 0
 Shown P (answer n steps f at j) = P j
 Shown P (refusal n at) = Unit {0}
 
--- `I` holds at the run's end, and reading the lines that are left keeps it; then `P` holds of the journal
-module _ (I : RunState → Tape → Type 0) (P : List Record → Type 0) (shows : (s : RunState) (t : Tape) → I s t → P (journal (textOf s) t)) (g : Given)
+-- `I` holds at the run's end, and reading the lines that are left keeps it, and `P` of the journal, arranging too; then `P` holds of the run's journal
+module _ (I : RunState → Tape → Type 0) (P : List Record → Type 0) (shows : (s : RunState) (t : Tape) → I s t → P (journal (textOf s) t)) (stays : (rs : List Record) → P rs → P (arrange rs)) (g : Given)
     (reads : (e : Ed) (c : Carried) (t : Tape) → I (state e c) t → At (Keeping (λ e′ t′. I (state e′ c) t′)) (readTo g c eof e t)) where
   rest-shown : (place steps : ℕ) (e : Ed) (c : Carried) (t : Tape) → I (state e c) t → (r : Ran (Unit {0})) (t′ : Tape) → AllRead r t′ → Keeping (λ e′ u. I (state e′ c) u) r t′
-      → Shown P (restPassed steps place e t r)
-  unfolding restPassed
-  rest-shown place steps e c t i (gave u all) t′ q h = by t′ q (shows (state all c) t′ h)
+      → Shown P (arranged (restPassed steps place e t r))
+  unfolding restPassed arranged
+  rest-shown place steps e c t i (gave u all) t′ q h = stays (records all) (by t′ q (shows (state all c) t′ h))
     where
       by : (u : Tape) → u ≡ ended → P (journal (textOf (state all c)) u) → P (records all)
       by u p k = unfold journal textOf restLines in (rw (append-nil (records all)) at (rw p at k))
-  rest-shown place steps e c t i (stopped n e′) t′ q h = unfold textOf in (shows (state e c) t i)
+  rest-shown place steps e c t i (stopped n e′) t′ q h = stays (journal e t) (unfold textOf in (shows (state e c) t i))
 
   end-shown : (place : ℕ) (x : End) (t : Tape) → AtEnd I x t → Shown P (answerOf g place x t)
-  unfolding answerOf
-  end-shown place (end zero steps at (state e c)) t h = rest-shown place steps e c t h ((readTo g c eof e t) .0) ((readTo g c eof e t) .1) (rest-read g c e t) (reads e c t h)
-  end-shown place (end (suc n) steps at s) t h = shows s t h
+  unfolding answerOf inRunOrder arranged
+  end-shown place (end zero steps at (state e c)) t h = unfold arranged in (rest-shown place steps e c t h ((readTo g c eof e t) .0) ((readTo g c eof e t) .1) (rest-read g c e t) (reads e c t h))
+  end-shown place (end (suc n) steps at s) t h = stays (journal (textOf s) t) (shows s t h)
 
   pub ran-shown : (place budget : ℕ) (is : List Item) (ls : List Line)
       → AtEnd I ((runItems (step g) budget is (unread ls)) .0) ((runItems (step g) budget is (unread ls)) .1) → Shown P (ranItems g place budget is ls)

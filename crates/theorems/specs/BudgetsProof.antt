@@ -11,6 +11,7 @@ use lib.ListN.{length}
 use lib.Dec.{leb}
 use borrow.Author.Tests.{leb-true, leb-false}
 use Rattle.definitions.specs.Bytes.{Line, linesOf}
+use Rattle.definitions.specs.Arranging.{arrange}
 use Rattle.definitions.specs.Tape.{Tape, unread, Reads, bind}
 use Rattle.definitions.specs.Given.{Given, given, bytes, noGlobals}
 use Rattle.definitions.specs.Editor.{Ed, journal, furthest, stopNumber, eof}
@@ -19,7 +20,7 @@ use Rattle.definitions.specs.StepProgram.{RunState, state, textOf, Out, on, edi
 use Rattle.definitions.specs.Edit.{Op, step}
 use Rattle.definitions.specs.Control.{Item, Ctl, running, Pull, finished, want, lost, pull}
 use Rattle.definitions.specs.Script.{items, readScript}
-use Rattle.definitions.specs.Run.{End, end, choose, endPlace, spent, stepped, stepping, run, runItems, Answer, answer, refusal, restPassed, answerOf, ranItems, runAnswer}
+use Rattle.definitions.specs.Run.{End, end, choose, endPlace, spent, stepped, stepping, run, runItems, Answer, answer, refusal, restPassed, inRunOrder, arranged, answerOf, ranItems, runAnswer}
 use Rattle.definitions.specs.Run.{answerNumber, answerSteps, answerFurthest, answerPlace, outcomeFrom, outcomeOf}
 use Rattle.theorems.specs.Reading.{At}
 use Rattle.theorems.specs.Runs.{EndOf}
@@ -43,25 +44,25 @@ not-29 n (inl q) e = omega (arith, q, e)
 not-29 n (inr h) e = h .2 e
 
 -- nor does a done run come to it among its unread lines, and it makes no steps there (W2.11)
-rest-29 : (steps place : ℕ) (e : Ed) (t : Tape) (r : Ran (Unit {0})) → answerNumber (restPassed steps place e t r) ≡ 29 → ⊥
-unfolding restPassed answerNumber
+rest-29 : (steps place : ℕ) (e : Ed) (t : Tape) (r : Ran (Unit {0})) → answerNumber (arranged (restPassed steps place e t r)) ≡ 29 → ⊥
+unfolding restPassed arranged answerNumber
 rest-29 steps place e t (gave u all) q = omega (arith, q)
 rest-29 steps place e t (stopped n e′) q = not-29 (stopNumber n) (stop-number n) q
 
-rest-steps : (steps place : ℕ) (e : Ed) (t : Tape) (r : Ran (Unit {0})) → answerSteps (restPassed steps place e t r) ≡ steps
-unfolding restPassed answerSteps
+rest-steps : (steps place : ℕ) (e : Ed) (t : Tape) (r : Ran (Unit {0})) → answerSteps (arranged (restPassed steps place e t r)) ≡ steps
+unfolding restPassed arranged answerSteps
 rest-steps steps place e t (gave u all) = refl
 rest-steps steps place e t (stopped n e′) = refl
 
 module _ (g : Given) (place : ℕ) where
   answer-29 : (x : End) (t : Tape) → answerNumber (answerOf g place x t) ≡ 29 → endNumber x ≡ 29
-  unfolding answerNumber answerOf endNumber
-  answer-29 (end zero steps at (state e c)) t q = absurd (rest-29 steps place e t ((readTo g c eof e t) .0) (unfold answerNumber in q))
+  unfolding answerNumber answerOf inRunOrder arranged endNumber
+  answer-29 (end zero steps at (state e c)) t q = absurd (rest-29 steps place e t ((readTo g c eof e t) .0) (unfold answerNumber arranged in q))
   answer-29 (end (suc n) steps at s) t q = q
 
   answer-steps : (x : End) (t : Tape) → answerSteps (answerOf g place x t) ≡ endSteps x
-  unfolding answerSteps answerOf endSteps
-  answer-steps (end zero steps at (state e c)) t = unfold answerSteps in (rest-steps steps place e t ((readTo g c eof e t) .0))
+  unfolding answerSteps answerOf inRunOrder arranged endSteps
+  answer-steps (end zero steps at (state e c)) t = unfold answerSteps arranged in (rest-steps steps place e t ((readTo g c eof e t) .0))
   answer-steps (end (suc n) steps at s) t = refl
 
 module _ (take-step : Op → RunState → Reads Out) where
@@ -202,8 +203,8 @@ module _ (g : Given) (place budget : ℕ) (p : Pause) where
   reach = furthest (textOf (p .text)) (p .lines)
 
   -- none: it stops with 29 there
-  from-none : answerFrom g place 0 budget p ≡ answer 29 budget reach (p .place) (journal (textOf (p .text)) (p .lines))
-  unfolding answerFrom run spent answerOf
+  from-none : answerFrom g place 0 budget p ≡ answer 29 budget reach (p .place) (arrange (journal (textOf (p .text)) (p .lines)))
+  unfolding answerFrom run spent answerOf inRunOrder arranged
   from-none = rw (p .wanted)
 
   -- some: the step is made
@@ -268,7 +269,7 @@ module _ (table script : List ℕ) (work size : ℕ) where
   more-is budget larger le = ap under (omega (arith, le))
 
   module _ (budget : ℕ) (p : Pause) (r : there budget ≡ some (pointOf p)) (h : (more : ℕ) → under (budget + more) ≡ from more budget p) where
-    stops : under budget ≡ answer 29 budget (furthest (textOf (p .text)) (p .lines)) (p .place) (journal (textOf (p .text)) (p .lines))
+    stops : under budget ≡ answer 29 budget (furthest (textOf (p .text)) (p .lines)) (p .place) (arrange (journal (textOf (p .text)) (p .lines)))
     stops = sym (none-more budget) ∙ h 0 ∙ from-none (given (bytes size)) (length script) budget p
 
     goes : (larger : ℕ) → budget < larger → Further budget larger

@@ -1,5 +1,5 @@
 -- Demand 3, as one statement over the whole run. The terms are document 01's: "Tables and the journal", from "In demand 3"; and document 02's, wish 2: the lines
--- that a done run leaves unread.
+-- that a done run leaves unread; wish 6: the journal is arranged, and "the journal up to a line" is that of the arranged one (W6.5).
 use mathlib.Core.Path.{_≡_}
 use mathlib.Core.Bool.{true}
 use mathlib.Core.Option.{some}
@@ -9,6 +9,7 @@ use lib.ListN.{length, take, drop, replicate}
 use Rattle.definitions.specs.Bytes.{Line, linesOf, linesBytes}
 use Rattle.definitions.specs.Table.{isTable}
 use Rattle.definitions.specs.Journal.{Record, kept, change, oldSide, upToLine, afterLine, journalBytes, recordsOf}
+use Rattle.definitions.specs.Arranging.{arrange}
 use Rattle.definitions.specs.Tape.{unread}
 use Rattle.definitions.specs.Given.{given, bytes, Carried, noGlobals}
 use Rattle.definitions.specs.Globals.{leftBy}
@@ -108,6 +109,8 @@ module _ (table script : List ℕ) (budget work size : ℕ) where
     -- the old side of the journal is exactly the table
     pub old : oldSide (answerRecords ran) ≡ linesOf table
     pub old-bytes : linesBytes (oldSide (answerRecords ran)) ≡ table
+    -- the journal is arranged: to arrange it changes nothing
+    pub arranged : arrange (answerRecords ran) ≡ answerRecords ran
     -- no source line beyond the furthest line read is marked other than kept; or, where the run is done, other than the globals that stand at its end leave it
     pub after : LeftAfter reach stands (linesOf table) ran
     -- Lines that are not read change nothing: an accepted table that agrees with this one up to the furthest line read has the same end and

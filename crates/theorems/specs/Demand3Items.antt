@@ -9,6 +9,7 @@ use lib.ListN.{length, take, drop, take-append-drop}
 use lib.Seq.{take-append-seam, drop-append-seam}
 use Rattle.definitions.specs.Bytes.{Line, eqLine}
 use Rattle.definitions.specs.Journal.{Record, kept, changed, deleted, inserted, change, oldOf, oldSide, upToLine, afterLine}
+use Rattle.definitions.specs.Arranging.{arrangeFrom, arrange}
 use Rattle.definitions.specs.Tape.{Tape, unread, ended, restLines, Reads}
 use Rattle.definitions.specs.Given.{given, bytes, Given, Carried, noGlobals}
 use Rattle.definitions.specs.Globals.{leftBy}
@@ -17,12 +18,12 @@ use Rattle.definitions.specs.Reading.{opening}
 use Rattle.definitions.specs.StepProgram.{RunState, state, textOf, Out, on, edited, halt}
 use Rattle.definitions.specs.Edit.{step}
 use Rattle.definitions.specs.Control.{Item, Ctl, running, Pull, finished, want, lost, pull}
-use Rattle.definitions.specs.Run.{End, end, choose, endPlace, spent, stepped, stepping, run, runItems, Answer, answer, answerOf, ranItems}
+use Rattle.definitions.specs.Run.{End, end, choose, endPlace, spent, stepped, stepping, run, runItems, Answer, answer, refusal, inRunOrder, arranged, answerOf, ranItems}
 use Rattle.definitions.specs.Run.{answerNumber, answerSteps, answerFurthest, answerPlace, answerRecords}
 use Rattle.theorems.specs.Each.{Each}
 use Rattle.theorems.specs.Reading.{Local, metEof, readOnly, Faithful, never, ret-faithful, bind-faithful}
 use Rattle.theorems.specs.RecordLaws.{old-append, old-kept}
-use Rattle.theorems.specs.OldSide.{journal-old}
+use Rattle.theorems.specs.ArrangeLaws.{arrange-old, arrange-again}
 use Rattle.theorems.specs.Step.{oldEd, oldState, oldOut, fullOut, stepFree, step-faithful, opening-faithful}
 use Rattle.theorems.specs.Demand3.{IsNotFull, IsCompared, Agree, agreeUpTo, areEqual, SameUpTo, Passes, leftAs, unreadAs, LeftAfter, standingAt}
 use Rattle.theorems.specs.Rest.{Comes, asTold, stopsLate, lastAnswer, lateStop, answer-comes}
@@ -163,14 +164,18 @@ unfolding furthest sources restLines oldEd
 drop-read e (unread v) = drop-append-seam (oldSide (records e)) v
 drop-read e ended = rw (append-nil (oldSide (records e))) (drop-over (oldSide (records e)))
 
-after-read : (n : ℕ) (c : Carried) (e : Ed) (t : Tape) → afterLine (furthest e t) (records e ++ unreadAs n c (restLines t)) ≡ unreadAs n c (restLines t)
+-- arranging leaves the old side, and so the number of source lines
+arranged-lines : (rs : List Record) → length (oldSide rs) ≡ length (oldSide (arrange rs))
+arranged-lines rs = ap length (sym (arrange-old rs))
+
+after-read : (n : ℕ) (c : Carried) (e : Ed) (t : Tape) → afterLine (furthest e t) (arrange (records e) ++ unreadAs n c (restLines t)) ≡ unreadAs n c (restLines t)
 unfolding furthest sources restLines
-after-read n c e (unread v) = after-records (records e) (unreadAs n c v) (rest-starts n c v)
-after-read n c e ended = rw (rest-none n c, append-nil (records e)) (after-all (records e))
+after-read n c e (unread v) = rw (arranged-lines (records e)) (after-records (arrange (records e)) (unreadAs n c v) (rest-starts n c v))
+after-read n c e ended = rw (rest-none n c, append-nil (arrange (records e)), arranged-lines (records e)) (after-all (arrange (records e)))
 
 -- what follows the furthest line
 told-after : (n steps at : ℕ) (e : Ed) (c : Carried) (t : Tape) → (n ≡ 0 → Each (Passes c) (restLines t))
-    → LeftAfter (furthest e t) c (oldEd e ++ restLines t) (answer n steps (furthest e t) at (records e ++ unreadAs n c (restLines t)))
+    → LeftAfter (furthest e t) c (oldEd e ++ restLines t) (answer n steps (furthest e t) at (arrange (records e) ++ unreadAs n c (restLines t)))
 told-after n steps at e c t p = unfold answerNumber answerRecords in (record {
   rest = after-read n c e t ∙ ap (unreadAs n c) (sym (drop-read e t));
   passed = λ q. rw (drop-read e t) (p q);
@@ -183,20 +188,29 @@ stop-above k (inl q) = (24, rw q)
 stop-above k (inr q) = (25, rw q)
 
 late-after : (k : Stop) → (k ≡ n25) ⊎ (k ≡ n26) → (place steps : ℕ) (e : Ed) (c : Carried) (t : Tape)
-    → LeftAfter (furthest e t) c (oldEd e ++ restLines t) (answer (stopNumber k) steps (furthest e t) place (journal e t))
-unfolding journal
+    → LeftAfter (furthest e t) c (oldEd e ++ restLines t) (answer (stopNumber k) steps (furthest e t) place (arrange (records e) ++ map kept (restLines t)))
 late-after k why place steps e c t = by (stopNumber k) ((stop-above k why) .0) ((stop-above k why) .1)
   where
-    by : (n m : ℕ) → n ≡ suc m → LeftAfter (furthest e t) c (oldEd e ++ restLines t) (answer n steps (furthest e t) place (records e ++ map kept (restLines t)))
+    by : (n m : ℕ) → n ≡ suc m → LeftAfter (furthest e t) c (oldEd e ++ restLines t) (answer n steps (furthest e t) place (arrange (records e) ++ map kept (restLines t)))
     by n m q = rw q (unfold unreadAs in (told-after (suc m) steps place e c t (λ z. absurd (omega (arith, z)))))
+
+-- the old side of what is read, arranged, and of the lines after it
+read-old : (rs xs : List Record) (ls : List Line) → oldSide xs ≡ ls → oldSide (arrange rs ++ xs) ≡ oldSide rs ++ ls
+read-old rs xs ls q = old-append (arrange rs) xs ∙ ap (λ (z : List Line). z ++ oldSide xs) (arrange-old rs) ∙ ap (λ (z : List Line). oldSide rs ++ z) q
 
 answer-old : (g : Given) (place : ℕ) (x : End) (t : Tape) → oldSide (answerRecords (answerOf g place x t)) ≡ oldEnd x ++ restLines t
 answer-old g place x t = by x (answerOf g place x t) (answer-comes g place x t)
   where
     by : (y : End) (a : Answer) → Comes place y t a → oldSide (answerRecords a) ≡ oldEnd y ++ restLines t
     by (end n steps at (state e c)) a (asTold q p) =
-        rw q (unfold lastAnswer answerRecords oldEnd oldState oldEd in (old-append (records e) (unreadAs n c (restLines t)) ∙ ap (λ (z : List Line). oldSide (records e) ++ z) (rest-old n c (restLines t))))
-    by (end n steps at (state e c)) a (stopsLate k why done q) = rw q (unfold lateStop answerRecords oldEnd oldState in (journal-old e t))
+        rw q (unfold lastAnswer answerRecords oldEnd oldState oldEd in (read-old (records e) (unreadAs n c (restLines t)) (restLines t) (rest-old n c (restLines t))))
+    by (end n steps at (state e c)) a (stopsLate k why done q) =
+        rw q (unfold lateStop answerRecords oldEnd oldState oldEd in (read-old (records e) (map kept (restLines t)) (restLines t) (old-kept (restLines t))))
+
+answer-arranged : (a : Answer) → arrange (answerRecords (arranged a)) ≡ answerRecords (arranged a)
+unfolding arranged answerRecords arrange arrangeFrom
+answer-arranged (answer n steps f at rs) = unfold arrange in (arrange-again rs)
+answer-arranged (refusal n at) = refl
 
 answer-after : (g : Given) (place : ℕ) (x : End) (t : Tape) → LeftAfter (answerFurthest (answerOf g place x t)) (standingAt x) (oldEnd x ++ restLines t) (answerOf g place x t)
 answer-after g place x t = by x (answerOf g place x t) (answer-comes g place x t)
@@ -208,7 +222,7 @@ answer-after g place x t = by x (answerOf g place x t) (answer-comes g place x t
         rw q (unfold lateStop answerFurthest standingAt oldEnd oldState in (late-after k why place steps e c t))
 
 answer-full : (g : Given) (place : ℕ) (x : End) (t : Tape) → fullEnd x → answerNumber (answerOf g place x t) ≡ 26
-unfolding answerOf answerNumber fullEnd
+unfolding answerOf inRunOrder arranged answerNumber fullEnd
 answer-full g place (end zero steps at (state e c)) t x = absurd (omega (arith, x))
 answer-full g place (end (suc n) steps at s) t x = x
 
@@ -238,6 +252,10 @@ compared-told g script x t = by x (answerOf g (length script) x t) (answer-comes
     by (end n steps at (state e c)) a (stopsLate k (inl z) done q) h = absurd (h .not-after (rw (q, z) (unfold lateStop answerNumber stopNumber in refl)) (rw q (unfold lateStop answerPlace in refl)))
     by (end n steps at (state e c)) a (stopsLate k (inr z) done q) h = absurd (h .not-full (rw (q, z) (unfold lateStop answerNumber stopNumber in refl)))
 
+-- the journal up to the furthest line is what was read, arranged by itself
+upTo-read : (rs xs : List Record) → Starts xs → upToLine (length (oldSide rs)) (arrange rs ++ xs) ≡ arrange rs
+upTo-read rs xs h = rw (arranged-lines rs) (upTo-records (arrange rs) xs h)
+
 -- the same last state, with other lines unread
 told-same : (x : End) (v w : List Line) → SameUpTo (length (oldEnd x)) (lastAnswer x (unread v)) (lastAnswer x (unread w))
 unfolding lastAnswer answerNumber answerSteps answerFurthest answerPlace answerRecords furthest sources restLines oldEnd oldEd oldState
@@ -246,7 +264,7 @@ told-same (end n steps at (state e c)) v w = record {
   place = refl;
   steps = refl;
   furthest = refl;
-  journal = upTo-records (records e) (unreadAs n c w) (rest-starts n c w) ∙ sym (upTo-records (records e) (unreadAs n c v) (rest-starts n c v));
+  journal = upTo-read (records e) (unreadAs n c w) (rest-starts n c w) ∙ sym (upTo-read (records e) (unreadAs n c v) (rest-starts n c v));
 }
 
 pub same-refl : (f : ℕ) (a b : Answer) → b ≡ a → SameUpTo f a b
@@ -303,6 +321,10 @@ module _ (script : List ℕ) (budget : ℕ) (is : List Item) where
   pub items-old : (size : ℕ) (ls : List Line) → oldSide (answerRecords (ran size ls)) ≡ ls
   unfolding ranItems
   items-old size ls = answer-old (given (bytes size)) (length script) ((lim size ls) .0) ((lim size ls) .1) ∙ keeps-lim size ls
+
+  pub items-arranged : (size : ℕ) (ls : List Line) → arrange (answerRecords (ran size ls)) ≡ answerRecords (ran size ls)
+  unfolding ranItems answerOf
+  items-arranged size ls = answer-arranged (inRunOrder (given (bytes size)) (length script) ((lim size ls) .0) ((lim size ls) .1))
 
   pub items-after : (size : ℕ) (ls : List Line) → LeftAfter (answerFurthest (ran size ls)) (stand size ls) ls (ran size ls)
   unfolding ranItems

@@ -1,12 +1,12 @@
--- What demand 3 cannot do without: each hypothesis, the furthest line itself, and the globals that stand at a done run's end. Each statement is false where one of them is
--- left out.
+-- What demand 3 cannot do without: each hypothesis, the furthest line itself, the globals that stand at a done run's end, and document 01's end of "the journal up to a
+-- line". Each statement is false where one of them is left out.
 use mathlib.Core.Path.{_≡_, refl, sym, ap, _∙_}
 use mathlib.Core.List.{List, [], _∷_, map}
-use Prim.Native.Nat.{ℕ, suc, _-_, _≤_}
+use Prim.Native.Nat.{ℕ, zero, suc, _-_, _≤_}
 use native.Mathlib.Omega.{arith}
 use lib.ListN.{length, drop}
 use Rattle.definitions.specs.Bytes.{Line, bytes, linesOf}
-use Rattle.definitions.specs.Journal.{Record, kept, changed, inserted, afterLine, journalLength}
+use Rattle.definitions.specs.Journal.{Record, kept, changed, deleted, inserted, afterLine, journalLength}
 use Rattle.definitions.specs.Given.{Carried}
 use Rattle.definitions.specs.Run.{Answer, answer, runAnswer, answerNumber, answerFurthest, answerPlace, answerRecords}
 use Rattle.definitions.specs.Everything.{everything}
@@ -261,3 +261,41 @@ stopped-differs h =
 pub stopped-kept : After (λ f. f) (λ n c ls. unreadAs 0 c ls) → ⊥
 unfolding answerFurthest answerRecords
 stopped-kept after = stopped-differs (rw stopped-is at (after (bytes "a\nb\n") stopping 9 99 99 (tells stopWith 22 2 1 10 _ stopped-is .accepted)))
+
+-- ---- "the journal up to a line" ends before the next source line's record (document 02, wish 6; W6.5)
+
+-- what stands directly after the record of source line n
+unfoldable pub afterRecord : ℕ → List Record → List Record
+afterRecord n [] = []
+afterRecord zero (r ∷ rs) = r ∷ rs
+afterRecord (suc n) (kept l ∷ rs) = afterRecord n rs
+afterRecord (suc n) (changed o m ∷ rs) = afterRecord n rs
+afterRecord (suc n) (deleted l ∷ rs) = afterRecord n rs
+afterRecord (suc n) (inserted l ∷ rs) = afterRecord (suc n) rs
+
+-- the second part of demand 3 where the journal up to the furthest line ends with the record of that line itself
+abbrev pub DirectlyAfter : Type 0
+DirectlyAfter =
+    (table script : List ℕ) (budget work size : ℕ) → let ran = runAnswer table script budget work size in
+    IsAccepted ran → afterRecord (answerFurthest ran) (answerRecords ran) ≡ unreadAs (answerNumber ran) (standing table script budget size) (drop (answerFurthest ran) (linesOf table))
+
+-- CL joins the inserted line and the furthest line read, which it deletes: the `++` follows that line's `--`
+abbrev joining : List ℕ
+joining = bytes "IS/x/; P; CL//\n"
+
+abbrev joined : Answer
+joined = runAnswer (bytes "a\nb\n") joining 9 99 99
+
+joined-is : joined ≡ answer 0 3 1 0 (deleted (bytes "a") ∷ inserted (bytes "xa") ∷ kept (bytes "b") ∷ [])
+unfolding everything
+joined-is = refl
+
+joined-differs : afterRecord 1 (deleted (bytes "a") ∷ inserted (bytes "xa") ∷ kept (bytes "b") ∷ []) ≡ unreadAs 0 (standing (bytes "a\nb\n") joining 9 99) (drop 1 (linesOf (bytes "a\nb\n"))) → ⊥
+unfolding everything afterRecord standing standingOf standingAt unreadAs leftAs
+joined-differs h =
+    let e : _≡_ {A = ℕ} 9 4 = ap journalLength h in
+    omega (arith, e)
+
+pub not-directly-after : DirectlyAfter → ⊥
+unfolding answerFurthest answerRecords answerNumber
+not-directly-after after = joined-differs (rw joined-is at (after (bytes "a\nb\n") joining 9 99 99 (tells joined 0 3 1 0 _ joined-is .accepted)))

@@ -5,6 +5,7 @@ use Prim.Native.Nat.{ℕ, _-_, _≤_}
 use lib.ListN.{length, drop, replicate}
 use Rattle.definitions.specs.Bytes.{Line, linesOf, linesBytes}
 use Rattle.definitions.specs.Journal.{Record, oldSide, upToLine, journalBytes}
+use Rattle.definitions.specs.Arranging.{arrange}
 use Rattle.definitions.specs.Given.{given, bytes, Carried}
 use Rattle.definitions.specs.Control.{Item}
 use Rattle.definitions.specs.Script.{Script, items, refusedAt, readScript}
@@ -12,7 +13,7 @@ use Rattle.definitions.specs.Run.{Answer, answer, refusal, ranItems, runAnswer,
 use Rattle.theorems.specs.Demand3.{IsAccepted, IsCompared, Agree, SameUpTo, unreadAs, LeftAfter, standingOf, standing, Demand3, DemandThree}
 use Rattle.theorems.specs.Accepted.{ran-accepted, no-refusal, is-table, has-room}
 use Rattle.theorems.specs.RecordLaws.{upTo-after}
-use Rattle.theorems.specs.Demand3Items.{items-old, items-after, items-same}
+use Rattle.theorems.specs.Demand3Items.{items-old, items-arranged, items-after, items-same}
 use Rattle.theorems.specs.Fits.{journal-append, items-fit}
 use Rattle.theorems.specs.JournalBytes.{journal-length, table-reads-back}
 use Rattle.theorems.specs.Answers.{Shown}
@@ -46,6 +47,10 @@ module _ (script : List ℕ) (budget : ℕ) (is : List Item) (e : readScript scr
       → oldSide (answerRecords (runAnswer table script budget work size)) ≡ linesOf table
   old-of table work size h = rw (of-items table work size h) (items-old script budget is size (linesOf table))
 
+  arranged-of : (table : List ℕ) (work size : ℕ) → IsAccepted (runAnswer table script budget work size)
+      → arrange (answerRecords (runAnswer table script budget work size)) ≡ answerRecords (runAnswer table script budget work size)
+  arranged-of table work size h = rw (of-items table work size h) (items-arranged script budget is size (linesOf table))
+
   after-of : (table : List ℕ) (work size : ℕ) → IsAccepted (runAnswer table script budget work size)
       → LeftAfter (answerFurthest (runAnswer table script budget work size)) (standing table script budget size) (linesOf table) (runAnswer table script budget work size)
   unfolding standing
@@ -76,6 +81,7 @@ demand3 table script budget work size h = by (readScript script) refl
     by (items is) e = record {
       old = old-of script budget is e table work size h;
       old-bytes = ap linesBytes (old-of script budget is e table work size h) ∙ table-reads-back table (is-table table script budget work size is e h);
+      arranged = arranged-of script budget is e table work size h;
       after = after-of script budget is e table work size h;
       agreeing = λ table₂ work₂ size₂ h₂ agree compared compared₂.
           let ran : Answer = runAnswer table script budget work size in

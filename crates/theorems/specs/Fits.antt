@@ -21,6 +21,7 @@ use Rattle.theorems.specs.ComesTo.{Keeping, OnGot, ComesTo, to-keeps, ru
 use Rattle.theorems.specs.Passing.{line-comes-to}
 use Rattle.theorems.specs.Reading.{At}
 use Rattle.theorems.specs.Runs.{AfterStep, inner-all, items-all, runItems-keeps}
+use Rattle.theorems.specs.ArrangeLaws.{arrange-length}
 use Rattle.theorems.specs.Answers.{Shown, ran-shown}
 
 -- ---- a journal in two parts
@@ -205,7 +206,7 @@ pub items-fit : (size place budget : ℕ) (is : List Item) (ls : List Line) → 
 unfolding openingLength
 items-fit size place budget is ls le =
     let g : Given = given (bytes size) in
-    shown-fits size (ranItems g place budget is ls) (ran-shown (FitsState size) (λ j. journalLength j ≤ size) (λ s t h. h) g
+    shown-fits size (ranItems g place budget is ls) (ran-shown (FitsState size) (λ j. journalLength j ≤ size) (λ s t h. h) (λ rs h. rw (arrange-length rs) h) g
     (λ e c t h. unfold textOf in (to-keeps g c (FitsIn size) (line-fits size c) eof e t h)) place budget is ls
     (runItems-keeps (λ op. Unit {0}) (inner-all (λ op. Unit {0}) (λ op. tt)) (FitsState size) (step g) (λ op s t u. step-fits size op s t)
     budget is (unread ls) (items-all (λ op. Unit {0}) (λ op. tt) is) (unfold textOf in (rw (opening-journal ls) le))))

@@ -14,6 +14,7 @@ use Rattle.definitions.specs.Control.{Item}
 use Rattle.definitions.specs.Run.{ranItems}
 use Rattle.theorems.specs.Each.{Each, each-append, each-reverse, each-map}
 use Rattle.theorems.specs.Runs.{items-weaken}
+use Rattle.theorems.specs.ArrangeLaws.{arrange-each}
 use Rattle.theorems.specs.Answers.{Shown, ran-shown}
 use Rattle.theorems.specs.Changes.{HoldsState, rest-keeps, changes-keep}
 use Rattle.theorems.specs.JournalBytes.{IsLine, GoodRecord}
@@ -32,6 +33,6 @@ journal-good (state (ed before after p) c) t h =
 pub ran-good : (size place budget : ℕ) (items : List Item) (ls : List Line) → GoodItems items → Each IsLine ls → Shown GoodRecords (ranItems (given (bytes size)) place budget items ls)
 ran-good size place budget items ls k h =
     let g : Given = given (bytes size) in
-    ran-shown (HoldsState GoodGlobal Good) GoodRecords journal-good g (rest-keeps IsLine IsLineAfter GoodGlobal Good good-closed g) place budget items ls
+    ran-shown (HoldsState GoodGlobal Good) GoodRecords journal-good (arrange-each GoodRecord) g (rest-keeps IsLine IsLineAfter GoodGlobal Good good-closed g) place budget items ls
     (changes-keep IsLine IsLineAfter GoodGlobal Good good-closed g budget items (unread ls) inner-lines
     (items-weaken (λ op. goodOp op ≡ true) (λ op. WritesLines (program op)) good-lines items k) (tt, tt, unfold restLines in h))

@@ -1,5 +1,7 @@
 pub mod Each
 pub mod RecordLaws
+pub mod Arranged
+pub mod ArrangeLaws
 pub mod Lines
 pub mod Places
 pub mod JournalBytes
@@ -45,6 +47,7 @@ pub mod Demand3Proof
 pub mod Demand3Values
 pub mod Beyond
 pub mod Demand3Limits
+pub mod ArrangedUpTo
 pub mod Demand3Example
 pub mod ReadFar
 pub mod Reaching

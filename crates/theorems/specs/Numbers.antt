@@ -17,7 +17,7 @@ use Rattle.definitions.specs.StepProgram.{runs, RunState, state, Did, answers, 
 use Rattle.definitions.specs.Edit.{Op, program, step}
 use Rattle.definitions.specs.Control.{Item}
 use Rattle.definitions.specs.Script.{Script, items, refusedAt, readScript}
-use Rattle.definitions.specs.Run.{End, end, runItems, Answer, answer, refusal, restPassed, answerOf, ranItems, openingLength, workLength, ranTable, ranScript, runAnswer, answerNumber}
+use Rattle.definitions.specs.Run.{End, end, runItems, Answer, answer, refusal, restPassed, inRunOrder, arranged, answerOf, ranItems, openingLength, workLength, ranTable, ranScript, runAnswer, answerNumber}
 use Rattle.theorems.specs.ComesTo.{within-comes, one-comes}
 use Rattle.theorems.specs.Reading.{At}
 use Rattle.theorems.specs.Runs.{StepOr, EndOf, inner-all, items-all, runItems-ends}
@@ -96,15 +96,15 @@ step-ends g op s t = by ((step g op s t) .0) ((step g op s t) .1) (step-number g
     by (halt n x) u h = ends n h
 
 -- a done run has 0, or the number with which the globals stop after the script's end
-rest-numbered : (steps place : ℕ) (e : Ed) (t : Tape) (r : Ran (Unit {0})) → Numbered (restPassed steps place e t r)
-unfolding restPassed Numbered
+rest-numbered : (steps place : ℕ) (e : Ed) (t : Tape) (r : Ran (Unit {0})) → Numbered (arranged (restPassed steps place e t r))
+unfolding restPassed arranged Numbered
 rest-numbered steps place e t (gave u all) = inl refl
 rest-numbered steps place e t (stopped n e′) = ends (stopNumber n) (stop-number n)
 
 end-numbered : (g : Given) (place : ℕ) (x : End) (t : Tape) → EndOf Ends x t → Numbered (answerOf g place x t)
-unfolding answerOf
+unfolding answerOf inRunOrder
 end-numbered g place (end zero steps at (state e c)) t h = rest-numbered steps place e t ((readTo g c eof e t) .0)
-end-numbered g place (end (suc n) steps at s) t h = unfold Numbered in h
+end-numbered g place (end (suc n) steps at s) t h = unfold arranged Numbered in h
 
 items-numbered : (g : Given) (place budget : ℕ) (is : List Item) (ls : List Line) → Numbered (ranItems g place budget is ls)
 unfolding ranItems

@@ -1,22 +1,25 @@
 -- The lines that a done run leaves unread: they pass through the standing globals, all of them, or none where these stop (document 02, wish 2). So the answer of a run
 -- is one of two: what its last state tells, or a stop with 25 or 26 after the script's end.
 use mathlib.Core.Path.{_≡_, refl, sym, ap, _∙_}
-use mathlib.Core.Bool.{true, false}
+use mathlib.Core.Bool.{Bool, true, false, cond}
 use mathlib.Core.Logic.{_⊎_, inl, inr}
-use mathlib.Core.List.{List, [], _∷_, _++_, append-nil, append-assoc}
+use mathlib.Core.List.{List, [], _∷_, _++_, map, append-nil, append-assoc}
 use Prim.Native.Nat.{ℕ, zero, suc}
 use native.Mathlib.Omega.{arith}
 use lib.ListN.{length}
 use Rattle.definitions.specs.Bytes.{Line, eqLine}
 use Rattle.definitions.specs.Journal.{Record, kept, changed, change}
+use Rattle.definitions.specs.Arranging.{arrange}
 use Rattle.definitions.specs.Tape.{Tape, unread, ended, restLines, bind}
 use Rattle.definitions.specs.Given.{Given, Carried}
 use Rattle.definitions.specs.Globals.{leftBy}
-use Rattle.definitions.specs.Editor.{Ed, records, journal, furthest, Stop, n25, n26, stopNumber, got, stop, eof}
+use Rattle.definitions.specs.Editor.{Ed, records, journal, furthest, Stop, n25, n26, stopNumber, Got, got, stop, eof}
 use Rattle.definitions.specs.Reading.{Ran, gave, stopped, onceRead, seen, readLine, readLines, readTo}
 use Rattle.definitions.specs.StepProgram.{state, textOf}
-use Rattle.definitions.specs.Run.{End, end, endPlace, Answer, answer, restPassed, answerOf}
-use Rattle.theorems.specs.Each.{Each}
+use Rattle.definitions.specs.Run.{End, end, endPlace, Answer, answer, restPassed, inRunOrder, arranged, answerOf}
+use Rattle.theorems.specs.Each.{Each, each-all, each-map}
+use Rattle.theorems.specs.Arranged.{IsApart}
+use Rattle.theorems.specs.ArrangeLaws.{arrange-tail}
 use Rattle.theorems.specs.Reading.{At}
 use Rattle.theorems.specs.OldSide.{seen-records}
 use Rattle.theorems.specs.ReadTo.{as-comes}
@@ -87,15 +90,40 @@ unfolding readTo restLines
 rest-read g c e (unread ls) = lines-all g c ls e
 rest-read g c e ended = unfold readLines readLine bind onceRead in refl
 
+-- ---- unread lines are kept or changed: arranging parts there, and leaves them
+
+left-apart : (l : Line) (x : Got Line) → IsApart (leftAs l x)
+unfolding leftAs change
+left-apart l (got new) = by (eqLine l new)
+  where
+    by : (b : Bool) → IsApart (cond b (kept l) (changed l new))
+    by true = tt
+    by false = tt
+left-apart l (stop n) = tt
+
+pub unread-apart : (n : ℕ) (c : Carried) (ls : List Line) → Each IsApart (unreadAs n c ls)
+unfolding unreadAs
+unread-apart zero c ls = each-map IsApart (λ l. Unit {0}) (λ l. leftAs l (leftBy c l)) (λ l u. left-apart l (leftBy c l)) ls (each-all (λ l. Unit {0}) (λ l. tt) ls)
+unread-apart (suc n) c ls = each-map IsApart (λ l. Unit {0}) kept (λ l u. tt) ls (each-all (λ l. Unit {0}) (λ l. tt) ls)
+
+-- the records that are read, arranged, and after them the lines that are not
+unread-arranged : (rs : List Record) (n : ℕ) (c : Carried) (ls : List Line) → arrange (rs ++ unreadAs n c ls) ≡ arrange rs ++ unreadAs n c ls
+unread-arranged rs n c ls = arrange-tail rs (unreadAs n c ls) (unread-apart n c ls)
+
 -- ---- the answer of a run
 
 -- what the last state tells
 unfoldable pub lastAnswer : End → Tape → Answer
-lastAnswer (end n steps at (state e c)) t = answer n steps (furthest e t) (endPlace n at) (records e ++ unreadAs n c (restLines t))
+lastAnswer (end n steps at (state e c)) t = answer n steps (furthest e t) (endPlace n at) (arrange (records e) ++ unreadAs n c (restLines t))
 
--- what it is where the globals stop after the script's end
+-- what it is where the globals stop after the script's end; the unread lines are kept as in any other stop
 unfoldable pub lateStop : ℕ → Stop → End → Tape → Answer
-lateStop place k (end n steps at (state e c)) t = answer (stopNumber k) steps (furthest e t) place (journal e t)
+lateStop place k (end n steps at (state e c)) t = answer (stopNumber k) steps (furthest e t) place (arrange (records e) ++ map kept (restLines t))
+
+-- the records of a stopped run
+stopped-records : (n : ℕ) (c : Carried) (e : Ed) (t : Tape) → arrange (journal e t) ≡ arrange (records e) ++ unreadAs (suc n) c (restLines t)
+unfolding journal
+stopped-records n c e t = unfold unreadAs in (unread-arranged (records e) (suc n) c (restLines t))
 
 -- the end of a done script
 abbrev pub IsDone : End → Type 0
@@ -106,16 +134,16 @@ pub data Comes (place : ℕ) (x : End) (t : Tape) (a : Answer) : Type 0 where
   asTold : a ≡ lastAnswer x t → (IsDone x → Each (Passes (standingAt x)) (restLines t)) → Comes place x t a
   stopsLate : (k : Stop) → (k ≡ n25) ⊎ (k ≡ n26) → IsDone x → a ≡ lateStop place k x t → Comes place x t a
 
-rest-comes : (place steps at : ℕ) (e : Ed) (c : Carried) (t : Tape) (r : Ran (Unit {0})) → Passed e c (restLines t) r → Comes place (end 0 steps at (state e c)) t (restPassed steps place e t r)
-unfolding restPassed lastAnswer lateStop standingAt endPlace
-rest-comes place steps at e c t (gave u e′) h = asTold (ap (answer 0 steps (furthest e t) 0) (h .0)) (λ q. h .1)
-rest-comes place steps at e c t (stopped k e′) h = stopsLate k h refl refl
+rest-comes : (place steps at : ℕ) (e : Ed) (c : Carried) (t : Tape) (r : Ran (Unit {0})) → Passed e c (restLines t) r → Comes place (end 0 steps at (state e c)) t (arranged (restPassed steps place e t r))
+unfolding restPassed arranged lastAnswer lateStop standingAt endPlace
+rest-comes place steps at e c t (gave u e′) h = asTold (ap (answer 0 steps (furthest e t) 0) (ap arrange (h .0) ∙ unread-arranged (records e) 0 c (restLines t))) (λ q. h .1)
+rest-comes place steps at e c t (stopped k e′) h = stopsLate k h refl (ap (answer (stopNumber k) steps (furthest e t) place) (unfold unreadAs in (stopped-records 0 c e t)))
 
 -- THE LAW
 pub answer-comes : (g : Given) (place : ℕ) (x : End) (t : Tape) → Comes place x t (answerOf g place x t)
-unfolding answerOf
+unfolding answerOf inRunOrder
 answer-comes g place (end zero steps at (state e c)) t = rest-comes place steps at e c t ((readTo g c eof e t) .0) (rest-passed g c e t)
-answer-comes g place (end (suc n) steps at (state e c)) t = asTold (unfold lastAnswer textOf unreadAs endPlace journal in refl) (λ q. absurd (nonzero n q))
+answer-comes g place (end (suc n) steps at (state e c)) t = asTold (unfold arranged lastAnswer textOf endPlace in (ap (answer (suc n) steps (furthest e t) at) (stopped-records n c e t))) (λ q. absurd (nonzero n q))
   where
     nonzero : (m : ℕ) → suc m ≡ 0 → ⊥
     nonzero m q = omega (arith, q)

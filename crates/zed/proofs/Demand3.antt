@@ -69,6 +69,7 @@ zed-demand3 c h k =
       past = past-journal v run taken;
       old = holds v run taken .old;
       old-bytes = holds v run taken .old-bytes;
+      arranged = holds v run taken .arranged;
       after = record { rest = rest-after v run taken; passed = rest-passes v run taken };
       agreeing = λ c₂ j₂ h₂ k₂ read same-script same-budget agree w w₂.
           let s = calls-agree v run taken (valued c₂) (is-run c₂ h₂) (is-accepted c₂ h₂ k₂) same-script same-budget j₂ read agree (compared c w) (compared c₂ w₂) in (

@@ -1,5 +1,5 @@
 -- Demand 3 of `zed_run`, which C programs call: its result, the five numbers in `answer`, and the bytes of the journal buffer. One statement, with the terms
--- of document 01 ("Tables and the journal", from "In demand 3") and of document 02, wish 2.
+-- of document 01 ("Tables and the journal", from "In demand 3") and of document 02, wishes 2 and 6.
 use mathlib.Core.Path.{_≡_}
 use mathlib.Core.Logic.{_⊎_}
 use mathlib.Core.Option.{some}
@@ -8,6 +8,7 @@ use Prim.Native.Nat.{ℕ, _-_, _≤_}
 use lib.ListN.{length, getD, take, drop, replicate}
 use Rattle.definitions.specs.Bytes.{linesOf, linesBytes}
 use Rattle.definitions.specs.Journal.{Record, oldSide, upToLine, afterLine, recordsOf}
+use Rattle.definitions.specs.Arranging.{arrange}
 use Rattle.definitions.specs.Given.{Carried}
 use Rattle.definitions.specs.Run.{Answer, answerNumber, bufferAfter}
 use Rattle.theorems.specs.Each.{Each}
@@ -111,6 +112,8 @@ pub record Demand3 (c : Call) : Type 0 where
   -- the old side of the journal is exactly the table, line by line and byte by byte
   pub old : oldSide records ≡ linesOf (c .table)
   pub old-bytes : linesBytes (oldSide records) ≡ c .table
+  -- the journal is arranged (wish 6): to arrange it changes nothing
+  pub arranged : arrange records ≡ records
   -- no source line beyond the furthest line read, answer[2], is marked other than kept; or, where the run is done, other than the globals that stand at its end
   -- leave it
   pub after : LeftAfter (furthest c) (stands c) c records

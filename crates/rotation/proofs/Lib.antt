@@ -1,0 +1,2 @@
+-- `Laws`: bytes that are exchanged, and the turns by which parts change places.
+pub mod Laws
