@@ -87,7 +87,8 @@ static inline int zed_is_refusal(uint64_t number)
  *   done or stopped   the first answer->length bytes of the journal buffer are the journal, the bytes past it are 0. A
  *                     stopped run's journal has all that was done before the command that stopped, and what the globals
  *                     made of the lines that this command read. Only a run that is done (0) has done all that the script
- *                     asks.
+ *                     asks. In the journal, in each stretch without kept (==) or changed (<>) records, all deleted lines
+ *                     (--) come first, in the old table's order, then all inserted ones (++), in the new table's.
  *   refused           the journal buffer is untouched.
  */
 uint64_t zed_run(const uint8_t *table, size_t table_length, const uint8_t *script, size_t script_length, uint32_t budget, uint32_t *work,
@@ -101,7 +102,7 @@ uint64_t zed_run(const uint8_t *table, size_t table_length, const uint8_t *scrip
  *   zed_listing    the lines of the new table; before each its source number in five columns, or " ****" if it was
  *                  inserted, then '-' if the source line before it is deleted, then '+' if it is changed
  *
- * Each line is written with its LF (10).
+ * Each line is written with its LF (10). Journals in which inserted records stand before deleted ones are read as well.
  *
  * What to lend, for the time of the call only:
  *   journal, journal_length      the journal's bytes and their exact number: a byte more, even a zero, is not a journal.

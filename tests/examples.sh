@@ -1,16 +1,17 @@
 #!/usr/bin/env bash
-# Runs the examples of a guide by the test program: tests/examples.sh GUIDE PROGRAM. An example is a block ```table, a block ```script and a block
-# ```prints, which the program must print. Then the program's own limits: its files at their longest, one byte longer, and missing.
+# Runs the examples of a guide by the test program: tests/examples.sh GUIDE PROGRAM ZEDLOAD. An example is a block ```table, a block ```script and a block
+# ```prints, which the program must print; a block ```journal after it is the journal that the loader must file. Then the program's own limits: its
+# files at their longest, one byte longer, and missing.
 # The last line is 'N passed, M failed'.
 set -u
-guide=$(realpath "$1") program=$(realpath "$2")
+guide=$(realpath "$1") program=$(realpath "$2") zedload=$(realpath "$3")
 home=$(mktemp -d)
 trap 'rm -rf "$home"' EXIT
 cd "$home" || exit 1
 
 # each block goes to a file: 1.table, 1.script, 1.prints, 2.table ..
 awk '
-    /^```(table|script|prints)$/ { kind = substr($0, 4); if (kind == "table") n++; file = n "." kind; printf "" > file; next }
+    /^```(table|script|prints|journal)$/ { kind = substr($0, 4); if (kind == "table") n++; file = n "." kind; printf "" > file; next }
     /^```/ { file = "" }
     file != "" { print > file }
 ' "$guide"
@@ -29,6 +30,21 @@ for prints in *.prints; do
 done
 # a guide whose blocks are not found proves nothing
 [ "$passed" -gt 0 ] || failed=$((failed + 1))
+
+journals=0
+for journal in *.journal; do
+    n=${journal%.journal}
+    "$zedload" -o new -j filed "$n.table" "$n.script" >got 2>&1
+    if cmp -s filed "$journal"; then
+        passed=$((passed + 1)) journals=$((journals + 1))
+    else
+        failed=$((failed + 1))
+        echo "example $n of $(basename "$guide"): the journal is"
+        cat filed got
+    fi
+    rm -f new filed
+done
+[ "$journals" -gt 0 ] || failed=$((failed + 1))
 
 # OLD of 16,384 bytes and EDITS of 8,128 are read; a byte more, or a missing file, is a message on standard error and nothing on standard output
 sized() { head -c $(($1 - 1)) /dev/zero | tr '\0' '\n'; echo; }

@@ -72,6 +72,10 @@ def changing():
 def many():
     """Up to 16 globals and more, in one count."""
     return '%d(%s)' % (R.choice([3, 8, 15, 16, 17]), ';'.join(changing() for _ in range(R.randint(1, 2))))
+def replacing():
+    """Lines that go and lines that come, mixed: stretches to arrange at the run's end. Few of these commands stop."""
+    one = lambda: R.choice(['D', 'D', 'D', 'IC', 'IC', 'IS/%s/' % string().replace('/', 'a'), 'IS/%s/; P; CL//' % w(2, 'xy'), 'R\n%s\nZ' % w(3, 'ab-+='), 'SA//; D', 'IS/z/; P', 'N', 'DF //'])
+    return ''.join(one() + '\n' for _ in range(R.choice([2, 3, 5, 9, 14])))
 def simple():
     r = R.random()
     if r < .11: return cutting()
@@ -123,6 +127,7 @@ for _ in range(N):
     if r < .4: s = ''.join(changing() + R.choice(['; ', '\n']) for _ in range(R.choice([1, 1, 1, 2, 3, 4]))) + s
     elif r < .6: s = ''.join(changing() + R.choice(['; ', '\n']) for _ in range(R.choice([1, 1, 2, 3, 4]))) + R.choice(['', 'N', 'M 3', 'D', 'F/b/', 'W']) + '\n'
     if R.random() < .1: s = 'M *\n' + s
+    if R.random() < .12: s, t = replacing() + s, t + ''.join(line()[:12] + '\n' for _ in range(R.choice([2, 5, 9])))
     opening = len(t) + 2 * t.count('\n')
     size = R.choice([opening + R.randint(0, 30), opening + R.randint(0, 90), 4096, 4096, opening + 300])
     print((t.encode().hex() or '-'), s.encode().hex(), R.choice([0, 1, 3, 8, 20, 60, 60, 120]), 2 * len(s) + 64, size)

@@ -4,14 +4,16 @@ use mathlib.Core.Bool.{Bool, true, false, cond}
 use mathlib.Core.List.{List, [], _∷_, _++_, append-assoc, append-nil}
 use Prim.Native.Nat.{ℕ, _+_, _-_, _≤_, _<_}
 use native.Mathlib.Omega.{arith}
-use lib.ListN.{length, take, drop, getD, length-append}
+use lib.ListN.{length, drop, getD, length-append}
 use lib.Seq.{take-at, drop-at}
 use Rattle.definitions.specs.Journal.{Record, kept, changed, deleted, inserted}
 use Rattle.definitions.specs.Arranging.{arrange}
 use Rattle.theorems.specs.Each.{Each}
 use Rattle.theorems.specs.Arranged.{Stretch, goneIn, cameIn}
 use Rattle.theorems.specs.ArrangeLaws.{IsCame, NotCame, BeginsApart, arrange-length, arrange-stretch, arrange-apart, arrange-after, arrange-came}
+use Rattle.text.specs.Lines.{part}
 use Rattle.text.specs.Feeds.{lineLength}
+use Rattle.text.proofs.Parts.{put, part-lent, part-put}
 use Rattle.rows.specs.Rows.{lineWhere}
 use Rattle.rows.proofs.Laws.{where-none, where-here, where-line}
 use Rattle.gathering.specs.Pieces.{pieces, isMinus, isOther, rowOf, Gathered}
@@ -250,28 +252,28 @@ module _ (s : List ℕ) (at found left end : ℕ) (first : found ≡ at + lineWh
       append-assoc before (encAll P) (x ++ A) ∙ ap (λ (z : List ℕ). before ++ z) (sym (append-assoc (encAll P) x A) ∙ ap (λ (z : List ℕ). z ++ A) (sym through))
       ∙ unfold afterRow in refl
 
+  -- s, cut before the row and after it
+  cut : s ≡ (before ++ encAll P) ++ (encAll row ++ encAll (recordsFrom isPastRow R))
+  unfolding at-came found-rest at-first
+  cut = at-came .is ∙ ap (λ (z : List ℕ). (before ++ encAll P) ++ z) (ap encAll (sym (both-parts isPastRow R)) ∙ enc-append row (recordsFrom isPastRow R))
+
   -- nothing left after what came: it is in order
   pub row-in-order : end ≤ left → s ≡ before ++ (encAll (arrange (throughRow rs)) ++ encAll (afterRow rs))
-  unfolding at-came found-rest at-first
   row-in-order h =
       let none : D ≡ [] = none-of D (omega (arith, found-at isPastRow s left end (recordsFrom isPastCame R) at-left last)) in
       let same : row ≡ C = row-parts R .0 ∙ ap (λ (z : List Record). C ++ z) none ∙ append-nil C in
       let still : arrange row ≡ row = ap arrange same ∙ arrange-came C (to-each isPastCame IsCame came R) ∙ sym same in
-      let cut : encAll R ≡ encAll row ++ encAll (recordsFrom isPastRow R) = ap encAll (sym (both-parts isPastRow R)) ∙ enc-append row (recordsFrom isPastRow R) in
-      at-came .is ∙ ap (λ (z : List ℕ). (before ++ encAll P) ++ z) cut ∙ rows-bytes (encAll row) (ap encAll (sym still))
+      cut ∙ rows-bytes (encAll row) (ap encAll (sym still))
 
   -- it is gathered
-  pub row-gathered : (y : List ℕ) (n : ℕ) → Gathered (take (end - found) (drop found s)) y n
-      → take found s ++ (y ++ drop (end - found) (drop found s)) ≡ before ++ (encAll (arrange (throughRow rs)) ++ encAll (afterRow rs))
+  pub row-gathered : (y : List ℕ) (n : ℕ) → Gathered (part found end s) y n → put found end s y ≡ before ++ (encAll (arrange (throughRow rs)) ++ encAll (afterRow rs))
   unfolding at-came found-rest at-first
   row-gathered y n k =
       let A : List ℕ = encAll (recordsFrom isPastRow R) in
-      let cut : drop found s ≡ encAll row ++ A = stands-at at-came ∙ ap encAll (sym (both-parts isPastRow R)) ∙ enc-append row (recordsFrom isPastRow R) in
-      let part : take (end - found) (drop found s) ≡ encAll row = ap (take (end - found)) cut ∙ take-at (encAll row) A (end - found) (sym row-long) in
-      let behind : drop (end - found) (drop found s) ≡ A = ap (drop (end - found)) cut ∙ drop-at (encAll row) A (end - found) (sym row-long) in
-      let front : take found s ≡ before ++ encAll P = ap (take found) (at-came .is) ∙ take-at (before ++ encAll P) (encAll R) found (at-came .place) in
-      let done : y ≡ encAll (arrange row) = gathered-row row y n (to-good isPastRow R (from-good isCame rs good)) (row-stretch R) (rw part at k) in
-      ap (λ (z : List ℕ). z ++ (y ++ drop (end - found) (drop found s))) front ∙ ap (λ (z : List ℕ). (before ++ encAll P) ++ (y ++ z)) behind ∙ rows-bytes y done
+      let to : length (before ++ encAll P) + length (encAll row) ≡ end = omega (arith, at-came .place, row-long, found-at isPastCame s found left R at-came gone, found-at isPastRow s left end (recordsFrom isPastCame R) at-left last) in
+      let lent : part found end s ≡ encAll row = part-lent (before ++ encAll P) (encAll row) A s found end cut (at-came .place) to in
+      let done : y ≡ encAll (arrange row) = gathered-row row y n (to-good isPastRow R (from-good isCame rs good)) (row-stretch R) (rw lent at k) in
+      part-put (before ++ encAll P) (encAll row) A s found end cut (at-came .place) to y ∙ rows-bytes y done
 
 -- ---- all rows
 

@@ -1,6 +1,5 @@
 // Records arranged where they stand: in each stretch without kept or changed records what left comes before what came (document 02, wish 6). During a run each
 // record has one line feed, at its end, and its first byte tells its mark: `+` (43) and `-` (45) are below `<` (60) and `=` (61).
-ghost use mathlib.Core.List.{List};
 ghost use Prim.Native.Nat.{_≤_};
 ghost use lib.ListN.{length};
 ghost use Rattle.closing.specs.Closing.{HasRecords, ArrangesRow, Arranges};

@@ -10,9 +10,9 @@ use lib.Seq.{drop-cons, take-suc, take-add}
 use lib.Dec.{eqb, ltb}
 use borrow.Author.Tests.{eqb-true, ltb-true, ltb-false, lt-ltb, le-ltb}
 use Rattle.text.specs.Feeds.{lineLength, lineStart}
-use Rattle.text.proofs.LineFeeds.{line-fits, start-fits}
+use Rattle.text.proofs.LineFeeds.{line-some, line-fits, start-fits}
 use Rattle.gathering.specs.Pieces.{pieces, middleOf}
-use Rattle.gathering.proofs.Pieces.{pieces-append, line-some}
+use Rattle.gathering.proofs.Pieces.{pieces-append}
 
 -- ---- bytes that end with a line feed
 

@@ -7,9 +7,9 @@ use mathlib.Core.List.{List, [], _++_, append-assoc, append-nil}
 use lib.ListN.{length, take, drop, length-append, length-drop, take-append-drop}
 use lib.Seq.{length-take-le}
 use Rattle.text.specs.Lines.{part}
-use Rattle.text.proofs.Parts.{part-length}
+use Rattle.text.proofs.Parts.{part-length, put, part-lent, part-put}
 use Rattle.rotation.specs.Rotation.{rotated}
-use Rattle.rotation.proofs.Laws.{put, part-lent, part-put, rotate-parts}
+use Rattle.rotation.proofs.Laws.{rotate-parts}
 use Rattle.gathering.specs.Pieces.{pieces, isMinus, isOther, rowOf, minusRow, otherRow, Gathered}
 use Rattle.gathering.proofs.Pieces.{row-append, gathered-length, gathered-fits}
 use Rattle.gathering.proofs.Cuts.{Cut}

@@ -7,9 +7,9 @@ use mathlib.Core.List.{List, [], _∷_, _++_, append-assoc, append-nil}
 use lib.ListN.{length, take, drop, getD, length-drop, drop-of-length-le}
 use lib.Seq.{paste, take-paste, drop-paste, drop-drop, getD-drop, take-all, length-take-le}
 use Rattle.text.specs.Feeds.{lineLength}
-use Rattle.text.proofs.LineFeeds.{line-fits}
+use Rattle.text.proofs.LineFeeds.{line-some, line-fits}
 use Rattle.gathering.specs.Pieces.{isMinus, isOther, minusRow, otherRow, Gathered}
-use Rattle.gathering.proofs.Pieces.{minus-first, other-first, no-row, line-some}
+use Rattle.gathering.proofs.Pieces.{minus-first, other-first, no-row}
 
 -- ---- one line or none
 

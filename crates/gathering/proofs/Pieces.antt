@@ -1,6 +1,6 @@
 -- The laws of lines with their line feeds, and of their rows. Assumes nothing.
 use mathlib.Core.Path.{_≡_, refl, sym, ap, _∙_}
-use mathlib.Core.Bool.{Bool, true, false, not, cond, _||_, true≢false}
+use mathlib.Core.Bool.{Bool, true, false, not, cond}
 use Prim.Native.Nat.{ℕ, suc, _+_, _≤_, _<_}
 use native.Mathlib.Nat.{not-suc-le-zero}
 use native.Mathlib.Omega.{arith}
@@ -8,7 +8,7 @@ use mathlib.Core.List.{List, [], _∷_, _++_, append-assoc}
 use lib.ListN.{length, take, drop, getD, length-append}
 use lib.Dec.{eqb}
 use borrow.Author.Tests.{eq-eqb, ne-eqb}
-use Rattle.text.specs.Feeds.{hasFeed, lineLength}
+use Rattle.text.specs.Feeds.{lineLength}
 use Rattle.gathering.specs.Pieces.{onFirst, pieces, isMinus, isOther, rowOf, minusRow, otherRow, Gathered}
 
 -- ---- lines
@@ -41,19 +41,6 @@ first-piece (b ∷ c ∷ x) h = go (eqb b 10) refl (first-piece (c ∷ x) (omega
         → pieces (b ∷ c ∷ x) ≡ take (cond t 1 (suc (lineLength (c ∷ x)))) (b ∷ c ∷ x) ∷ pieces (drop (cond t 1 (suc (lineLength (c ∷ x)))) (b ∷ c ∷ x))
     go true e ih = pieces-lf b (c ∷ x) e
     go false e ih = pieces-on b (c ∷ x) e ∙ ap (onFirst b) ih
-
--- ---- What callers use: bytes of which the first line is known.
-
--- a line l without a line feed, then its line feed, then x
-pub pieces-line : (l x : List ℕ) → hasFeed l ≡ false → pieces (l ++ (10 ∷ x)) ≡ (l ++ (10 ∷ [])) ∷ pieces x
-unfolding hasFeed onFirst
-pieces-line [] x h = pieces-lf 10 x refl
-pieces-line (b ∷ l) x h = go (eqb b 10) refl h (pieces-line l x)
-  where
-    go : (t : Bool) → eqb b 10 ≡ t → (t || hasFeed l) ≡ false → (hasFeed l ≡ false → pieces (l ++ (10 ∷ x)) ≡ (l ++ (10 ∷ [])) ∷ pieces x)
-        → pieces (b ∷ (l ++ (10 ∷ x))) ≡ (b ∷ (l ++ (10 ∷ []))) ∷ pieces x
-    go true e f ih = absurd (true≢false f)
-    go false e f ih = pieces-on b (l ++ (10 ∷ x)) e ∙ ap (onFirst b) (ih f)
 
 on-append : (b : ℕ) (A ls ms : List (List ℕ)) → 0 < length A → A ++ ms ≡ ls → onFirst b ls ≡ onFirst b A ++ ms
 unfolding onFirst
@@ -124,15 +111,6 @@ module _ (x y : List ℕ) (r : ℕ) (g : Gathered x y r) where
   gathered-fits = omega (arith, g .size, rows-length x)
 
 -- ---- the first line, told by its first byte
-
-pub line-some : (x : List ℕ) → 0 < length x → 0 < lineLength x
-unfolding lineLength
-line-some [] h = absurd (not-suc-le-zero h)
-line-some (b ∷ x) h = go (eqb b 10)
-  where
-    go : (t : Bool) → 0 < cond t 1 (suc (lineLength x))
-    go true = omega arith
-    go false = omega arith
 
 first-kind : (x : List ℕ) → 0 < length x → isMinus (take (lineLength x) x) ≡ eqb (getD x 0 0) 45
 unfolding lineLength isMinus

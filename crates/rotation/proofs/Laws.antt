@@ -8,6 +8,7 @@ use mathlib.Core.List.{List, [], _∷_, _++_, append-assoc, append-nil}
 use lib.ListN.{length, take, drop, getD, set, length-append, length-drop, take-append-drop, drop-of-length-le}
 use lib.Seq.{take-suc, drop-cons, set-at, getD-at, getD-take, getD-drop, take-at, drop-at, take-all, take-add, take-take, drop-drop, length-take-le}
 use Rattle.text.specs.Lines.{part}
+use Rattle.text.proofs.Parts.{put, part-lent, part-put}
 use Rattle.rotation.specs.Rotation.{exchanged, rotated}
 
 -- ---- bytes that are exchanged
@@ -49,22 +50,11 @@ exchange-step k i x h l =
     (swap-two p q t a b i (k + i) li lq
     ∙ rw (further, add-one i, take-suc D i 0 (omega arith), take-suc x i 0 (omega arith)) (simp append-assoc))
 
--- ---- What callers use: parts that change places.
+-- ---- parts that change places
 
 pub rotate-parts : (X Y : List ℕ) (k : ℕ) → length X ≡ k → rotated k (X ++ Y) ≡ Y ++ X
 unfolding rotated
 rotate-parts X Y k l = rw (take-at X Y k l, drop-at X Y k l)
-
--- What callers use: a part of a slice that is lent and comes back as ys.
-abbrev pub put : ℕ → ℕ → List ℕ → List ℕ → List ℕ
-put f e x ys = take f x ++ (ys ++ drop (e - f) (drop f x))
-
-module _ (A M Z x : List ℕ) (f e : ℕ) (is : x ≡ A ++ (M ++ Z)) (at : length A ≡ f) (to : length A + length M ≡ e) where
-  pub part-lent : part f e x ≡ M
-  part-lent = ap (part f e) is ∙ rw (drop-at A (M ++ Z) f at) (take-at M Z (e - f) (omega arith))
-
-  pub part-put : (ys : List ℕ) → put f e x ys ≡ A ++ (ys ++ Z)
-  part-put ys = ap (λ (z : List ℕ). put f e z ys) is ∙ rw (take-at A (M ++ Z) f at, drop-at A (M ++ Z) f at, drop-at M Z (e - f) (omega arith))
 
 -- ---- one turn of `rotate`, on the bytes that are not in place yet
 

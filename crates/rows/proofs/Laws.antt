@@ -8,16 +8,7 @@ use lib.ListN.{length, drop, getD}
 use lib.Seq.{drop-append-seam}
 use lib.Dec.{eqb}
 use Rattle.text.specs.Feeds.{lineLength}
-use Rattle.text.proofs.Lines.{Plain, plain-tail}
 use Rattle.rows.specs.Rows.{lineWhere}
-
--- how long a line is whose one line feed stands at its end
-plain-long : (l x : List ℕ) → Plain l → lineLength ((l ++ (10 ∷ [])) ++ x) ≡ length (l ++ (10 ∷ []))
-unfolding lineLength
-plain-long [] x p = refl
-plain-long (b ∷ l) x p =
-    let t = plain-tail b l p in
-    rw (t .0, plain-long l x (t .1))
 
 module _ (wanted : ℕ → Bool) where
   -- ---- no byte, a first line that is wanted or not, and how far it is at most
@@ -56,12 +47,8 @@ module _ (wanted : ℕ → Bool) where
       go true h = omega arith
       go false h = omega arith
 
-  -- a first line that is known: by where it ends, and as bytes without a line feed before one
+  -- a first line that is known by where it ends
   pub where-line : (a x : List ℕ) → lineLength (a ++ x) ≡ length a → wanted (getD a 0 0) ≡ false
       → lineWhere wanted true (a ++ x) ≡ length a + lineWhere wanted true x
   where-line [] x long e = omega arith
   where-line (b ∷ a) x long e = where-other b (a ++ x) e ∙ in-line (b ∷ (a ++ x)) ∙ rw (long, drop-append-seam (b ∷ a) x)
-
-  pub where-plain : (l x : List ℕ) → Plain l → wanted (getD (l ++ (10 ∷ [])) 0 0) ≡ false
-      → lineWhere wanted true ((l ++ (10 ∷ [])) ++ x) ≡ length (l ++ (10 ∷ [])) + lineWhere wanted true x
-  where-plain l x p e = where-line (l ++ (10 ∷ [])) x (plain-long l x p) e

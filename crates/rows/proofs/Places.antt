@@ -11,18 +11,9 @@ use lib.Seq.{drop-cons, drop-drop, getD-drop}
 use lib.Dec.{eqb, leb, leb·zero, leb·suc-zero, leb·suc-suc}
 use borrow.Author.Tests.{leb-false, lt-leb}
 use Rattle.text.specs.Feeds.{lineLength}
-use Rattle.text.proofs.LineFeeds.{line-fits}
+use Rattle.text.proofs.LineFeeds.{line-some, line-fits}
 use Rattle.rows.specs.Rows.{lineWhere}
 use Rattle.rows.proofs.Laws.{where-none, where-here, where-most, where-other, in-line}
-
--- a line has a byte
-line-some : (b : ℕ) (l : List ℕ) → 0 < lineLength (b ∷ l)
-unfolding lineLength
-line-some b l = go (eqb b 10)
-  where
-    go : (t : Bool) → 0 < cond t 1 (suc (lineLength l))
-    go true = omega arith
-    go false = omega arith
 
 module _ (wanted : ℕ → Bool) where
   -- ---- by lines
@@ -48,7 +39,7 @@ module _ (wanted : ℕ → Bool) where
     pub next-line : i < length s → wanted (getD s i 0) ≡ false → (after : ℕ) → after ≡ i + lineLength (drop i s)
         → (i < after) × (after ≤ length s) × (nextFrom true s i ≡ nextFrom true s after)
     next-line h e after is =
-        let some : 0 < lineLength (drop i s) = rw (drop-cons s i 0 h) (line-some (getD s i 0) (drop (suc i) s)) in
+        let some : 0 < lineLength (drop i s) = line-some (drop i s) (simp length-drop (omega arith)) in
         let fits : lineLength (drop i s) ≤ length s - i = simp length-drop at (line-fits (drop i s)) in
         let rest : lineWhere wanted false (drop i s) ≡ lineLength (drop i s) + lineWhere wanted true (drop after s) =
         in-line wanted (drop i s) ∙ rw (drop-drop (lineLength (drop i s)) i s, is) in

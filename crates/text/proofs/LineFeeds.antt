@@ -99,6 +99,15 @@ module _ (l : List ℕ) (at i : ℕ) (low : at ≤ length l) (is : i ≡ at + pl
   pub line-open : length l ≤ i → i ≡ at + lineLength (drop at l)
   line-open h = let e = line-by-place (drop at l) .1 (simp length-drop (omega arith)) in omega arith
 
+pub line-some : (l : List ℕ) → 0 < length l → 0 < lineLength l
+unfolding lineLength
+line-some [] h = absurd (not-suc-le-zero h)
+line-some (x ∷ l) h = go (eqb x 10)
+  where
+    go : (t : Bool) → 0 < cond t 1 (suc (lineLength l))
+    go true = omega arith
+    go false = omega arith
+
 pub line-fits : (l : List ℕ) → lineLength l ≤ length l
 unfolding lineLength
 line-fits [] = omega arith

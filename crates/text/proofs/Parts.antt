@@ -5,7 +5,7 @@ use Prim.Native.Nat.{ℕ, suc, _+_, _-_, _≤_, _<_}
 use native.Mathlib.Numerals.{add-one}
 use native.Mathlib.Omega.{arith}
 use lib.ListN.{length, take, drop, getD, length-take, length-drop, take-append-drop}
-use lib.Seq.{drop-cons, drop-drop, take-add}
+use lib.Seq.{drop-cons, drop-drop, take-add, take-at, drop-at}
 use Rattle.text.specs.Lines.{part}
 
 pub part-length : (s : List ℕ) (a e : ℕ) → e ≤ length s → length (part a e s) ≡ e - a
@@ -41,3 +41,16 @@ pub part-more : (s : List ℕ) (a e : ℕ) → a ≤ e → e < length s → part
 part-more s a e h k =
     let one : part e (e + 1) s ≡ getD s e 0 ∷ [] = part-cons s e (e + 1) (omega arith) (omega arith) ∙ rw (add-one e) (ap (λ (l : List ℕ). getD s e 0 ∷ l) (part-none s (suc e))) in
     sym (part-join s a e (e + 1) h (omega arith)) ∙ ap (λ (l : List ℕ). part a e s ++ l) one
+
+-- ---- a part that is lent and comes back as ys
+
+abbrev pub put : ℕ → ℕ → List ℕ → List ℕ → List ℕ
+put f e x ys = take f x ++ (ys ++ drop (e - f) (drop f x))
+
+-- M, between A and Z
+module _ (A M Z x : List ℕ) (f e : ℕ) (is : x ≡ A ++ (M ++ Z)) (at : length A ≡ f) (to : length A + length M ≡ e) where
+  pub part-lent : part f e x ≡ M
+  part-lent = ap (part f e) is ∙ rw (drop-at A (M ++ Z) f at) (take-at M Z (e - f) (omega arith))
+
+  pub part-put : (ys : List ℕ) → put f e x ys ≡ A ++ (ys ++ Z)
+  part-put ys = ap (λ (z : List ℕ). put f e z ys) is ∙ rw (take-at A (M ++ Z) f at, drop-at A (M ++ Z) f at, drop-at M Z (e - f) (omega arith))

@@ -9,7 +9,7 @@ use Rattle.definitions.specs.Journal.{Record, kept, changed, deleted, inserted,
 use Rattle.definitions.specs.Listing.{listedLine, listingFrom, listing}
 use Rattle.definitions.specs.Arranging.{arrangeFrom, arrange}
 use Rattle.theorems.specs.Each.{Each, each-append}
-use Rattle.theorems.specs.Arranged.{IsApart, IsReplaced, Stretch, goneIn, cameIn, SideBySide, WishSix}
+use Rattle.theorems.specs.Arranged.{IsApart, Stretch, goneIn, cameIn, WishSix}
 
 -- a record before others
 abbrev then : Record → List Record → List Record

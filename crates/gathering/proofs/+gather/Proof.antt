@@ -5,7 +5,7 @@ use lib.ListN.{length}
 use borrow.Author.Needs.{needs}
 use borrow.Fn.Kinds.{In}
 use borrow.Fn.PlainCycle.{Measures, is, falls, and}
-use Rattle.rotation.proofs.Laws.{put}
+use Rattle.text.proofs.Parts.{put}
 use Rattle.gathering.specs.Pieces.{Gathered}
 use Rattle.gathering.proofs.Pieces.{gathered-length}
 use Rattle.gathering.proofs.Cuts.{Cut, middle-cuts, middle-none}
