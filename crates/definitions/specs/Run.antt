@@ -77,11 +77,12 @@ unfoldable pub inRunOrder : Given → ℕ → End → Tape → Answer
 inRunOrder g place (end zero steps at (state e c)) t = restPassed steps place e t ((readTo g c eof e t) .0)
 inRunOrder g place (end (suc n) steps at s) t = answer (suc n) steps (furthest (textOf s) t) at (journal (textOf s) t)
 
--- "The arranging is done at the run's end, stopped or not" (W6.2), after the pass over the unread lines (W6.3); a refused run has no journal
+-- an answer with its records arranged; a refused run has none
 unfoldable pub arranged : Answer → Answer
 arranged (answer n steps f at rs) = answer n steps f at (arrange rs)
 arranged (refusal n at) = refusal n at
 
+-- what the run answers: "The arranging is done at the run's end, stopped or not" (W6.2), after the pass over the unread lines (W6.3)
 unfoldable pub answerOf : Given → ℕ → End → Tape → Answer
 answerOf g place x t = arranged (inRunOrder g place x t)
 
