@@ -92,6 +92,27 @@ static void rows_of(const char *name, size_t rows, size_t many, size_t length) {
     free(table.at), free(journal.at);
 }
 
+/*
+ * One stretch of just `bytes` bytes, then a kept line: an inserted line of the length that is missing, then lines of 5 bytes, each replaced by its copy. The
+ * stretch begins with a `++`, so all of it is put in order.
+ */
+static void stretch_of(const char *name, size_t bytes) {
+    const size_t length = 5, pair = 2 * (length + 3);
+    size_t many = (bytes - 3) / pair, filled = bytes - 3 - many * pair;
+    text table = table_of(many + 1, length), journal = {NULL, 0, 0};
+    char script[64], inserted[32];
+
+    snprintf(inserted, sizeof inserted, "%.*s", (int)filled, "yyyyyyyyyyyyyyyy");
+    snprintf(script, sizeof script, "IS/%s/; %zu(IC; D)\n", inserted, many);
+    add_records(&journal, "--", 1, many, length);
+    say(&journal, "++"), say(&journal, inserted), say(&journal, "\n");
+    add_records(&journal, "++", 1, many, length);
+    check(name, journal.length == bytes);
+    add_records(&journal, "==", many + 1, many + 1, length);
+    wants(name, run(table.at, script, UINT32_MAX, journal.length), 0, table, journal);
+    free(table.at), free(journal.at);
+}
+
 /* All lines replaced: the journal is one stretch, in a buffer of just its length, and one byte short, where the last copy does not go in (26). */
 static void all_of(const char *name, size_t lines, size_t length) {
     static const char script[] = "RPT (IC; D; IFEOF AGP)\n";
@@ -170,10 +191,12 @@ static void unarranged(void) {
 int main(void) {
     by_hand();
     unarranged();
-    /* short stretches; stretches of all sizes round the 2,048 bytes that are put in order at once, by lines of several lengths */
+    /* short stretches; 2,048 bytes, which are put in order at once, one byte more and every size round it; the same where the halves have that size */
     for (size_t many = 1; many <= 12; many++) rows_of("a few lines, then a kept one", 40, many, 5);
+    for (size_t bytes = 2000; bytes <= 2100; bytes++) stretch_of("a stretch of some 2,048 bytes", bytes);
+    for (size_t bytes = 4050; bytes <= 4150; bytes++) stretch_of("a stretch of some 4,096 bytes", bytes);
     for (size_t length = 5; length <= 33; length += 4)
-        for (size_t many = 1020 / (length + 3); many <= 1030 / (length + 3) + 2; many++) rows_of("stretches of some 2,048 bytes", 3, many, length);
+        for (size_t many = 1020 / (length + 3); many <= 1030 / (length + 3) + 2; many++) rows_of("rows of some 2,048 bytes, by lines of several lengths", 3, many, length);
     for (size_t many = 2; many <= 700; many += 58) rows_of("lines of 0 to 255 bytes", 3, many, LONGEST + 1);
     rows_of("the longest lines", 2, 300, LONGEST);
     stopped_after_each(60, 7);
