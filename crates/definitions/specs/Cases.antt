@@ -5,6 +5,8 @@ use Prim.Native.Nat.{ℕ}
 use Prim.Native.String.{String}
 use Rattle.definitions.specs.Bytes.{bytes, upper}
 use Rattle.definitions.specs.Journal.{Record, kept, changed, deleted, inserted}
+use Rattle.definitions.specs.Listing.{Written, written}
+use Rattle.definitions.specs.Joining.{joinTo, turnTo}
 use Rattle.definitions.specs.Run.{Answer, answer, refusal, workLength, runAnswer}
 use Rattle.definitions.specs.Program.{printed, programPrints}
 use Rattle.definitions.specs.Everything.{everything}
@@ -284,3 +286,55 @@ wishSixCases =
 pub wish-six : map computed wishSixCases ≡ map stated wishSixCases
 unfolding everything printed programPrints computed stated largest same gone came wishSixCases
 wish-six = refl
+
+-- ---- document 02, wish 7: joining and turning round
+
+-- Two journals, or one, the destination's bytes, and the answer: number, length, the destination's bytes afterwards.
+pub data JournalCase : Type 0 where
+  joins : String → String → String → Written → JournalCase
+  turns : String → String → Written → JournalCase
+
+unfoldable pub journalComputed : JournalCase → Written
+journalComputed (joins j k dest w) = joinTo (bytes j) (bytes k) (bytes dest)
+journalComputed (turns j dest w) = turnTo (bytes j) (bytes dest)
+
+unfoldable pub journalStated : JournalCase → Written
+journalStated (joins j k dest w) = w
+journalStated (turns j dest w) = w
+
+unfoldable pub wishSevenCases : List JournalCase
+wishSevenCases =
+    -- one record, kept or changed by its old and new text (W7.6)
+    joins "<>a\nb\n" "<>b\na\n" "......" (written 0 4 (bytes "==a\n.."))
+    -- inserted, then deleted: nothing, and nothing is parted by it (W7.8)
+    ∷ joins "--a\n++m\n==c\n" "--m\n++x\n==c\n" "............" (written 0 12 (bytes "--a\n++x\n==c\n"))
+    ∷ joins "==a\n--b\n" "--a\n++n\n" "............" (written 0 12 (bytes "--a\n--b\n++n\n"))
+    -- deleted and an equal one inserted: two records (W7.7)
+    ∷ joins "--a\n" "++a\n" "........." (written 0 8 (bytes "--a\n++a\n."))
+    ∷ joins "++m\n" "--m\n" "..." (written 0 0 (bytes "..."))
+    -- the oldest and the newest text (W7.7)
+    ∷ joins "<>a\nb\n++m\n" "--b\n<>m\nn\n" "........" (written 0 8 (bytes "--a\n++n\n"))
+    ∷ joins "<>a\nb\n" "<>b\nc\n" "......" (written 0 6 (bytes "<>a\nc\n"))
+    -- 32 (W7.5), 11 whichever journal it is, both before 10 (W7.2)
+    ∷ joins "==a\n" "==b\n" "...." (written 32 0 (bytes "...."))
+    ∷ joins "++x\n--a\n" "==b\n" "...." (written 11 0 (bytes "...."))
+    ∷ joins "==b\n" "++x\n--a\n" "...." (written 11 0 (bytes "...."))
+    ∷ joins "" "==\n" "..." (written 32 0 (bytes "..."))
+    ∷ joins "==a\n" "==b\n" "" (written 32 0 [])
+    ∷ joins "==a\n" "==b" "" (written 11 0 [])
+    -- just the length is enough; the empty journal is one (W7.1)
+    ∷ joins "==a\n" "==a\n" "..." (written 10 0 (bytes "..."))
+    ∷ joins "==a\n" "==a\n" "...." (written 0 4 (bytes "==a\n"))
+    ∷ joins "" "" "" (written 0 0 [])
+    -- turned round (W7.9), and not arranged (W7.3)
+    ∷ turns "--a\n++x\n==c\n<>d\ne\n" "..................." (written 0 18 (bytes "--x\n++a\n==c\n<>e\nd\n."))
+    ∷ turns "++x\n--a\n" "........" (written 11 0 (bytes "........"))
+    ∷ turns "++x\n==a\n--b\n" "............" (written 0 12 (bytes "--x\n==a\n++b\n"))
+    ∷ turns "<>a\n--b\n" "........" (written 0 8 (bytes "<>--b\na\n"))
+    ∷ turns "--a\n" "..." (written 10 0 (bytes "..."))
+    ∷ turns "" "" (written 0 0 [])
+    ∷ []
+
+pub wish-seven : map journalComputed wishSevenCases ≡ map journalStated wishSevenCases
+unfolding everything journalComputed journalStated wishSevenCases
+wish-seven = refl

@@ -3,6 +3,7 @@ pub mod Table
 pub mod Journal
 pub mod Arranging
 pub mod Listing
+pub mod Joining
 pub mod Matching
 pub mod Search
 pub mod Tape
