@@ -5,6 +5,7 @@ use native.Mathlib.Omega.{arith}
 use mathlib.Core.List.{List, [], _∷_, _++_, reverseAux}
 use lib.ListN.{length}
 use Rattle.definitions.specs.Journal.{Record, kept, changed, deleted, inserted, erase, recordLength, journalLength}
+use Rattle.theorems.specs.JournalBytes.{length-both}
 use Rattle.editor.specs.Shows.{Holds, strikeOver}
 use Rattle.editor.specs.declared.State.{State}
 use Rattle.editor.proofs.Records.{all-length}
@@ -47,9 +48,6 @@ struck-length : (m c : List Record) → journalLength (strikeOver m c) + freed m
 unfolding strikeOver freed
 struck-length [] c = unfold journalLength in omega arith
 struck-length (r ∷ m) c = omega (arith, struck-length m (erase r ++ c), erased-length r c, one-more r c, one-more r m)
-
-pub length-both : (a b : List Record) → journalLength (a ++ b) ≡ journalLength a + journalLength b
-length-both a b = omega (arith, all-length (a ++ b), all-length a, all-length b, all-append a b)
 
 -- THE LAW OF ROOM: lines that are deleted leave so much less of a journal
 pub strike-length : (m c d : List Record) → journalLength (reverseAux (strikeOver m c) d) + freed m ≡ journalLength (reverseAux c (m ++ d))

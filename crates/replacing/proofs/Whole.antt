@@ -29,7 +29,8 @@ use Rattle.spans.proofs.Struck.{span-held, span-place, counted-is}
 use Rattle.spans.proofs.Nexts.{land-same, NextRead, next-read}
 use Rattle.spans.proofs.Wholes.{Reached, here-by, struck-text}
 use Rattle.replacing.specs.Freed.{freed, Frees, replacing, replaceMany, Replaces}
-use Rattle.replacing.proofs.Freed.{length-both, strike-length}
+use Rattle.theorems.specs.JournalBytes.{length-both}
+use Rattle.replacing.proofs.Freed.{strike-length}
 
 -- ---- the journal's length
 

@@ -12,7 +12,7 @@ use Rattle.theorems.specs.Each.{Each, each-append}
 use Rattle.theorems.specs.Arranged.{IsApart, Stretch, goneIn, cameIn, WishSix}
 
 -- a record before others
-abbrev then : Record → List Record → List Record
+abbrev pub then : Record → List Record → List Record
 then r rs = r ∷ rs
 
 -- a `++` record
@@ -31,9 +31,9 @@ came-more came l h = each-append IsCame came (inserted l ∷ []) h (tt, tt)
 module _ (R : List Record → List Record → Type 0) (same : (rs : List Record) → R rs rs) (join : (rs ss ts : List Record) → R rs ss → R ss ts → R rs ts)
     (after : (r : Record) (rs ss : List Record) → R rs ss → R (r ∷ rs) (r ∷ ss))
     (passes : (l k : Line) (rs : List Record) → R (inserted l ∷ deleted k ∷ rs) (deleted k ∷ inserted l ∷ rs)) where
-  behind : (before rs ss : List Record) → R rs ss → R (before ++ rs) (before ++ ss)
-  behind [] rs ss h = h
-  behind (r ∷ before) rs ss h = after r (before ++ rs) (before ++ ss) (behind before rs ss h)
+  after-all : (before rs ss : List Record) → R rs ss → R (before ++ rs) (before ++ ss)
+  after-all [] rs ss h = h
+  after-all (r ∷ before) rs ss h = after r (before ++ rs) (before ++ ss) (after-all before rs ss h)
 
   -- a `--` passes before all `++` that stand before it
   first : (came : List Record) (k : Line) (rs : List Record) → Each IsCame came → R (came ++ (deleted k ∷ rs)) (deleted k ∷ (came ++ rs))
@@ -48,9 +48,9 @@ module _ (R : List Record → List Record → Type 0) (same : (rs : List Record)
   arranged-from : (came rs : List Record) → Each IsCame came → R (came ++ rs) (arrangeFrom came rs)
   unfolding arrangeFrom
   arranged-from came [] h = subst (λ (x : List Record). R x came) (sym (append-nil came)) (same came)
-  arranged-from came (kept l ∷ rs) h = behind came (kept l ∷ rs) (kept l ∷ arrangeFrom [] rs) (after (kept l) rs (arrangeFrom [] rs) (arranged-from [] rs tt))
+  arranged-from came (kept l ∷ rs) h = after-all came (kept l ∷ rs) (kept l ∷ arrangeFrom [] rs) (after (kept l) rs (arrangeFrom [] rs) (arranged-from [] rs tt))
   arranged-from came (changed o n ∷ rs) h =
-      behind came (changed o n ∷ rs) (changed o n ∷ arrangeFrom [] rs) (after (changed o n) rs (arrangeFrom [] rs) (arranged-from [] rs tt))
+      after-all came (changed o n ∷ rs) (changed o n ∷ arrangeFrom [] rs) (after (changed o n) rs (arrangeFrom [] rs) (arranged-from [] rs tt))
   arranged-from came (deleted k ∷ rs) h =
       join (came ++ (deleted k ∷ rs)) (deleted k ∷ (came ++ rs)) (deleted k ∷ arrangeFrom came rs)
       (first came k rs h) (after (deleted k) (came ++ rs) (arrangeFrom came rs) (arranged-from came rs h))
@@ -101,6 +101,50 @@ arrange-listing rs = ap (λ (z : Listed). z 0 false) (told (λ a. λ n gap. list
 -- what holds of each record
 pub arrange-each : (P : Record → Type 0) (rs : List Record) → Each P rs → Each P (arrange rs)
 arrange-each P rs = arranged-by (λ a b. Each P a → Each P b) (λ a h. h) (λ a b c p q h. q (p h)) (λ r a b p h. (h .0, p (h .1))) (λ l k a h. (h .1 .0, (h .0, h .1 .1))) rs
+
+-- ---- one record first
+
+-- a `++` goes behind the `--` that stand first
+unfoldable pub behind : Line → List Record → List Record
+behind l [] = inserted l ∷ []
+behind l (kept k ∷ rs) = inserted l ∷ kept k ∷ rs
+behind l (changed o n ∷ rs) = inserted l ∷ changed o n ∷ rs
+behind l (deleted k ∷ rs) = deleted k ∷ behind l rs
+behind l (inserted k ∷ rs) = inserted l ∷ inserted k ∷ rs
+
+-- where no `--` stands first it stays
+behind-came : (l : Line) (came rs : List Record) → Each IsCame came → behind l rs ≡ inserted l ∷ rs → behind l (came ++ rs) ≡ inserted l ∷ (came ++ rs)
+unfolding behind
+behind-came l [] rs h e = e
+behind-came l (kept k ∷ came) rs h e = absurd (h .0)
+behind-came l (changed o n ∷ came) rs h e = absurd (h .0)
+behind-came l (deleted k ∷ came) rs h e = absurd (h .0)
+behind-came l (inserted k ∷ came) rs h e = refl
+
+behind-from : (l : Line) (came rs : List Record) → Each IsCame came → arrangeFrom (inserted l ∷ came) rs ≡ behind l (arrangeFrom came rs)
+unfolding arrangeFrom behind
+behind-from l came [] h = sym (ap (behind l) (sym (append-nil came)) ∙ behind-came l came [] h refl ∙ ap (λ (z : List Record). inserted l ∷ z) (append-nil came))
+behind-from l came (kept k ∷ rs) h = sym (behind-came l came (kept k ∷ arrangeFrom [] rs) h refl)
+behind-from l came (changed o n ∷ rs) h = sym (behind-came l came (changed o n ∷ arrangeFrom [] rs) h refl)
+behind-from l came (deleted k ∷ rs) h = ap (then (deleted k)) (behind-from l came rs h)
+behind-from l came (inserted k ∷ rs) h = behind-from l (came ++ (inserted k ∷ [])) rs (came-more came k h)
+
+-- arranging, record by record
+pub arrange-kept : (l : Line) (rs : List Record) → arrange (kept l ∷ rs) ≡ kept l ∷ arrange rs
+unfolding arrange arrangeFrom
+arrange-kept l rs = refl
+
+pub arrange-changed : (o n : Line) (rs : List Record) → arrange (changed o n ∷ rs) ≡ changed o n ∷ arrange rs
+unfolding arrange arrangeFrom
+arrange-changed o n rs = refl
+
+pub arrange-deleted : (l : Line) (rs : List Record) → arrange (deleted l ∷ rs) ≡ deleted l ∷ arrange rs
+unfolding arrange arrangeFrom
+arrange-deleted l rs = refl
+
+pub arrange-inserted : (l : Line) (rs : List Record) → arrange (inserted l ∷ rs) ≡ behind l (arrange rs)
+unfolding arrange arrangeFrom
+arrange-inserted l rs = behind-from l [] rs tt
 
 -- ---- parts
 

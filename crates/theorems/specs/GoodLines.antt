@@ -8,11 +8,12 @@ use lib.ListN.{length, getD, take, drop, length-append, length-take, length-drop
 use lib.Seq.{length-take-le}
 use lib.Dec.{leb}
 use borrow.Author.Tests.{leb-true}
-use Rattle.definitions.specs.Bytes.{Line, isText, isCapital, isSmall, upper, lower, eqLine, allText}
+use Rattle.definitions.specs.Bytes.{Line, isText, isCapital, isSmall, upper, lower, allText}
 use Rattle.definitions.specs.Journal.{Record, kept, changed, deleted, inserted, change, rewrite, erase}
 use Rattle.definitions.specs.Editor.{current}
 use Rattle.definitions.specs.Edit.{Change, afterIt, beforeIt, exchange, splice, altered, cased, recased}
 use Rattle.theorems.specs.Each.{Each, each-append, each-take, each-drop, each-getD}
+use Rattle.theorems.specs.RecordLaws.{by-change}
 use Rattle.theorems.specs.Lines.{text-upTo, text-of}
 use Rattle.theorems.specs.JournalBytes.{IsLine, GoodRecord, line-text, line-of, line-short}
 
@@ -110,12 +111,7 @@ pub current-text : (r : Record) → GoodRecord r → allText (current r) ≡ tru
 current-text r h = line-text (current r) (current-line r h)
 
 change-good : (old new : Line) → IsLine old → IsLine new → GoodRecord (change old new)
-unfolding change
-change-good old new h k = by (eqLine old new) refl
-  where
-    by : (c : Bool) → eqLine old new ≡ c → GoodRecord (cond c (kept old) (changed old new))
-    by true e = h
-    by false e = (h, k, e)
+change-good old new h k = by-change GoodRecord old new (λ e. h) (λ e. (h, k, e))
 
 pub rewrite-good : (r : Record) (new : Line) → GoodRecord r → IsLine new → GoodRecord (rewrite r new)
 unfolding rewrite

@@ -1,15 +1,15 @@
 -- No command reads too little: where EOF is current, a line is not found (21), or there is no next line (30), EOF has been read, and a current line is not deleted. This
 -- holds at the start, is kept by every step, and so holds at the end of every run.
 use mathlib.Core.Path.{refl}
-use mathlib.Core.Bool.{Bool, true, false, cond, not}
+use mathlib.Core.Bool.{Bool, true, false, not}
 use mathlib.Core.Option.{none, some}
 use mathlib.Core.List.{List, [], _∷_}
 use Prim.Native.Nat.{ℕ}
 use lib.ListN.{take, drop}
 use native.Mathlib.Omega.{arith}
 use lib.Dec.{T}
-use Rattle.definitions.specs.Bytes.{Line, eqLine}
-use Rattle.definitions.specs.Journal.{Record, kept, changed, deleted, inserted, oldOf, oldSide, change, rewrite}
+use Rattle.definitions.specs.Bytes.{Line}
+use Rattle.definitions.specs.Journal.{oldOf, oldSide}
 use Rattle.definitions.specs.Matching.{Qualified, placeOf}
 use Rattle.definitions.specs.Search.{Search, holds}
 use Rattle.definitions.specs.Tape.{Tape, unread, ended, bind}
@@ -25,26 +25,12 @@ use Rattle.theorems.specs.Reading.{At}
 use Rattle.theorems.specs.ComesTo.{Gives, Ended, then-comes, and-comes, either-comes, test-comes, some-comes, byte-comes, within-comes, one-comes}
 use Rattle.theorems.specs.Runs.{StepOr, EndOf, inner-all, items-all, runItems-ends}
 use Rattle.theorems.specs.Changes.{HoldsEd, HoldsState, HoldsOut, step-keeps}
+use Rattle.theorems.specs.RecordLaws.{rewrite-live}
 use Rattle.theorems.specs.ReadFar.{AnyLine, AnyText, AnyGlobal, Sourced, read-closed, read-keeps}
-use Rattle.theorems.specs.Reaching.{LiveRecord, Grounded, GroundedState, StoppedState, GroundedOut, other-number, Halts, ComesGrounded, struck-grounded, meetsEof}
+use Rattle.theorems.specs.Reaching.{Grounded, GroundedState, StoppedState, GroundedOut, other-number, Halts, ComesGrounded, struck-grounded, meetsEof}
 use Rattle.theorems.specs.GroundedMoves.{Ground, OnLine, Spans, line-grounded, spans-grounded, back-comes, point-comes, lineOr-comes, goAhead-comes, nextOr30-comes, goTo-comes, span-comes}
 
 -- ---- changes of records
-
-change-live : (old new : Line) → LiveRecord (change old new)
-unfolding change
-change-live old new = by (eqLine old new)
-  where
-    by : (c : Bool) → LiveRecord (cond c (kept old) (changed old new))
-    by true = tt
-    by false = tt
-
-rewrite-live : (r : Record) (new : Line) → LiveRecord r → LiveRecord (rewrite r new)
-unfolding rewrite
-rewrite-live (kept l) new h = change-live l new
-rewrite-live (changed o n) new h = change-live o new
-rewrite-live (deleted l) new h = h
-rewrite-live (inserted l) new h = tt
 
 -- what a change needs: a live line, or EOF, read after the records that are struck
 abbrev EditFrom : Edit → Ed → Tape → Type 0

@@ -3,7 +3,7 @@ use mathlib.Core.Path.{_≡_, refl, ap, _∙_}
 use mathlib.Core.Bool.{Bool, true, false, and-eq-true-iff}
 use mathlib.Core.Option.{none, some}
 use mathlib.Core.List.{List, [], _∷_, _++_, append-assoc}
-use Prim.Native.Nat.{ℕ, suc, _≤_}
+use Prim.Native.Nat.{ℕ, suc, _+_, _≤_}
 use native.Mathlib.Omega.{arith}
 use lib.ListN.{length, length-append}
 use lib.Dec.{eqb, leb}
@@ -26,7 +26,7 @@ GoodRecord (inserted l) = IsLine l
 
 -- ---- the number of bytes
 
-record-length : (r : Record) → length (recordBytes r) ≡ recordLength r
+pub record-length : (r : Record) → length (recordBytes r) ≡ recordLength r
 unfolding recordBytes recordLength lineBytes
 record-length (kept l) = ap (λ n. suc (suc n)) (length-append l (10 ∷ [])) ∙ omega arith
 record-length (changed o n) =
@@ -38,6 +38,11 @@ pub journal-length : (rs : List Record) → length (journalBytes rs) ≡ journal
 unfolding journalBytes journalLength
 journal-length [] = refl
 journal-length (r ∷ rs) = length-append (recordBytes r) (journalBytes rs) ∙ omega (arith, record-length r, journal-length rs)
+
+pub length-both : (rs ss : List Record) → journalLength (rs ++ ss) ≡ journalLength rs + journalLength ss
+unfolding journalLength
+length-both [] ss = omega arith
+length-both (r ∷ rs) ss = omega (arith, length-both rs ss)
 
 -- ---- lines
 

@@ -2,6 +2,7 @@ pub mod Each
 pub mod RecordLaws
 pub mod Arranged
 pub mod ArrangeLaws
+pub mod ArrangedTest
 pub mod Lines
 pub mod Places
 pub mod JournalBytes
@@ -24,6 +25,8 @@ pub mod Demand3Items
 pub mod Changes
 pub mod GoodItems
 pub mod GoodLines
+pub mod MiddleLaws
+pub mod JoinLaws
 pub mod GoodGlobals
 pub mod GoodSteps
 pub mod GoodRecords
@@ -33,6 +36,7 @@ pub mod StringsSteps
 pub mod SearchSteps
 pub mod NestingSteps
 pub mod NestingLaws
+pub mod JournalRecords
 pub mod CommandSteps
 pub mod ItemLaws
 pub mod ScriptSteps
@@ -42,8 +46,12 @@ pub mod Frames
 pub mod NestingExamples
 pub mod GoodScripts
 pub mod StopPlaces
+pub mod OneJournal
+pub mod JoinParts
+pub mod JoinAnswers
 pub mod RunReadsBack
 pub mod Demand3Proof
+pub mod OneJournalProof
 pub mod Demand3Values
 pub mod Beyond
 pub mod Demand3Limits

@@ -1,6 +1,6 @@
 -- The lines of bytes, and bytes whose lines are lines in the sense of document 01: a tail of them is such again, and so are the strings and lines
 -- read from them.
-use mathlib.Core.Path.{_≡_, refl, ap, _∙_}
+use mathlib.Core.Path.{_≡_, refl, sym, ap, _∙_}
 use mathlib.Core.Bool.{Bool, true, false, _&&_, _||_, false≢true}
 use mathlib.Core.List.{List, [], _∷_}
 use Prim.Native.Nat.{ℕ, zero, suc, _+_, _≤_, _<_}
@@ -221,3 +221,10 @@ equal-is (x ∷ a) (y ∷ b) h =
     let p : x ≡ y = eqb-true x y (and-left (eqb x y) (eqLine a b) h) in
     let q : a ≡ b = equal-is a b (and-right (eqb x y) (eqLine a b) h) in
     cc
+
+pub equal-not : (k l : Line) → eqLine k l ≡ false → eqLine l k ≡ false
+equal-not k l h = go (eqLine l k) refl
+  where
+    go : (c : Bool) → eqLine l k ≡ c → eqLine l k ≡ false
+    go true e = absurd (false≢true (sym h ∙ rw (equal-is l k e) (equal-itself k)))
+    go false e = e

@@ -20,7 +20,7 @@ use Rattle.theorems.specs.NestingLaws.{none-some}
 use Rattle.theorems.specs.Each.{Each, each-append}
 use Rattle.theorems.specs.Reading.{At}
 use Rattle.theorems.specs.ReadLines.{lines-ended, lines-met}
-use Rattle.theorems.specs.RecordLaws.{reverse-append, sources-append}
+use Rattle.theorems.specs.RecordLaws.{LiveRecord, reverse-append, sources-append}
 use Rattle.theorems.specs.OldSide.{seen-records}
 use Rattle.theorems.specs.ComesTo.{Gives, Stops, Ended, ComesTo}
 use Rattle.theorems.specs.Passing.{line-comes-to}
@@ -28,12 +28,6 @@ use Rattle.theorems.specs.Runs.{StepOr}
 use Rattle.theorems.specs.ReadFar.{AtLeast, atLeast-of, atLeast-more}
 
 -- ---- what is shown
-
-abbrev pub LiveRecord : Record → Type 0
-LiveRecord (kept l) = Unit {0}
-LiveRecord (changed o n) = Unit {0}
-LiveRecord (deleted l) = ⊥
-LiveRecord (inserted l) = Unit {0}
 
 -- where EOF is current, it has been read; a current record is live
 abbrev pub Grounded : Ed → Tape → Type 0

@@ -1,4 +1,4 @@
--- Laws about lists of records and their old side.
+-- Laws about records, lists of them and their old side.
 use mathlib.Core.Path.{_≡_, refl, sym, ap, _∙_}
 use mathlib.Core.Bool.{Bool, true, false, cond}
 use mathlib.Core.List.{List, [], _∷_, _++_, map, reverseAux, append-assoc}
@@ -35,13 +35,26 @@ pub old-same : (before xs ys : List Record) → oldSide xs ≡ oldSide ys → ol
 old-same [] xs ys e = e
 old-same (r ∷ before) xs ys e = old-same before (r ∷ xs) (r ∷ ys) (unfold oldSide in (ap (λ (ls : List Line). oldOf r ++ ls) e))
 
-change-old : (old new : Line) (after : List Record) → oldSide (change old new ∷ after) ≡ old ∷ oldSide after
+-- what holds of a record of two lines whether they are equal or not
+pub by-change : (P : Record → Type 0) (old new : Line) → (eqLine old new ≡ true → P (kept old)) → (eqLine old new ≡ false → P (changed old new)) → P (change old new)
 unfolding change
-change-old old new after = by (eqLine old new)
+by-change P old new same other = by (eqLine old new) refl
   where
-    by : (c : Bool) → oldSide (cond c (kept old) (changed old new) ∷ after) ≡ old ∷ oldSide after
-    by true = unfold oldSide oldOf in refl
-    by false = unfold oldSide oldOf in refl
+    by : (c : Bool) → eqLine old new ≡ c → P (cond c (kept old) (changed old new))
+    by true e = same e
+    by false e = other e
+
+pub change-same : (old new : Line) → eqLine old new ≡ true → change old new ≡ kept old
+unfolding change
+change-same old new e = rw e
+
+pub change-other : (old new : Line) → eqLine old new ≡ false → change old new ≡ changed old new
+unfolding change
+change-other old new e = rw e
+
+change-old : (old new : Line) (after : List Record) → oldSide (change old new ∷ after) ≡ old ∷ oldSide after
+unfolding oldSide oldOf
+change-old old new after = by-change (λ r. oldSide (r ∷ after) ≡ old ∷ oldSide after) old new (λ e. refl) (λ e. refl)
 
 pub rewrite-old : (r : Record) (l : Line) (after : List Record) → oldSide (rewrite r l ∷ after) ≡ oldSide (r ∷ after)
 unfolding rewrite oldSide oldOf
@@ -57,9 +70,47 @@ erase-old before (changed o n) after = old-same before (deleted o ∷ after) (ch
 erase-old before (deleted l) after = refl
 erase-old before (inserted l) after = old-same before after (inserted l ∷ after) refl
 
+-- what is left of a record has its old line
+pub erase-first : (r : Record) (after : List Record) → oldSide (erase r ++ after) ≡ oldSide (r ∷ after)
+unfolding erase oldSide oldOf
+erase-first (kept l) after = refl
+erase-first (changed o n) after = refl
+erase-first (deleted l) after = refl
+erase-first (inserted l) after = refl
+
 pub insert-old : (before : List Record) (l : Line) (after : List Record) → oldSide (reverseAux before (inserted l ∷ after)) ≡ oldSide (reverseAux before after)
 unfolding oldSide oldOf
 insert-old before l after = old-same before (inserted l ∷ after) after refl
+
+-- ---- records whose line is there to be changed
+
+abbrev pub LiveRecord : Record → Type 0
+LiveRecord (kept l) = Unit {0}
+LiveRecord (changed o n) = Unit {0}
+LiveRecord (deleted l) = ⊥
+LiveRecord (inserted l) = Unit {0}
+
+pub rewrite-live : (r : Record) (new : Line) → LiveRecord r → LiveRecord (rewrite r new)
+unfolding rewrite
+rewrite-live (kept l) new h = by-change LiveRecord l new (λ e. tt) (λ e. tt)
+rewrite-live (changed o n) new h = by-change LiveRecord o new (λ e. tt) (λ e. tt)
+rewrite-live (deleted l) new h = h
+rewrite-live (inserted l) new h = tt
+
+-- a line changed twice, and one changed and deleted
+pub rewrite-again : (r : Record) (l m : Line) → rewrite (rewrite r l) m ≡ rewrite r m
+unfolding rewrite
+rewrite-again (kept k) l m = by-change (λ r. rewrite r m ≡ change k m) k l (λ e. refl) (λ e. refl)
+rewrite-again (changed o n) l m = by-change (λ r. rewrite r m ≡ change o m) o l (λ e. refl) (λ e. refl)
+rewrite-again (deleted k) l m = refl
+rewrite-again (inserted k) l m = refl
+
+pub erase-again : (r : Record) (l : Line) → erase (rewrite r l) ≡ erase r
+unfolding rewrite erase
+erase-again (kept k) l = by-change (λ r. erase r ≡ deleted k ∷ []) k l (λ e. refl) (λ e. refl)
+erase-again (changed o n) l = by-change (λ r. erase r ≡ deleted o ∷ []) o l (λ e. refl) (λ e. refl)
+erase-again (deleted k) l = refl
+erase-again (inserted k) l = refl
 
 -- ---- the number of source lines among records
 

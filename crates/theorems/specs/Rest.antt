@@ -1,13 +1,12 @@
 -- The lines that a done run leaves unread: they pass through the standing globals, all of them, or none where these stop (document 02, wish 2). So the answer of a run
 -- is one of two: what its last state tells, or a stop with 25 or 26 after the script's end.
 use mathlib.Core.Path.{_≡_, refl, sym, ap, _∙_}
-use mathlib.Core.Bool.{Bool, true, false, cond}
 use mathlib.Core.Logic.{_⊎_, inl, inr}
 use mathlib.Core.List.{List, [], _∷_, _++_, map, append-nil, append-assoc}
 use Prim.Native.Nat.{ℕ, zero, suc}
 use native.Mathlib.Omega.{arith}
 use lib.ListN.{length}
-use Rattle.definitions.specs.Bytes.{Line, eqLine}
+use Rattle.definitions.specs.Bytes.{Line}
 use Rattle.definitions.specs.Journal.{Record, kept, changed, change}
 use Rattle.definitions.specs.Arranging.{arrange}
 use Rattle.definitions.specs.Tape.{Tape, unread, ended, restLines, bind}
@@ -18,6 +17,7 @@ use Rattle.definitions.specs.Reading.{Ran, gave, stopped, onceRead, seen, readL
 use Rattle.definitions.specs.StepProgram.{state, textOf}
 use Rattle.definitions.specs.Run.{End, end, endPlace, Answer, answer, restPassed, inRunOrder, arranged, answerOf}
 use Rattle.theorems.specs.Each.{Each, each-all, each-map}
+use Rattle.theorems.specs.RecordLaws.{by-change, change-same, change-other}
 use Rattle.theorems.specs.Arranged.{IsApart}
 use Rattle.theorems.specs.ArrangeLaws.{arrange-tail}
 use Rattle.theorems.specs.Reading.{At}
@@ -42,14 +42,6 @@ passed-more : (e : Ed) (c : Carried) (l : Line) (ls : List Line) (new : Line) (r
 passed-more e c l ls new r q p (gave u e′) h =
     (h .0 ∙ rw (seen-records r e, append-assoc, rest-more c l ls new q, p), ((new, q), h .1))
 passed-more e c l ls new r q p (stopped n e′) h = h
-
-change-same : (l new : Line) → eqLine l new ≡ true → change l new ≡ kept l
-unfolding change
-change-same l new q = rw q
-
-change-other : (l new : Line) → eqLine l new ≡ false → change l new ≡ changed l new
-unfolding change
-change-other l new q = rw q
 
 why-stopped : (c : Carried) (l : Line) (n : Stop) → (leftBy c l ≡ stop n) ⊎ (n ≡ n26) → (n ≡ n25) ⊎ (n ≡ n26)
 why-stopped c l n (inl q) = inl (left-25 c l n q)
@@ -93,12 +85,8 @@ rest-read g c e ended = unfold readLines readLine bind onceRead in refl
 -- ---- unread lines are kept or changed: arranging parts there, and leaves them
 
 left-apart : (l : Line) (x : Got Line) → IsApart (leftAs l x)
-unfolding leftAs change
-left-apart l (got new) = by (eqLine l new)
-  where
-    by : (b : Bool) → IsApart (cond b (kept l) (changed l new))
-    by true = tt
-    by false = tt
+unfolding leftAs
+left-apart l (got new) = by-change IsApart l new (λ e. tt) (λ e. tt)
 left-apart l (stop n) = tt
 
 pub unread-apart : (n : ℕ) (c : Carried) (ls : List Line) → Each IsApart (unreadAs n c ls)
