@@ -20,18 +20,17 @@ use Rattle.journal.specs.declared.records.View.{View}
 use Rattle.journal.specs.declared.measure.Measures.{Measures}
 use Rattle.journal.specs.declared.measure.Checked.the-variants.{Records, NotRecords}
 use Rattle.journal.specs.declared.measure.Fit.the-variants.{Enough, Lacking}
-use Rattle.journal.proofs.Walk.{recordsFrom, records-few}
-use Rattle.journal.proofs.Going.{few-some}
+use Rattle.journal.proofs.Left.{left-start}
 use Rattle.journal.proofs.Views.{out-length}
 
 -- ---- what the check and the room say
 
-checked-none : (o : Option (List Record)) → checked o ≡ NotRecords → o ≡ none
+pub checked-none : (o : Option (List Record)) → checked o ≡ NotRecords → o ≡ none
 unfolding checked
 checked-none none h = refl
 checked-none (some rs) h = absurd (let z : _≡_ {A = ℕ} 0 1 = cc in omega arith)
 
-checked-some : (o : Option (List Record)) (m : Measures) → checked o ≡ Records m → (rs : List Record) × (o ≡ some rs) × (m ≡ measuresOf rs)
+pub checked-some : (o : Option (List Record)) (m : Measures) → checked o ≡ Records m → (rs : List Record) × (o ≡ some rs) × (m ≡ measuresOf rs)
 unfolding checked
 checked-some none m h = absurd (let z : _≡_ {A = ℕ} 0 1 = cc in omega arith)
 checked-some (some rs) m h = (rs, refl, cc)
@@ -64,7 +63,7 @@ module _ (view : View) (j d : List ℕ) where
     found = checked-some (recordsOf j) m h
 
     long : length (outOf view (found .0)) ≡ lengthBy view m
-    long = out-length view (found .0) (few-some (recordsFrom j) (found .0) (sym (records-few j) ∙ found .1) .1) ∙ ap (lengthBy view) (sym (found .2))
+    long = out-length view (found .0) (left-start j (found .0) (found .1) .1) ∙ ap (lengthBy view) (sym (found .2))
 
     pub read-short : roomFor (lengthBy view m) (length d) ≡ Lacking → answered Short d ≡ readOut (outOf view) (recordsOf j) d
     unfolding answered readOut writtenTo

@@ -1,18 +1,16 @@
 -- Writing a journal: the state between two records, and its steps. Assumes nothing.
-use mathlib.Core.Path.{_≡_, refl, sym, ap, _∙_}
-use mathlib.Core.Bool.{Bool, true, false, not}
-use mathlib.Core.Option.{Option, none, some}
+use mathlib.Core.Path.{_≡_, sym, ap, _∙_}
+use mathlib.Core.Bool.{true, false, not}
+use mathlib.Core.Option.{some}
 use mathlib.Core.List.{List, [], _∷_, _++_}
 use Prim.Native.Nat.{ℕ, _+_, _≤_, _<_}
 use native.Mathlib.Omega.{arith}
-use lib.ListN.{length, drop, length-append, drop-of-length-le}
-use lib.Dec.{leb}
-use borrow.Author.Tests.{leb-true}
+use lib.ListN.{length, drop, length-append}
 use Rattle.definitions.specs.Bytes.{Line}
-use Rattle.definitions.specs.Journal.{Record, oldOf, oldSide, followed, fewOldLines, recordsOf}
+use Rattle.definitions.specs.Journal.{Record, oldOf, oldSide, recordsOf}
 use Rattle.text.specs.Buffer.{laid}
 use Rattle.text.proofs.Buffer.{laid-none, laid-length, laid-laid}
-use Rattle.journal.specs.Records.{recordAt, recordOf, recordIn, unchangedIn}
+use Rattle.journal.specs.Records.{recordAt, recordOf, recordIn, unchangedIn, recordsFrom}
 use Rattle.journal.specs.Views.{goneBy, piece, outFrom, outOf}
 use Rattle.journal.specs.declared.records.Mark.{Mark}
 use Rattle.journal.specs.declared.records.Mark.the-variants.{Kept, Changed, Deleted, Inserted}
@@ -20,35 +18,9 @@ use Rattle.journal.specs.declared.records.Extent.{Extent}
 use Rattle.journal.specs.declared.records.RecordAt.the-variants.{NoRecord}
 use Rattle.journal.specs.declared.records.View.{View}
 use Rattle.journal.specs.declared.write.Gone.{Gone}
-use Rattle.journal.proofs.Walk.{recordsFrom, records-few, records-none}
 use Rattle.journal.proofs.Here.{Here, nowhere}
+use Rattle.journal.proofs.Left.{none-some, some-is, followed-some, left-start, left-end}
 use Rattle.journal.proofs.Views.{out-next, out-none}
-
-none-some : {A : Type 0} (a : A) → none ≡ some a → ⊥
-none-some a h = let z : _≡_ {A = ℕ} 0 1 = cc in omega arith
-
-some-is : {A : Type 0} (a b : A) → some a ≡ some b → a ≡ b
-some-is a b h = cc
-
--- the records of a journal are few
-pub few-some : (o : Option (List Record)) (rs : List Record) → fewOldLines o ≡ some rs → (o ≡ some rs) × (length (oldSide rs) ≤ 65535)
-unfolding fewOldLines
-few-some none rs h = absurd (none-some rs h)
-few-some (some qs) rs h = go (leb (length (oldSide qs)) 65535) refl
-  where
-    go : (t : Bool) → leb (length (oldSide qs)) 65535 ≡ t → (some qs ≡ some rs) × (length (oldSide rs) ≤ 65535)
-    go true e =
-        let is : some qs ≡ some rs = rw e at h in
-        (is, rw (some-is qs rs is) at (leb-true (length (oldSide qs)) 65535 e))
-    go false e = absurd (none-some rs (rw e at h))
-
--- the first of some records
-followed-some : (good : Bool) (r : Record) (o : Option (List Record)) (rs : List Record) → followed good r o ≡ some rs
-    → (qs : List Record) × (o ≡ some qs) × (rs ≡ r ∷ qs)
-unfolding followed
-followed-some true r none rs h = absurd (none-some rs h)
-followed-some true r (some qs) rs h = (qs, refl, sym (some-is (r ∷ qs) rs h))
-followed-some false r o rs h = absurd (none-some rs h)
 
 -- from `at` on the records `rs` are left; `out` bytes of `d` are written, `g` has gone by
 pub record Going (view : View) (j d₀ : List ℕ) (at out : ℕ) (g : Gone) (d : List ℕ) : Type 0 where
@@ -62,7 +34,7 @@ module _ (view : View) (j d₀ : List ℕ) where
   pub going-start : (rs : List Record) → recordsOf j ≡ some rs → length (outOf view rs) ≤ length d₀ → Going view j d₀ 0 0 (record { lines = 0; gap = false }) d₀
   unfolding outOf
   going-start rs e h =
-      let f = few-some (recordsFrom j) rs (sym (records-few j) ∙ e) in record {
+      let f = left-start j rs e in record {
         rs = rs;
         left = f .0;
         few = omega (arith, f .1);
@@ -79,11 +51,11 @@ module _ (view : View) (j d₀ : List ℕ) where
 
     pub going-end : length j ≤ at → (all : List Record) → recordsOf j ≡ some all → d ≡ laid d₀ 0 (outOf view all)
     going-end h all k =
-        let e : s .rs ≡ [] = sym (some-is [] (s .rs) (sym records-none ∙ ap recordsFrom (sym (drop-of-length-le j {i = at} h)) ∙ s .left)) in
+        let e : s .rs ≡ [] = left-end j at (s .rs) h (s .left) in
         sym (ap (λ (q : List Record). laid d out (outFrom view g q)) e ∙ ap (laid d out) (out-none view g) ∙ laid-none d out) ∙ s .whole all k
 
     module _ (x : Extent) (w : Here j at x) where
-      rest : (qs : List Record) × (recordsFrom (drop (x .end + 1) j) ≡ some qs) × (s .rs ≡ recordIn j x ∷ qs)
+      rest : (qs : List Record) × (recordsFrom (drop (x .end + 1) j) ≡ some qs) × (s .rs ≡ recordIn j x ∷ qs) × (not (unchangedIn j x) ≡ true)
       rest = followed-some (not (unchangedIn j x)) (recordIn j x) (recordsFrom (drop (x .end + 1) j)) (s .rs) (sym (w .records) ∙ s .left)
 
       out-is : outFrom view g (s .rs) ≡ piece view g (recordIn j x) ++ outFrom view (goneBy g (x .mark)) (rest .0)

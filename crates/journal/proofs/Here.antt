@@ -14,7 +14,7 @@ use Rattle.text.specs.declared.LineEnd.{LineEnd}
 use Rattle.text.specs.declared.LineEnd.the-variants.{At, Bad}
 use Rattle.text.proofs.Lines.{Plain, line-plain}
 use Rattle.text.proofs.Ends.{Ended, ended}
-use Rattle.journal.specs.Records.{markOf, markIn, recordAt, recordOf, recordIn, equalLines, unchangedIn, InOrder}
+use Rattle.journal.specs.Records.{markOf, markIn, recordAt, recordOf, recordIn, equalLines, unchangedIn, InOrder, recordsFrom}
 use Rattle.journal.specs.declared.records.Mark.{Mark}
 use Rattle.journal.specs.declared.records.Mark.the-variants.{Kept, Changed, Deleted, Inserted}
 use Rattle.journal.specs.declared.records.MarkAt.{MarkAt}
@@ -22,7 +22,7 @@ use Rattle.journal.specs.declared.records.MarkAt.the-variants.{Is, NoMar
 use Rattle.journal.specs.declared.records.Extent.{Extent}
 use Rattle.journal.specs.declared.records.RecordAt.the-variants.{Found, NoRecord}
 use Rattle.journal.proofs.Places.{mark-there, no-mark, no-first, no-second, found-kept, found-changed, found-deleted, found-inserted}
-use Rattle.journal.proofs.Walk.{recordsFrom, from-kept, from-changed, from-deleted, from-inserted, from-unmarked, from-bad, from-bad-new}
+use Rattle.journal.proofs.Walk.{from-kept, from-changed, from-deleted, from-inserted, from-unmarked, from-bad, from-bad-new}
 
 -- the last line of a record: a changed record's second line, else its only one
 abbrev pub LastLine : Mark → List ℕ → ℕ → ℕ → Type 0
@@ -93,10 +93,10 @@ module _ (j : List ℕ) (at a b mid : ℕ) (front : drop at j ≡ a ∷ b ∷ dr
             ∙ from-changed a b k n (drop (end + 1) j) plain (line-plain n (g .line)) h ∙ rw (f .line, g .line);
       }
 
-found-is : (x y : Extent) → Found x ≡ Found y → x ≡ y
+pub found-is : (x y : Extent) → Found x ≡ Found y → x ≡ y
 found-is x y h = cc
 
-none-found : (x : Extent) → NoRecord ≡ Found x → ⊥
+pub none-found : (x : Extent) → NoRecord ≡ Found x → ⊥
 none-found x h = let z : _≡_ {A = ℕ} 0 1 = cc in omega arith
 
 -- a record found

@@ -15,7 +15,7 @@ use Rattle.text.specs.Lines.{part}
 use Rattle.text.proofs.Parts.{part-length}
 use Rattle.text.proofs.Lines.{lines-bytes-append, lines-bytes-one}
 use Rattle.text.proofs.Ends.{Ended, ended-bytes}
-use Rattle.journal.specs.Records.{recordAt, recordOf, recordIn, unchangedIn, InOrder, oldSpan, newSpan}
+use Rattle.journal.specs.Records.{recordAt, recordOf, recordIn, unchangedIn, InOrder, oldSpan, newSpan, recordsFrom}
 use Rattle.journal.specs.Measuring.{spanLines, spanLength, AtMost, withRecord, measuresOf, checked, roomFor}
 use Rattle.journal.specs.declared.records.Mark.{Mark}
 use Rattle.journal.specs.declared.records.Mark.the-variants.{Kept, Changed, Deleted, Inserted}
@@ -27,7 +27,7 @@ use Rattle.journal.specs.declared.measure.Measures.{Measures}
 use Rattle.journal.specs.declared.measure.Checked.{Checked}
 use Rattle.journal.specs.declared.measure.Checked.the-variants.{Records, NotRecords}
 use Rattle.journal.specs.declared.measure.Fit.the-variants.{Enough, Lacking}
-use Rattle.journal.proofs.Walk.{recordsFrom, records-few, records-none}
+use Rattle.journal.proofs.Walk.{records-few, records-none}
 use Rattle.journal.proofs.Here.{Here, LastLine, nowhere}
 
 -- the bytes of a span

@@ -14,15 +14,11 @@ use Rattle.text.specs.Lines.{upToLF, lineEnd}
 use Rattle.text.specs.declared.LineEnd.the-variants.{Bad}
 use Rattle.text.proofs.Lines.{Plain, and-false, first-line, last-after, last-plain, cut-of, plain-tail}
 use Rattle.text.proofs.Ends.{no-line}
-use Rattle.journal.specs.Records.{markOf, markIn}
+use Rattle.journal.specs.Records.{markOf, markIn, recordsFrom}
 use Rattle.journal.specs.declared.records.Mark.{Mark}
 use Rattle.journal.specs.declared.records.Mark.the-variants.{Kept, Changed, Deleted, Inserted}
 use Rattle.journal.specs.declared.records.MarkAt.{MarkAt}
 use Rattle.journal.specs.declared.records.MarkAt.the-variants.{Is, NoMark}
-
--- the records of bytes, however many lines their old side has
-unfoldable pub recordsFrom : List ℕ → Option (List Record)
-recordsFrom bs = cond (eqb (lastByte 10 bs) 10) (recordsIn none (linesOf bs)) none
 
 pub records-few : (j : List ℕ) → recordsOf j ≡ fewOldLines (recordsFrom j)
 unfolding recordsOf recordsFrom fewOldLines

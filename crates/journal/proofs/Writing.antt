@@ -1,7 +1,7 @@
 -- The steps of writing one record: its head, then its line. Assumes nothing.
-use mathlib.Core.Path.{_≡_, sym, ap, _∙_}
-use mathlib.Core.List.{List, [], _++_}
-use Prim.Native.Nat.{ℕ, _+_, _-_, _≤_}
+use mathlib.Core.Path.{_≡_, refl, sym, ap, _∙_}
+use mathlib.Core.List.{List, [], _∷_, _++_}
+use Prim.Native.Nat.{ℕ, _+_, _-_, _≤_, _<_}
 use native.Mathlib.Nat.{add-zero}
 use native.Mathlib.Omega.{arith}
 use lib.ListN.{length, length-append}
@@ -9,7 +9,7 @@ use Rattle.text.specs.Lines.{part}
 use Rattle.text.specs.Buffer.{laid}
 use Rattle.text.proofs.Buffer.{laid-none, laid-length, laid-laid}
 use Rattle.journal.specs.Records.{recordIn, oldSpan, newSpan, viewSpan}
-use Rattle.journal.specs.Views.{headOf, headBy, piece}
+use Rattle.journal.specs.Views.{Puts, headOf, headBy, piece}
 use Rattle.journal.specs.declared.records.Mark.{Mark}
 use Rattle.journal.specs.declared.records.Mark.the-variants.{Kept, Changed, Deleted, Inserted}
 use Rattle.journal.specs.declared.records.Extent.{Extent}
@@ -17,13 +17,33 @@ use Rattle.journal.specs.declared.records.View.{View}
 use Rattle.journal.specs.declared.records.View.the-variants.{OldSide, NewSide, Listing}
 use Rattle.journal.specs.declared.records.Span.the-variants.{Bytes, Nothing}
 use Rattle.journal.specs.declared.write.Gone.{Gone}
-use Rattle.journal.proofs.Here.{Here}
+use Rattle.journal.proofs.Here.{LastLine, Here}
 use Rattle.text.proofs.Parts.{part-length}
 use Rattle.journal.proofs.Views.{head-length, shownAs, piece-shown}
 
 -- nothing written
 none-written : (d out : List ℕ) (o : ℕ) → out ≡ [] → (o ≡ o + length out) × (d ≡ laid d o out)
 none-written d out o e = rw e (sym (add-zero o), sym (laid-none d o))
+
+-- nothing written over bytes
+pub puts-none : (d : List ℕ) (o : ℕ) → Puts [] d o d o
+puts-none d o = none-written d [] o refl
+
+-- bytes written after bytes
+pub puts-both : (a b d d₁ d₂ : List ℕ) (o o₁ o₂ : ℕ) → o + length a ≤ length d → Puts a d o d₁ o₁ → Puts b d₁ o₁ d₂ o₂ → Puts (a ++ b) d o d₂ o₂
+puts-both a b d d₁ d₂ o o₁ o₂ h p q = (
+  omega (arith, p .0, q .0, length-append a b),
+  q .1 ∙ ap (λ (x : List ℕ). laid x o₁ b) (p .1) ∙ ap (λ (i : ℕ). laid (laid d o a) i b) (p .0) ∙ laid-laid d o a h b,
+)
+
+-- the bytes of a buffer stay as many
+pub puts-length : (a d d₁ : List ℕ) (o o₁ : ℕ) → o + length a ≤ length d → Puts a d o d₁ o₁ → length d₁ ≡ length d
+puts-length a d d₁ o o₁ h p = ap length (p .1) ∙ laid-length d o a h
+
+-- bytes written after a mark
+pub marked-done : (a b : ℕ) (s d d₁ d₂ : List ℕ) (o r : ℕ) → o + 2 + length s ≤ length d → d₁ ≡ laid d o (a ∷ b ∷ []) → Puts s d₁ (o + 2) d₂ r
+    → Puts (a ∷ b ∷ s) d o d₂ r
+marked-done a b s d d₁ d₂ o r h e p = puts-both (a ∷ b ∷ []) s d d₁ d₂ o (o + 2) r (omega arith) (refl, e) p
 
 module _ (m : Mark) (g : Gone) (d : List ℕ) (o : ℕ) where
   pub head-old : (view : View) → view ≡ OldSide → (o ≡ o + length (headBy view m g)) × (d ≡ laid d o (headBy view m g))
@@ -54,29 +74,33 @@ no-span : (a e : ℕ) → Nothing ≡ Bytes a e → ⊥
 no-span a e h = let z : _≡_ {A = ℕ} 0 1 = cc in omega arith
 
 module _ (j : List ℕ) (x : Extent) (w : Here j (x .at) x) where
-  within : (p q a e : ℕ) → p ≤ q → q ≤ length j → Bytes p q ≡ Bytes a e → (a ≤ e) × (e ≤ length j)
+  within : (p q a e : ℕ) → p < q → q ≤ length j → Bytes p q ≡ Bytes a e → (a < e) × (e ≤ length j)
   within p q a e l h k = let s = span-is p q a e k in (omega (arith, s .0, s .1), omega (arith, s .1))
 
-  old-within : (m : Mark) (a e : ℕ) → oldSpan m x ≡ Bytes a e → (a ≤ e) × (e ≤ length j)
+  -- the line that a record gives to the old side lies within the journal, and so does that of the new side
+  pub old-within : (m : Mark) (a e : ℕ) → oldSpan m x ≡ Bytes a e → (a < e) × (e ≤ length j)
   unfolding oldSpan
   old-within Kept a e k = within _ _ a e (omega (arith, w .first .low)) (omega (arith, w .first .high)) k
   old-within Changed a e k = within _ _ a e (omega (arith, w .first .low)) (omega (arith, w .first .high)) k
   old-within Deleted a e k = within _ _ a e (omega (arith, w .first .low)) (omega (arith, w .first .high)) k
   old-within Inserted a e k = absurd (no-span a e k)
 
-  new-within : (m : Mark) (a e : ℕ) → newSpan m x ≡ Bytes a e → (a ≤ e) × (e ≤ length j)
+  pub new-within : (m : Mark) → LastLine m j (x .mid) (x .end) → (a e : ℕ) → newSpan m x ≡ Bytes a e → (a < e) × (e ≤ length j)
   unfolding newSpan
-  new-within Kept a e k = within _ _ a e (omega (arith, w .first .low, w .order)) (omega (arith, w .inside)) k
-  new-within Changed a e k = within _ _ a e (omega (arith, w .order)) (omega (arith, w .inside)) k
-  new-within Deleted a e k = absurd (no-span a e k)
-  new-within Inserted a e k = within _ _ a e (omega (arith, w .first .low, w .order)) (omega (arith, w .inside)) k
+  new-within Kept l a e k = within _ _ a e (omega (arith, w .first .low)) (omega (arith, w .first .high)) k
+  new-within Changed l a e k = within _ _ a e (omega (arith, l .low)) (omega (arith, l .high)) k
+  new-within Deleted l a e k = absurd (no-span a e k)
+  new-within Inserted l a e k = within _ _ a e (omega (arith, w .first .low)) (omega (arith, w .first .high)) k
+
+  weakly : (a e : ℕ) → (a < e) × (e ≤ length j) → (a ≤ e) × (e ≤ length j)
+  weakly a e h = (omega (arith, h .0), h .1)
 
   -- a span lies within the journal
   pub span-within : (view : View) (a e : ℕ) → viewSpan view x ≡ Bytes a e → (a ≤ e) × (e ≤ length j)
   unfolding viewSpan
-  span-within OldSide a e k = old-within (x .mark) a e k
-  span-within NewSide a e k = new-within (x .mark) a e k
-  span-within Listing a e k = new-within (x .mark) a e k
+  span-within OldSide a e k = weakly a e (old-within (x .mark) a e k)
+  span-within NewSide a e k = weakly a e (new-within (x .mark) (w .last) a e k)
+  span-within Listing a e k = weakly a e (new-within (x .mark) (w .last) a e k)
 
   module _ (g : Gone) (few : g .lines ≤ 65535) (view : View) where
     shown : piece view g (recordIn j x) ≡ shownAs j view (x .mark) g (viewSpan view x)

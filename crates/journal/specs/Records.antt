@@ -1,11 +1,13 @@
 -- The record that stands at a place of a journal's bytes, and the line that it gives to each view.
+use mathlib.Core.Path.{_≡_}
 use mathlib.Core.Bool.{Bool, false, cond, _&&_}
+use mathlib.Core.Option.{Option, none, some}
 use mathlib.Core.List.{List, [], _∷_}
 use Prim.Native.Nat.{ℕ, _+_, _≤_, _<_}
 use lib.ListN.{drop}
 use lib.Dec.{eqb}
-use Rattle.definitions.specs.Bytes.{Line, eqLine}
-use Rattle.definitions.specs.Journal.{Record, kept, changed, deleted, inserted}
+use Rattle.definitions.specs.Bytes.{Line, eqLine, linesOf, lastByte}
+use Rattle.definitions.specs.Journal.{Record, kept, changed, deleted, inserted, recordsIn}
 use Rattle.text.specs.Lines.{lineEnd, part}
 use Rattle.text.specs.declared.LineEnd.{LineEnd}
 use Rattle.text.specs.declared.LineEnd.the-variants.{At, Bad}
@@ -79,6 +81,14 @@ equalLines Inserted a b = false
 
 unfoldable pub unchangedIn : List ℕ → Extent → Bool
 unchangedIn j x = equalLines (x .mark) (part (x .at + 2) (x .mid) j) (part (x .mid + 1) (x .end) j)
+
+-- the records of bytes, however many lines their old side has
+unfoldable pub recordsFrom : List ℕ → Option (List Record)
+recordsFrom bs = cond (eqb (lastByte 10 bs) 10) (recordsIn none (linesOf bs)) none
+
+-- from the place `at` on the bytes `j` have the records `rs`
+abbrev pub Left : List ℕ → ℕ → List Record → Type 0
+Left j at rs = recordsFrom (drop at j) ≡ some rs
 
 -- an extent's places stand in order, and the next place is a number
 pub record InOrder (x : Extent) : Type 0 where

@@ -1,6 +1,7 @@
-// The readers of a journal: old side, new side and listing.
-mod measure;
-mod records;
+// The records of a journal, and its readers: old side, new side and listing.
+pub mod marks;
+pub mod measure;
+pub mod records;
 mod write;
 
 use measure::Checked;
@@ -12,7 +13,7 @@ ghost use Rattle.definitions.specs.Listing.{readOut, oldSideTo, newSideTo, list
 ghost use Rattle.journal.specs.Views.{outOf};
 ghost use Rattle.journal.specs.Reading.{readingNumber, readingLength, answered};
 
-// What a reader of a journal answers.
+// What a reader of a journal answers, and what joining and turning round answer.
 pub enum Reading {
     // Number 0, and the written length.
     Wrote(usize),
@@ -20,9 +21,11 @@ pub enum Reading {
     Short,
     // Number 11: the bytes are no journal.
     Malformed,
+    // Number 32: the middle tables of two journals differ.
+    Differ,
 }
 
-// Document 01's number for an answer.
+// The number of an answer.
 pub fn number(r: Reading) -> u32
     ensures { λ n. ⌜ n ≡ readingNumber r ⌝ }
 {
@@ -30,6 +33,7 @@ pub fn number(r: Reading) -> u32
         Reading::Wrote(_) => 0,
         Reading::Short => 10,
         Reading::Malformed => 11,
+        Reading::Differ => 32,
     }
 }
 
@@ -41,6 +45,7 @@ pub fn length(r: Reading) -> usize
         Reading::Wrote(n) => n,
         Reading::Short => 0,
         Reading::Malformed => 0,
+        Reading::Differ => 0,
     }
 }
 

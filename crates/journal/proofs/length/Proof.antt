@@ -13,6 +13,9 @@ enum-told c = search needs
 enum-told-2 : tie.Need-enum-told-2
 enum-told-2 c = search needs
 
+enum-told-3 : tie.Need-enum-told-3
+enum-told-3 c = search needs
+
 returns : tie.Need-returns
 unfolding readingLength
 returns c = rw (c .before .r .given .1)
@@ -25,5 +28,9 @@ returns-3 : tie.Need-returns-3
 unfolding readingLength
 returns-3 c = rw (c .enum-told2 .given .1)
 
+returns-4 : tie.Need-returns-4
+unfolding readingLength
+returns-4 c = rw (c .enum-told3 .given .1)
+
 pub length-spec : {M : Type 1} → statement M
-length-spec = tie.close (tie.spec enum-known-r enum-told enum-told-2 returns returns-2 returns-3)
+length-spec = tie.close (tie.spec enum-known-r enum-told enum-told-2 enum-told-3 returns returns-2 returns-3 returns-4)

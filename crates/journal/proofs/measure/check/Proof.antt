@@ -5,8 +5,8 @@ use native.Mathlib.Omega.{arith}
 use borrow.Author.Needs.{needs}
 use lib.ListN.{length, drop}
 use Rattle.definitions.specs.Journal.{recordsOf}
+use Rattle.journal.specs.Records.{recordsFrom}
 use Rattle.journal.specs.Measuring.{AtMost, checked}
-use Rattle.journal.proofs.Walk.{recordsFrom}
 use Rattle.journal.proofs.Here.{here, in-order, found-again, ends-after}
 use Rattle.journal.proofs.Measures.{checkedFrom, nothing-small, counted-small, check-start, check-nowhere, check-equal, check-step, check-end, verdict-good, verdict-bad}
 use Rattle.journal.proofs.measure.check.Statement.{statement}
