@@ -27,8 +27,9 @@ enum {
     /* a run or a reader refused: the loader */
     ZED_WORK_SHORT = 8,         /* the work area is shorter than 2 * script_length + 64 */
     ZED_JOURNAL_SHORT = 9,      /* the journal buffer is shorter than the table and two bytes a line */
-    ZED_DESTINATION_SHORT = 10, /* the destination of a reader is too short */
-    ZED_NOT_A_JOURNAL = 11,     /* the bytes are no list of records, or their old side has over 65,535 lines */
+    ZED_DESTINATION_SHORT = 10, /* the destination of a reader, of joining or of turning round is too short */
+    ZED_NOT_A_JOURNAL = 11,     /* the bytes are no list of records, or their old side has over 65,535 lines; to join or to turn round
+                                   also: their new side has, or a deleted line stands after an inserted one of its stretch */
 
     /*
      * a run stopped: the script does not fit the table; the answer's place says at which command. 25 and 26 can also come after the script's end,
@@ -46,7 +47,10 @@ enum {
     ZED_LINE_BEFORE = 28,  /* the last line to delete is before the first */
     ZED_BUDGET_SPENT = 29, /* the next step would exceed the budget */
     ZED_NO_NEXT = 30,      /* there is no next line to join to the current one */
-    ZED_GLOBALS_FULL = 31  /* sixteen globals stand, and another is given */
+    ZED_GLOBALS_FULL = 31, /* sixteen globals stand, and another is given */
+
+    /* joining refused: the journals are not of two seasons that follow each other */
+    ZED_MIDDLE_DIFFERS = 32 /* the first journal's new side is not the second's old side */
 };
 
 /* What a run comes to. */
@@ -122,6 +126,39 @@ uint64_t zed_run(const uint8_t *table, size_t table_length, const uint8_t *scrip
 uint32_t zed_old_side(const uint8_t *journal, size_t journal_length, uint8_t *dest, size_t dest_length, size_t *written);
 uint32_t zed_new_side(const uint8_t *journal, size_t journal_length, uint8_t *dest, size_t dest_length, size_t *written);
 uint32_t zed_listing(const uint8_t *journal, size_t journal_length, uint8_t *dest, size_t dest_length, size_t *written);
+
+/*
+ * One journal for two seasons, and the way back:
+ *
+ *   zed_join   of a journal from old to middle and one from middle to new that from old to new. A middle line that is kept
+ *              or changed in both stays one record: kept (==) if the first's old and the second's new text are the same,
+ *              else changed (<>). A line that is inserted in the first and deleted in the second leaves nothing. Every
+ *              other line is deleted (--), with its oldest text, or inserted (++), with its newest.
+ *   zed_turn   the journal from new to old: deleted and inserted records change places, a changed record's two lines as well
+ *
+ * What is written is arranged as a run's journal is. Three journals that follow each other join to the same bytes under
+ * either bracketing; turning round twice gives the first bytes.
+ *
+ * What to lend, for the time of the call only:
+ *   first, first_length,         the journals' bytes and their exact number, as for the readers above. Any bytes may be given.
+ *   second, second_length,       They are read and not changed. The first and the second may be the same bytes.
+ *   journal, journal_length
+ *   dest, dest_length            where to write. It must not overlap a journal or *written. It need not be cleared.
+ *   written                      where the written length goes. It is always set.
+ * No pointer may be null, not even where the length is 0. No length may be over PTRDIFF_MAX.
+ *
+ * The result is one of the numbers above: 11 is looked for first, in both journals, then 32, then 10.
+ *   0           the first *written bytes of dest are the journal; the bytes of dest past them are untouched.
+ *               A destination of just the written length is long enough.
+ *   10, 11, 32  *written is 0 and all of dest is untouched.
+ * Here 11 also stands for a journal that is not arranged, that is, in which a deleted line stands after an inserted one of the
+ * same stretch, and for one with over 65,535 lines on either side. The journal of a run is arranged.
+ *
+ * Two joined journals are never longer than both together. A journal turned round is just as long as it was.
+ */
+uint32_t zed_join(const uint8_t *first, size_t first_length, const uint8_t *second, size_t second_length, uint8_t *dest, size_t dest_length,
+                  size_t *written);
+uint32_t zed_turn(const uint8_t *journal, size_t journal_length, uint8_t *dest, size_t dest_length, size_t *written);
 
 #ifdef __cplusplus
 }

@@ -4,6 +4,7 @@ ghost use Rattle.definitions.specs.Run.{answerNumber, bufferAfter};
 ghost use Rattle.journal.specs.Reading.{readingNumber, readingLength};
 ghost use Rattle.zed.specs.Values.{values, runOf};
 ghost use Rattle.definitions.specs.Listing.{numberOf, lengthOf, bytesOf, oldSideTo, newSideTo, listingTo};
+ghost use Rattle.definitions.specs.Joining.{joinTo, turnTo};
 use journal::Reading;
 
 // Runs the script on the table; the journal goes into `journal`, and number, steps, furthest line, the journal's length and place into `answer`.
@@ -59,6 +60,26 @@ pub extern "C" fn zed_listing(j: &[u8], dest: &mut [u8], len: &mut usize) -> u32
     ensures bytes { λ _. ⌜ now (dest .exit) ≡ bytesOf (listingTo (now (j .entry)) (now (dest .entry))) ⌝ }
 {
     answer(journal::listing(j, dest), len)
+}
+
+// The journals `j` and `k` joined, written into `dest`; the length goes into `len`.
+#[no_mangle]
+pub extern "C" fn zed_join(j: &[u8], k: &[u8], dest: &mut [u8], len: &mut usize) -> u32
+    ensures number { λ r. ⌜ r ≡ numberOf (joinTo (now (j .entry)) (now (k .entry)) (now (dest .entry))) ⌝ }
+    ensures length { λ _. ⌜ now (len .exit) ≡ lengthOf (joinTo (now (j .entry)) (now (k .entry)) (now (dest .entry))) ⌝ }
+    ensures bytes { λ _. ⌜ now (dest .exit) ≡ bytesOf (joinTo (now (j .entry)) (now (k .entry)) (now (dest .entry))) ⌝ }
+{
+    answer(seasons::join(j, k, dest), len)
+}
+
+// The journal `j` turned round, written into `dest`; the length goes into `len`.
+#[no_mangle]
+pub extern "C" fn zed_turn(j: &[u8], dest: &mut [u8], len: &mut usize) -> u32
+    ensures number { λ r. ⌜ r ≡ numberOf (turnTo (now (j .entry)) (now (dest .entry))) ⌝ }
+    ensures length { λ _. ⌜ now (len .exit) ≡ lengthOf (turnTo (now (j .entry)) (now (dest .entry))) ⌝ }
+    ensures bytes { λ _. ⌜ now (dest .exit) ≡ bytesOf (turnTo (now (j .entry)) (now (dest .entry))) ⌝ }
+{
+    answer(turning::turn(j, dest), len)
 }
 
 // The number of a reader's answer; its length goes into `len`.
