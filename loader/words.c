@@ -10,6 +10,7 @@ struct meaning {
 static const char AUTHOR[] = "This is for the script's author to mend.";
 static const char KEEPER[] = "This is for the table's keeper to mend.";
 static const char LOADER[] = "This is for whoever runs the loader to mend.";
+static const char JOURNALS[] = "This is for whoever chose the journals to mend.";
 static const char AUTHOR_OR_LOADER[] = "This is for the script's author to mend, or for whoever runs the loader to allow more.";
 static const char TABLE_OR_SCRIPT[] = "The script does not fit this table: its author should look at both.";
 
@@ -25,6 +26,8 @@ static const struct meaning meanings[] = {
       "The table has a byte that is not printable, a line of over 255 bytes, no line end at its end, or more than 65,535 lines.", KEEPER },
     { ZED_WORK_SHORT, "The work area is too short for this script.", LOADER },
     { ZED_JOURNAL_SHORT, "The journal has less room than the table needs at the start.", LOADER },
+    { ZED_DESTINATION_SHORT, "There is less room than what is to be written needs.", LOADER },
+    { ZED_NOT_A_JOURNAL, "These bytes are no journal, or none that can be joined or turned round.", JOURNALS },
     { ZED_AT_EOF, "The command needs a line, and the end of the table is current.", TABLE_OR_SCRIPT },
     { ZED_MET_EOF, "The end of the table was met: the line looked for is not there.", TABLE_OR_SCRIPT },
     { ZED_NO_PREVIOUS, "The start of the table was met: the line looked for is not there.", TABLE_OR_SCRIPT },
@@ -37,6 +40,7 @@ static const struct meaning meanings[] = {
     { ZED_BUDGET_SPENT, "The steps allowed are spent: the script may run for ever, or -b is too small.", AUTHOR_OR_LOADER },
     { ZED_NO_NEXT, "There is no next line to join to the current one.", TABLE_OR_SCRIPT },
     { ZED_GLOBALS_FULL, "Sixteen globals stand already, and the script gives one more.", AUTHOR },
+    { ZED_MIDDLE_DIFFERS, "The middle tables differ: the table that the first journal ends with is not the one that the second begins with.", JOURNALS },
 };
 
 void say_number(FILE *out, uint64_t number)

@@ -1,4 +1,4 @@
-/* What the numbers of a run mean, in plain words, and where in the script they come from. */
+/* What the numbers of a run and of work with journals mean, in plain words, and where in the script a run's numbers come from. */
 #ifndef WORDS_H
 #define WORDS_H
 

@@ -10,29 +10,9 @@
 #include "../include/zed.h"
 #include "check.h"
 #include "runs.h"
+#include "texts.h"
 
 enum { LONGEST = 255, MOST_LINES = 65535 };
-
-/* Text that grows; there is always a 0 after it. */
-typedef struct text {
-    char *at;
-    size_t length, room;
-} text;
-
-static void add(text *t, const char *bytes, size_t n) {
-    if (t->length + n >= t->room) {
-        t->room = 2 * (t->length + n) + 64;
-        t->at = realloc(t->at, t->room);
-        if (t->at == NULL) exit(2);
-    }
-    memcpy(t->at + t->length, bytes, n);
-    t->length += n;
-    t->at[t->length] = 0;
-}
-
-static void say(text *t, const char *words) {
-    add(t, words, strlen(words));
-}
 
 /* Line i of a table: its number, as far as it goes into so many bytes, and filling. */
 static void add_line(text *t, size_t i, size_t length) {

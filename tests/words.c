@@ -1,5 +1,5 @@
 /*
- * The loader's words: every number that a run can end with has words of its own, and says whose matter it is; what a larger budget would do, at the largest and one below it.
+ * The loader's words: every number that a run, a reader of journals or joining can end with has words of its own, and says whose matter it is; what a larger budget would do, at the largest and one below it.
  */
 #define _POSIX_C_SOURCE 200809L
 #include <stdint.h>
@@ -39,8 +39,8 @@ static void going_on(uint64_t steps, const char *has, const char *lacks) {
 }
 
 int main(void) {
-    for (uint64_t number = ZED_SCRIPT_MALFORMED; number <= ZED_JOURNAL_SHORT; number++) has_words(number);
-    for (uint64_t number = ZED_AT_EOF; number <= ZED_GLOBALS_FULL; number++) has_words(number);
+    for (uint64_t number = ZED_SCRIPT_MALFORMED; number <= ZED_NOT_A_JOURNAL; number++) has_words(number);
+    for (uint64_t number = ZED_AT_EOF; number <= ZED_MIDDLE_DIFFERS; number++) has_words(number);
     going_on(0, "With a larger -b", "No larger -b");
     going_on(UINT32_MAX - 1, "With a larger -b", "No larger -b");
     going_on(UINT32_MAX, "No larger -b", "With a larger -b");

@@ -1,12 +1,15 @@
 #!/usr/bin/env python3
-"""Makes run cases by chance: tables and scripts of the commands of document 01 and of wishes 1 to 6 of document 02, some of them damaged.
+"""Makes cases by chance: tables and scripts of the commands of document 01 and of wishes 1 to 6 of document 02, and journals to join and to turn round (wish 7), some
+of them damaged.
 
-    tools/cases.py SEED COUNT | tools/oracle.py outcome > FILE
-    tools/vectors.py run FILE
+    tools/cases.py SEED COUNT [KIND] | tools/oracle.py outcome [KIND] > FILE
+    tools/vectors.py KIND FILE
 
-The first line makes COUNT cases and completes them by the plain interpreter; the second computes them from the definitions and compares.
+The first line makes COUNT cases and completes them by the plain interpreter; the second computes them from the definitions and compares. KIND is run (where it is not
+said), join or turn.
 """
 import random, sys
+import oracle
 R = random.Random(int(sys.argv[1])); N = int(sys.argv[2])
 def w(n, alpha): return ''.join(R.choice(alpha) for _ in range(n))
 def line():
@@ -119,7 +122,7 @@ def script():
     if R.random() < .06:
         i = R.randrange(len(s)); s = s[:i] + R.choice('()&|;/ab0_N\n ') + s[i + R.randint(0, 1):]
     return (s if s.endswith('\n') else s + '\n')
-for _ in range(N):
+def table_and_script():
     t = ''.join(line() + '\n' for _ in range(R.choice([0, 1, 2, 3, 4, 5, 8])))
     s = script()
     # some begin with globals, and so read most of their lines through them; some end soon, and leave lines to them
@@ -128,6 +131,60 @@ for _ in range(N):
     elif r < .6: s = ''.join(changing() + R.choice(['; ', '\n']) for _ in range(R.choice([1, 1, 2, 3, 4]))) + R.choice(['', 'N', 'M 3', 'D', 'F/b/', 'W']) + '\n'
     if R.random() < .1: s = 'M *\n' + s
     if R.random() < .12: s, t = replacing() + s, t + ''.join(line()[:12] + '\n' for _ in range(R.choice([2, 5, 9])))
+    return t, s
+def run_case():
+    t, s = table_and_script()
     opening = len(t) + 2 * t.count('\n')
     size = R.choice([opening + R.randint(0, 30), opening + R.randint(0, 90), 4096, 4096, opening + 300])
-    print((t.encode().hex() or '-'), s.encode().hex(), R.choice([0, 1, 3, 8, 20, 60, 60, 120]), 2 * len(s) + 64, size)
+    return t.encode().hex() or '-', s.encode().hex(), R.choice([0, 1, 3, 8, 20, 60, 60, 120]), 2 * len(s) + 64, size
+def run_records(lines):
+    """The records of a run's journal, done or stopped, from these lines or from a table of its own; none of a refused run."""
+    t, s = table_and_script()
+    if lines is not None: t = ''.join(l.decode() + '\n' for l in lines)
+    if R.random() < .4: s = replacing()
+    return oracle.records(oracle.outcome(t.encode(), s.encode(), 120, 2 * len(s) + 64, 8192)[5])
+def short(): return R.choice([b'', b'', b'a', b'a', b'b', b'ab', b'-', b'--', b'++', b'==', b'<>', b'<>a', line().encode()])
+def any_records(lines):
+    """Records by chance: each old line is kept, changed or deleted, and lines come between them."""
+    out = []
+    if lines is None: lines = [short() for _ in range(R.choice([0, 1, 2, 3, 5, 8, 12]))]
+    keep, come = R.choice([.1, .5, .9]), R.choice([0, .3, .6])
+    for l in lines + [None]:
+        while R.random() < come: out.append(['++', None, short()])
+        if l is None: return oracle.arranged(out)
+        new = l if R.random() < .5 else short()
+        out.append(['--', l, None] if R.random() >= keep else ['==' if l == new else '<>', l, new])
+def some_records(lines): return R.choice([run_records, any_records, any_records])(lines)
+def mixed(recs):
+    """The same records with a stretch, or more than it, in another order; now and then this changes no byte."""
+    i = R.randrange(len(recs) + 1); part = recs[i:i + R.choice([2, 2, 3, 6])]
+    R.shuffle(part)
+    return recs[:i] + part + recs[i + len(part):]
+def damaged(j):
+    i = R.randrange(len(j) + 1)
+    return R.choice([j[:i], j[:i] + bytes([R.choice([0, 10, 31, 43, 45, 60, 61, 62, 127])]) + j[i + R.randint(0, 1):], j + b'\0', j + b'<>a\na\n', j + b'<>a\n', j + b'\n',
+                     j + b'==' + b'x' * R.choice([254, 255, 256]) + b'\n'])
+def given_bytes(recs):
+    r = R.random()
+    if r < .08: recs = mixed(recs)
+    j = oracle.journal_bytes(recs)
+    return damaged(j) if r > .92 else j
+def other_lines(lines):
+    """Another table: a line more, less or changed."""
+    i = R.randrange(len(lines) + 1)
+    return R.choice([lines[:i] + [short()] + lines[i:], lines[:i] + lines[i + 1:], lines[:i] + [short()] + lines[i + 1:]])
+def room_for(length): return R.choice([length, length, max(0, length - 1), max(0, length - 1), length + R.randint(1, 40), 0, 3000])
+def join_case():
+    first = some_records(None)
+    middle = oracle.new_side(first)
+    if R.random() < .12: middle = other_lines(middle)
+    second = some_records(middle)
+    if R.random() < .05: second = some_records(None)
+    j, k = given_bytes(first), given_bytes(second)
+    return j.hex() or '-', k.hex() or '-', room_for(oracle.join(j, k, 1 << 20)[1])
+def turn_case():
+    j = given_bytes(some_records(None))
+    return j.hex() or '-', room_for(oracle.turn(j, 1 << 20)[1])
+make = dict(run=run_case, join=join_case, turn=turn_case)[sys.argv[3] if len(sys.argv) > 3 else 'run']
+sys.setrecursionlimit(20000)
+for _ in range(N): print(*make())

@@ -1,12 +1,13 @@
 /*
- * Runs files of run cases (see tools/vectors.py) over the C interface:
+ * Runs files of cases of runs, of joining and of turning round (see tools/vectors.py) over the C interface; a line's fields tell which it is:
  *
  *     gcc -std=c11 -O2 -Iinclude -o guarded tools/guarded.c target/staticlib/libzed.a
  *     ./guarded FILE..
  *
- * Each case is run twice, with all that is lent ending, and then beginning, at a page that may not be touched; table and script may not be written. Compared are
+ * Each run is made twice, with all that is lent ending, and then beginning, at a page that may not be touched; table and script may not be written. Compared are
  * the five numbers, every byte of the journal buffer, and the old side read out of the journal, which must be the table. Then it is run under other budgets: its own
- * steps, one less, and the largest, or, where its budget was spent, one more.
+ * steps, one less, and the largest, or, where its budget was spent, one more. Joining and turning round are called in the same two ways, the journals may not be written;
+ * compared are number, length and every byte of the destination.
  */
 #define _DEFAULT_SOURCE
 #include <stdint.h>
@@ -18,7 +19,7 @@
 #include "../include/zed.h"
 #include "../tests/check.h"
 
-enum { PAGE = 4096, PAGES = 64, BEFORE = 7, FIELDS = 11, LINE = 1 << 20 };
+enum { PAGE = 4096, PAGES = 64, BEFORE = 7, TURN_FIELDS = 5, JOIN_FIELDS = 6, RUN_FIELDS = 11, LINE = 1 << 20 };
 
 /* A page that may not be touched, then pages that may, then another one. */
 typedef struct area {
@@ -50,6 +51,7 @@ static uint8_t *lent(area a, size_t bytes, int at_end) {
     return at_end ? a.first + a.size - bytes : a.first;
 }
 
+/* Journals to join or to turn round are lent as table and script are. */
 static area tables, scripts, works, journals, answers, sides;
 
 typedef struct run_case {
@@ -69,12 +71,15 @@ static size_t unhexed(char *word) {
     return n;
 }
 
-static int read_case(char *line, run_case *c) {
-    char *field[FIELDS];
+/* The words of a line, and how many they are. */
+static int split(char *line, char *field[RUN_FIELDS]) {
     int n = 0;
 
-    for (char *word = strtok(line, " \n"); word != NULL && n < FIELDS; word = strtok(NULL, " \n")) field[n++] = word;
-    if (n < FIELDS) return 0;
+    for (char *word = strtok(line, " \n"); word != NULL && n < RUN_FIELDS; word = strtok(NULL, " \n")) field[n++] = word;
+    return n;
+}
+
+static int read_case(char **field, run_case *c) {
     c->table = (uint8_t *)field[0];
     c->table_length = unhexed(field[0]);
     c->script = (uint8_t *)field[1];
@@ -162,17 +167,69 @@ static int budgets_agree(const run_case *c) {
     return agrees(c, (uint32_t)c->steps, 1) && agrees(c, UINT32_MAX, 1) && (c->steps == 0 || is_spent(c, (uint32_t)c->steps - 1));
 }
 
+/* A case of joining; of turning round where there is no second journal. */
+typedef struct journals_case {
+    uint8_t *first, *second, *bytes;
+    size_t first_length, second_length, room, length;
+    uint32_t number;
+} journals_case;
+
+static int read_journals(char **field, int given, journals_case *c) {
+    c->first = (uint8_t *)field[0];
+    c->first_length = unhexed(field[0]);
+    c->second = given == 2 ? NULL : (uint8_t *)field[1];
+    c->second_length = given == 2 ? 0 : unhexed(field[1]);
+    field += given;
+    c->room = strtoul(field[-1], NULL, 10);
+    c->number = (uint32_t)strtoul(field[0], NULL, 10);
+    c->length = strtoul(field[1], NULL, 10);
+    c->bytes = (uint8_t *)field[2];
+    return unhexed(field[2]) == c->length && c->first_length <= tables.size && c->second_length <= scripts.size && c->length <= c->room && c->room <= journals.size;
+}
+
+/* Joining or turning round gives what the case says, and touches no byte past it. */
+static int joins_to(const journals_case *c, int at_end) {
+    uint8_t *first = lent(tables, c->first_length, at_end), *second = lent(scripts, c->second_length, at_end);
+    uint8_t *dest = lent(journals, c->room, at_end);
+    size_t *written = (size_t *)(void *)lent(answers, sizeof(size_t), at_end);
+    uint32_t number;
+
+    memcpy(first, c->first, c->first_length);
+    if (c->second != NULL) memcpy(second, c->second, c->second_length);
+    memset(dest, BEFORE, c->room);
+    *written = c->room + 1;
+    allow(tables, PROT_READ);
+    allow(scripts, PROT_READ);
+    if (c->second != NULL)
+        number = zed_join(first, c->first_length, second, c->second_length, dest, c->room, written);
+    else
+        number = zed_turn(first, c->first_length, dest, c->room, written);
+    allow(tables, PROT_READ | PROT_WRITE);
+    allow(scripts, PROT_READ | PROT_WRITE);
+    return number == c->number && *written == c->length && memcmp(dest, c->bytes, c->length) == 0 && all_are(dest + c->length, c->room - c->length, BEFORE);
+}
+
+static int run_line(char *line) {
+    char *field[RUN_FIELDS];
+    int fields = split(line, field);
+    run_case c;
+    journals_case j;
+
+    if (fields == RUN_FIELDS) return read_case(field, &c) && agrees(&c, c.budget, 1) && agrees(&c, c.budget, 0) && budgets_agree(&c);
+    if (fields != JOIN_FIELDS && fields != TURN_FIELDS) return 0;
+    return read_journals(field, fields - 3, &j) && joins_to(&j, 1) && joins_to(&j, 0);
+}
+
 static void run_file(const char *path) {
     static char line[LINE];
     char name[256];
     FILE *file = fopen(path, "r");
-    run_case c;
 
     check(path, file != NULL);
     if (file == NULL) return;
     for (int i = 1; fgets(line, sizeof line, file) != NULL; i++) {
         snprintf(name, sizeof name, "%.200s, line %d", path, i);
-        check(name, read_case(line, &c) && agrees(&c, c.budget, 1) && agrees(&c, c.budget, 0) && budgets_agree(&c));
+        check(name, run_line(line));
     }
     fclose(file);
 }

@@ -1,8 +1,10 @@
 #!/usr/bin/env python3
-"""Document 01 and wishes 1 to 6 of document 02 once more, written apart from the definitions: a plain interpreter for making and checking cases.
+"""Document 01 and wishes 1 to 7 of document 02 once more, written apart from the definitions: a plain interpreter for making and checking cases.
 
-    tools/oracle.py check FILE      compares each line of a file of run cases (see tools/vectors.py) with what it finds
-    tools/oracle.py outcome < FILE  completes lines of: table script budget work-length buffer-length
+    tools/oracle.py check FILE [KIND]      compares each line of a file of cases (see tools/vectors.py) with what it finds
+    tools/oracle.py outcome [KIND] < FILE  completes lines of what is given in a case
+
+KIND is run (where it is not said), join or turn. Given are: table script budget work-length buffer-length; journal journal destination-length; journal destination-length.
 """
 import sys
 
@@ -580,19 +582,20 @@ class Editor:
                     while i < len(items) and items[i] is not None: i += 1
             i += 1
 
-    def arranged(self):
-        """Each stretch of `--` and `++` records sorted, `--` first; a sort keeps the order of equals."""
-        out, stretch = [], []
-        for record in self.recs + [None]:
-            if record and record[0] in ('--', '++'): stretch.append(record)
-            else: out, stretch = out + sorted(stretch, key=lambda r: r[0] == '++') + [record], []
-        return out[:-1]
+    def bytes(self): return journal_bytes(arranged(self.recs))
 
-    def bytes(self):
-        out = b''
-        for mark, old, new in self.arranged():
-            out += mark.encode() + (old + b'\n' + new if mark == '<>' else old if mark == '--' else new) + b'\n'
-        return out
+def arranged(recs):
+    """Each stretch of `--` and `++` records sorted, `--` first; a sort keeps the order of equals."""
+    out, stretch = [], []
+    for record in recs + [None]:
+        if record and record[0] in ('--', '++'): stretch.append(record)
+        else:
+            out += sorted(stretch, key=lambda r: r[0] == '++') + [record]
+            stretch = []
+    return out[:-1]
+
+def journal_bytes(recs):
+    return b''.join(mark.encode() + (old + b'\n' + new if mark == '<>' else old if mark == '--' else new) + b'\n' for mark, old, new in recs)
 
 def outcome(table, script, budget, work, size):
     try:
@@ -615,25 +618,89 @@ def outcome(table, script, budget, work, size):
     j = e.bytes()
     return (number, e.steps, e.furthest, len(j), at, j)
 
+def records(journal):
+    """A journal's records; None where the bytes are no journal that can be joined or turned round."""
+    lines = journal.split(b'\n')
+    if lines.pop(): return None
+    recs, lines = [], iter(lines)
+    for l in lines:
+        mark, l = l[:2].decode('latin-1'), l[2:]
+        if mark not in ('==', '<>', '--', '++'): return None
+        new = l
+        if mark == '<>':
+            new = next(lines, None)
+            if new is None or new == l: return None
+        if any(len(x) > 255 or not all(32 <= b <= 126 for b in x) for x in (l, new)): return None
+        recs.append([mark, None if mark == '++' else l, None if mark == '--' else new])
+    if len(old_side(recs)) > 65535 or len(new_side(recs)) > 65535: return None
+    return recs if arranged(recs) == recs else None
+
+def old_side(recs): return [r[1] for r in recs if r[1] is not None]
+def new_side(recs): return [r[2] for r in recs if r[2] is not None]
+
+def into(room, recs):
+    out = journal_bytes(recs)
+    return (0, len(out), out) if len(out) <= room else (10, 0, b'')
+
+def join(j, k, room):
+    """Each line of the three tables by its old and its new text: the lines with both bound the stretches, and a line with neither leaves nothing."""
+    first, second = records(j), records(k)
+    if first is None or second is None: return (11, 0, b'')
+    if new_side(first) != old_side(second): return (32, 0, b'')
+    middle = [r[1] for r in first if r[2] is not None]  # the old texts of the middle lines
+    after = [r[2] for r in second if r[1] is not None]  # their new texts
+    # what the first deletes and what the second inserts, each before the middle line that follows it
+    left, came = [[] for _ in range(len(middle) + 1)], [[] for _ in range(len(middle) + 1)]
+    i = 0
+    for r in first:
+        if r[2] is None: left[i].append(r)
+        else: i += 1
+    i = 0
+    for r in second:
+        if r[1] is None: came[i].append(r)
+        else: i += 1
+    out = []
+    for i, (old, new) in enumerate(zip(middle, after)):
+        out += left[i] + came[i]
+        if old is not None and new is not None: out.append(['==' if old == new else '<>', old, new])
+        elif old is not None: out.append(['--', old, None])
+        elif new is not None: out.append(['++', None, new])
+    return into(room, arranged(out + left[-1] + came[-1]))
+
+def turn(j, room):
+    recs = records(j)
+    if recs is None: return (11, 0, b'')
+    other = {'==': '==', '<>': '<>', '--': '++', '++': '--'}
+    return into(room, arranged([[other[mark], new, old] for mark, old, new in recs]))
+
 def unhex(w): return b'' if w == '-' else bytes.fromhex(w)
+
+# for each kind of case: how many fields of bytes are given, how many fields in all, and what they come to
+KINDS = {
+    'run': (2, 5, lambda w: outcome(unhex(w[0]), unhex(w[1]), int(w[2]), int(w[3]), int(w[4]))),
+    'join': (2, 3, lambda w: join(unhex(w[0]), unhex(w[1]), int(w[2]))),
+    'turn': (1, 2, lambda w: turn(unhex(w[0]), int(w[1]))),
+}
 
 def main():
     sys.setrecursionlimit(20000)
-    if sys.argv[1] == 'check':
+    is_check = sys.argv[1] == 'check'
+    texts, given, find = KINDS[(sys.argv[3 if is_check else 2:] or ['run'])[0]]
+    if is_check:
         bad = n = 0
         for line in open(sys.argv[2]):
             w = line.split()
-            got = outcome(unhex(w[0]), unhex(w[1]), int(w[2]), int(w[3]), int(w[4]))
-            want = tuple(int(x) for x in w[5:10]) + (unhex(w[10]),)
+            got = find(w)
+            want = tuple(int(x) for x in w[given:-1]) + (unhex(w[-1]),)
             n += 1
             if got != want:
                 bad += 1
-                if bad < 20: print('table', unhex(w[0]), '\nscript', unhex(w[1]), w[2:5], '\nwant', want, '\ngot ', got)
+                if bad < 20: print('given', *[unhex(x) for x in w[:texts]], *w[texts:given], '\nwant', want, '\ngot ', got)
         print('%d cases, %d differ' % (n, bad))
     else:
         for line in sys.stdin:
             w = line.split()
-            got = outcome(unhex(w[0]), unhex(w[1]), int(w[2]), int(w[3]), int(w[4]))
-            print(' '.join(w[:5]), ' '.join(str(x) for x in got[:5]), got[5].hex() or '-')
+            got = find(w)
+            print(' '.join(w[:given]), ' '.join(str(x) for x in got[:-1]), got[-1].hex() or '-')
 
 if __name__ == '__main__': main()

@@ -3,6 +3,8 @@
 
     tools/vectors.py run FILE        lines of: table script budget work-length buffer-length, then number steps furthest length place journal
     tools/vectors.py sides FILE      lines of: journal destination-length, then number length bytes, three times (old side, new side, listing)
+    tools/vectors.py join FILE       lines of: journal journal destination-length, then number length bytes
+    tools/vectors.py turn FILE       lines of: journal destination-length, then number length bytes
 
 Bytes are in hexadecimal, `-` for none. Each line becomes a case of a theorem; a crate of such theorems is written to a temporary folder,
 outside the repository, and proved there over a copy of crates/definitions. The answer is the prover's: a wrong case is refused.
@@ -34,13 +36,19 @@ def run_case(words):
         text(table), text(script), budget, work, size, number, steps, furthest, length, place,
         'untouched %s' % size if refused else 'zeroed %s %s' % (text(journal), int(size) - len(journal)))
 
+def written(words, dest):
+    """What is written into a destination of so many bytes: number, length, bytes."""
+    return '(written %s %s (over %s %s))' % (words[0], words[1], text(unhex(words[2])), dest)
+
 def sides_case(words):
     journal, dest = unhex(words[0]), words[1]
-    parts = []
-    for k in range(3):
-        number, length, out = words[2 + 3 * k:5 + 3 * k]
-        parts.append('(written %s %s (over %s %s))' % (number, length, text(unhex(out)), dest))
-    return 'sidesCase %s %s %s' % (text(journal), dest, ' '.join(parts))
+    return 'sidesCase %s %s %s' % (text(journal), dest, ' '.join(written(words[k:k + 3], dest) for k in (2, 5, 8)))
+
+def join_case(words):
+    return 'joinCase %s %s %s %s' % (text(unhex(words[0])), text(unhex(words[1])), words[2], written(words[3:6], words[2]))
+
+def turn_case(words):
+    return 'turnCase %s %s %s' % (text(unhex(words[0])), words[1], written(words[2:5], words[1]))
 
 HEAD = '''use mathlib.Core.Path.{_≡_, refl}
 use mathlib.Core.List.{List, [], _∷_, _++_, map}
@@ -49,21 +57,40 @@ use lib.ListN.{length, replicate}
 use Rattle.definitions.specs.Bytes.{bytes}
 '''
 
-SIDES = HEAD + '''use Rattle.definitions.specs.Listing.{Written, written, oldSideTo, newSideTo, listingTo}
-use Rattle.definitions.specs.Everything.{everything}
-
-pub data SidesCase : Type 0 where
-  sidesCase : List ℕ → ℕ → Written → Written → Written → SidesCase
-
+OVER = '''
 -- a destination of n bytes, each 7, with `out` at its front
 unfoldable pub over : List ℕ → ℕ → List ℕ
 over out n = out ++ replicate (n - length out) 7
+'''
+
+SIDES = HEAD + '''use Rattle.definitions.specs.Listing.{Written, written, oldSideTo, newSideTo, listingTo}
+use Rattle.definitions.specs.Everything.{everything}
+''' + OVER + '''
+pub data SidesCase : Type 0 where
+  sidesCase : List ℕ → ℕ → Written → Written → Written → SidesCase
 
 unfoldable pub computed : SidesCase → List Written
 computed (sidesCase j n o e l) = oldSideTo j (replicate n 7) ∷ newSideTo j (replicate n 7) ∷ listingTo j (replicate n 7) ∷ []
 
 unfoldable pub stated : SidesCase → List Written
 stated (sidesCase j n o e l) = o ∷ e ∷ l ∷ []
+'''
+
+JOINING = HEAD + '''use Rattle.definitions.specs.Listing.{Written, written}
+use Rattle.definitions.specs.Joining.{joinTo, turnTo}
+use Rattle.definitions.specs.Everything.{everything}
+''' + OVER + '''
+pub data JoiningCase : Type 0 where
+  joinCase : List ℕ → List ℕ → ℕ → Written → JoiningCase
+  turnCase : List ℕ → ℕ → Written → JoiningCase
+
+unfoldable pub computed : JoiningCase → Written
+computed (joinCase j k n w) = joinTo j k (replicate n 7)
+computed (turnCase j n w) = turnTo j (replicate n 7)
+
+unfoldable pub stated : JoiningCase → Written
+stated (joinCase j k n w) = w
+stated (turnCase j n w) = w
 '''
 
 RUN = HEAD + '''use Rattle.definitions.specs.Run.{Outcome, outcome, outcomeOf}
@@ -86,6 +113,14 @@ unfoldable pub stated : RunCase → Outcome
 stated (runCase t s budget work size o) = o
 '''
 
+# for each kind of case: how one is made, what the theorems stand on, the type of a case, and what else is computed with
+KINDS = {
+    'run': (run_case, RUN, 'RunCase', 'untouched zeroed'),
+    'sides': (sides_case, SIDES, 'SidesCase', 'over'),
+    'join': (join_case, JOINING, 'JoiningCase', 'over'),
+    'turn': (turn_case, JOINING, 'JoiningCase', 'over'),
+}
+
 def main():
     words = [a for a in sys.argv[1:] if not a.startswith('--')]
     def option(name, default):
@@ -95,9 +130,7 @@ def main():
     kind, path = words[0], words[1]
     part, crate = option('--part', 25), option('--crate', 250)
     lines = [l.split() for l in open(path) if l.strip() and not l.startswith('#')]
-    make = run_case if kind == 'run' else sides_case
-    names = 'over' if kind == 'sides' else 'untouched zeroed'
-    data = 'SidesCase' if kind == 'sides' else 'RunCase'
+    make, head, data, names = KINDS[kind]
     folder = tempfile.mkdtemp(prefix='vectors-')
     crates = ['definitions:']
     os.makedirs(folder + '/crates')
@@ -109,7 +142,7 @@ def main():
         os.makedirs('%s/crates/%s/src' % (folder, name))
         os.makedirs('%s/crates/%s/specs' % (folder, name))
         open('%s/crates/%s/src/lib.rt' % (folder, name), 'w').write('// Cases.\n')
-        out = [SIDES if kind == 'sides' else RUN]
+        out = [head]
         for p in range(c, min(c + crate, len(lines)), part):
             cases = [make(w) for w in lines[p:min(p + part, c + crate)]]
             out.append('unfoldable cases%d : List %s\ncases%d =\n    %s\n    ∷ []\n' % (p, data, p, '\n    ∷ '.join(cases)))
