@@ -338,3 +338,51 @@ wishSevenCases =
 pub wish-seven : map journalComputed wishSevenCases ≡ map journalStated wishSevenCases
 unfolding everything journalComputed journalStated wishSevenCases
 wish-seven = refl
+
+-- ---- document 02, wish 8: WORD
+
+unfoldable pub to : String → String → Record
+to s t = changed (bytes s) (bytes t)
+
+unfoldable pub wishEightCases : List Case
+wishEightCases =
+    -- letters and digits at first; then the named ones, which replace them (W8.1)
+    case largest "A-12 A\n" "E W/A/B/\n" (answer 0 1 1 0 (to "A-12 A" "B-12 A" ∷ []))
+    ∷ case largest "A-12 A\n" "WORD/A-Z0-9\"-/; E W/A/B/\n" (answer 0 2 1 0 (to "A-12 A" "A-12 B" ∷ []))
+    ∷ case largest "ca ax a\n" "WORD/x/; WORD/c/; E W/a/b/\n" (answer 0 3 1 0 (to "ca ax a" "ca bx a" ∷ []))
+    -- no string but the empty one: none counts (W8.1)
+    ∷ case largest "xax\n" "WORD//; E W/a/b/\n" (answer 0 2 1 0 (to "xax" "xbx" ∷ []))
+    -- U is not for the set; a range may have one byte; a quoted byte is any; a space names itself (W8.2, W8.3, W8.6)
+    ∷ case largest "xaXa\n" "WORD/x/; E UW/A/b/\n" (answer 0 2 1 0 (to "xaXa" "xaXb" ∷ []))
+    ∷ case largest "xaya\n" "WORD/x-x/; E W/a/b/\n" (answer 0 2 1 0 (to "xaya" "xayb" ∷ []))
+    ∷ case largest "-a\"axa\n" "WORD/\"-\"\"/; E W/a/b/\n" (answer 0 2 1 0 (to "-a\"axa" "-a\"axb" ∷ []))
+    ∷ case largest " axa\n" "WORD/ /; E W/a/b/\n" (answer 0 2 1 0 (to " axa" " axb" ∷ []))
+    -- the set then standing, in searches and tests too (W8.6)
+    ∷ case largest "a-\na\n" "IF W/a/ IS/1/; WORD/\"-/; IF W/a/ IS/2/; F W/a/\n"
+    (answer 0 7 2 0 (came "1" ∷ same "a-" ∷ same "a" ∷ []))
+    -- the bytes before and after in the whole line, wherever the window starts (W8.6)
+    ∷ case largest "xab\n" "WORD/x/; >; E W/a/c/\n" (answer 24 3 1 12 (same "xab" ∷ []))
+    -- a step, also at EOF; a longer name and small letters are the same command; the closing delimiter may be missing (W0.3, W0.4, W0.6)
+    ∷ case largest "" "words/a\n" (answer 0 1 1 0 [])
+    ∷ case 0 "a\n" "WORD/a/\n" (answer 29 0 1 0 (same "a" ∷ []))
+    -- 33: a `-` that is first, after a range, after a quoted byte, after another byte; or before the end, `"`, another kind, a lower byte (W8.4)
+    ∷ case largest "a\n" "WORD/-a/\n" (refusal 33 5)
+    ∷ case largest "a\n" "WORD/a-c-e/\n" (refusal 33 8)
+    ∷ case largest "a\n" "WORD/\"a-c/\n" (refusal 33 7)
+    ∷ case largest "a\n" "WORD/ -a/\n" (refusal 33 6)
+    ∷ case largest "a\n" "WORD/a-/\n" (refusal 33 6)
+    ∷ case largest "a\n" "WORD/a-\"c/\n" (refusal 33 6)
+    ∷ case largest "a\n" "WORD/A-z/\n" (refusal 33 6)
+    ∷ case largest "a\n" "WORD/b-a/\n" (refusal 33 6)
+    -- a `"` that is last, before the delimiter or the line's end (W8.4)
+    ∷ case largest "a\n" "WORD/a\"/\n" (refusal 33 6)
+    ∷ case largest "a\n" "WORD/\"\n" (refusal 33 5)
+    -- the first fault counts; a string must stand (W8.5, W0.5)
+    ∷ case largest "a\n" "WORD/a-\"/\n" (refusal 33 6)
+    ∷ case largest "a\n" "WORD N/a/\n" (refusal 3 5)
+    ∷ case largest "a\n" "WORD\n" (refusal 3 4)
+    ∷ []
+
+pub wish-eight : map computed wishEightCases ≡ map stated wishEightCases
+unfolding everything printed programPrints computed stated largest same came to wishEightCases
+wish-eight = refl

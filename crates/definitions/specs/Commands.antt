@@ -1,4 +1,4 @@
--- The commands' names and arguments (document 01, "Commands"; numbers 2, 3, 5 and 6; document 02, wishes 1 and 2).
+-- The commands' names and arguments (document 01, "Commands"; numbers 2, 3, 5 and 6; document 02, wishes 1, 2 and 8).
 use mathlib.Core.Bool.{Bool, true, false, cond, _&&_, _||_}
 use mathlib.Core.Option.{Option, none, some}
 use mathlib.Core.List.{List, [], _∷_}
@@ -8,11 +8,11 @@ use lib.ListN.{length, drop}
 use lib.Dec.{eqb}
 use Rattle.definitions.specs.Bytes.{Line, linesOf}
 use Rattle.definitions.specs.Editor.{Target, here, line, eof, Through, alone, upTo, toEof}
-use Rattle.definitions.specs.Edit.{Change, afterIt, beforeIt, exchange, Test, is, isNot, isEof, Op, quit, move, nextLine, previousLine, delete, replace, insert, copy, alter, split, join, addGlobal, cancelGlobals, point, pointStart, right, left, cutByte, recase}
+use Rattle.definitions.specs.Edit.{Change, afterIt, beforeIt, exchange, Test, is, isNot, isEof, Op, quit, move, nextLine, previousLine, delete, replace, insert, copy, alter, split, join, addGlobal, cancelGlobals, nameWords, point, pointStart, right, left, cutByte, recase}
 use Rattle.definitions.specs.Search.{Search}
 use Rattle.definitions.specs.Control.{Seek, forward, backward, deleting, forever, branch, loop, Item, simple, seek, opens, leave}
 use Rattle.definitions.specs.Reader.{Cursor, cursor, Got, got, refused, andThen, placeAt, afterByte, isNext, skipSpaces, skipComment, isDigitNext, number, name, packed, isToken, afterToken, quoted}
-use Rattle.definitions.specs.Strings.{Pair, pair, qualifiedString, twoStrings, twoPlainStrings, searchExpression}
+use Rattle.definitions.specs.Strings.{Pair, pair, qualifiedString, twoStrings, twoPlainStrings, wordNames, searchExpression}
 
 -- ---- names
 
@@ -43,6 +43,8 @@ pub data Shape : Type 0 where
   joins : Shape
   -- GE, GA, GB: two unqualified strings (document 02, wish 2)
   globals : Change → Shape
+  -- WORD: an unqualified string (document 02, wish 8)
+  namesWords : Shape
   -- RPT, and a command or group
   repeats : Shape
   -- IF, UL: a search expression, THEN or not, and a command or group; IFEOF without the search expression
@@ -65,7 +67,7 @@ commandTable =
     ∷ row "AP" (alters afterIt true) ∷ row "BP" (alters beforeIt true) ∷ row "EP" (alters exchange true)
     ∷ row "PA" (points true) ∷ row "PB" (points false) ∷ row "PR" (plain pointStart)
     ∷ row "SA" (splits true) ∷ row "SB" (splits false) ∷ row "CL" joins
-    ∷ row "GE" (globals exchange) ∷ row "GA" (globals afterIt) ∷ row "GB" (globals beforeIt) ∷ row "CG" (plain cancelGlobals)
+    ∷ row "GE" (globals exchange) ∷ row "GA" (globals afterIt) ∷ row "GB" (globals beforeIt) ∷ row "CG" (plain cancelGlobals) ∷ row "WORD" namesWords
     ∷ row ">" (plain right) ∷ row "<" (plain left) ∷ row "#" (plain cutByte) ∷ row "$" (plain (recase false)) ∷ row "%" (plain (recase true))
     ∷ row "RPT" repeats ∷ row "IF" (branches true) ∷ row "UL" (branches false) ∷ row "IFEO" branchesEof
     ∷ row "WH" (loops true) ∷ row "UT" (loops false) ∷ row "AGP" leaves ∷ row "W" (plain quit) ∷ []
@@ -194,6 +196,8 @@ decode inGroup at (splits after) c = andThen (qualifiedString false c) (λ q c�
 decode inGroup at joins c = andThen (quoted (skipSpaces c)) (λ s c₁. got (whole (simple at (join s))) c₁)
 -- GE, GA, GB (W2.1)
 decode inGroup at (globals ch) c = andThen (twoPlainStrings c) (λ x c₁. got (whole (simple at (addGlobal ch (x .0) (x .1)))) c₁)
+-- WORD (W8.1)
+decode inGroup at namesWords c = andThen (wordNames c) (λ xs c₁. got (whole (simple at (nameWords xs))) c₁)
 decode inGroup at repeats c = got (prefix false (opens at forever)) c
 decode inGroup at (branches b) c =
     andThen (searchExpression c) (λ se c₁. got (prefix true (opens at (branch (testOf b se)))) (skipThen c₁))

@@ -1,5 +1,5 @@
 -- What one step reads, tests and does, a program for each command (document 01, "Commands"; numbers 20 to 28 of "Who causes which number"; document 02, wish 1:
--- SA, SB, CL, number 30; wish 2: GE, GA, GB, CG, number 31). The lines of a program stand in document 01's order of tests.
+-- SA, SB, CL, number 30; wish 2: GE, GA, GB, CG, number 31; wish 8: WORD). The lines of a program stand in document 01's order of tests.
 use mathlib.Core.Bool.{Bool, true, false, not}
 use mathlib.Core.Option.{Option, none, some}
 use mathlib.Core.List.{List, [], _∷_, _++_}
@@ -11,10 +11,11 @@ use Rattle.definitions.specs.Journal.{Record, kept, changed, deleted, in
 use Rattle.definitions.specs.Matching.{Qualified, placeOf, stringIn}
 use Rattle.definitions.specs.Search.{Search, holds, holdsAtEof}
 use Rattle.definitions.specs.Tape.{Reads}
+use Rattle.definitions.specs.WordSet.{Named}
 use Rattle.definitions.specs.Given.{Given, Global, global}
 use Rattle.definitions.specs.Editor.{Ed, ed, records, sources, beforeOf, afterOf, current, hasLive, firstLive, Stop, n20, n21, n22, n23, n24, n25, n27, n28, n30}
 use Rattle.definitions.specs.Editor.{Target, line, eof, Through, alone, upTo, toEof, Move, ahead, back, to, pointTo, strike, strikeBack, strikeNext, put, retext}
-use Rattle.definitions.specs.StepProgram.{Program, gives, stops, looks, reads, moves, _>>=_, _>>_, RunState, Did, answers, changes, quits, adds, cancels, Out, perform}
+use Rattle.definitions.specs.StepProgram.{Program, gives, stops, looks, reads, moves, _>>=_, _>>_, RunState, wordsIn, Did, answers, changes, quits, adds, cancels, names, Out, perform}
 
 -- A, B and E: insert after, before, or exchange
 pub data Change : Type 0 where
@@ -52,6 +53,8 @@ pub data Op : Type 0 where
   -- GA, GB, GE; CG (document 02, wish 2)
   addGlobal : Change → Line → Line → Op
   cancelGlobals : Op
+  -- WORD (document 02, wish 8)
+  nameWords : List Named → Op
   -- PA (true), PB; PR; > and <
   point : Bool → Qualified → Op
   pointStart right left : Op
@@ -115,18 +118,19 @@ lineOr n = looks (lineIn n)
 
 -- ---- tests and searches
 
-unfoldable pub searchHolds : Search → Ed → Bool
-searchHolds se (ed before [] p) = holdsAtEof se
-searchHolds se (ed before (r ∷ after) p) = holds se p (current r)
+-- where the bytes of `isWord` count for W
+unfoldable pub searchHolds : (ℕ → Bool) → Search → Ed → Bool
+searchHolds isWord se (ed before [] p) = holdsAtEof se
+searchHolds isWord se (ed before (r ∷ after) p) = holds isWord se p (current r)
 
 unfoldable pub isAtEof : Ed → Bool
 isAtEof (ed before [] p) = true
 isAtEof (ed before (r ∷ after) p) = false
 
-unfoldable pub passes : Test → Ed → Bool
-passes (is se) e = searchHolds se e
-passes (isNot se) e = not (searchHolds se e)
-passes isEof e = isAtEof e
+unfoldable pub passes : (ℕ → Bool) → Test → Ed → Bool
+passes isWord (is se) e = searchHolds isWord se e
+passes isWord (isNot se) e = not (searchHolds isWord se e)
+passes isWord isEof e = isAtEof e
 
 -- F and DF go on with the next live line: "21 F, DF, or a line number, meets EOF unfound" (R29)
 unfoldable pub lookOn : Program Did
@@ -175,8 +179,8 @@ unfoldable pub recased : Bool → Line → ℕ → Line
 recased up l p = splice l p 1 (cased up (getD l p 0) ∷ [])
 
 -- the place of a string in the line's window; "24 no match"
-unfoldable pub placeOr24 : Qualified → Line → ℕ → Program ℕ
-placeOr24 q l p = orStop n24 (placeOf q p l)
+unfoldable pub placeOr24 : (ℕ → Bool) → Qualified → Line → ℕ → Program ℕ
+placeOr24 isWord q l p = orStop n24 (placeOf isWord q p l)
 
 -- the current line and p; "27 p at the line's end (>, #, $, %)" (R36)
 unfoldable pub byteHere : Program (Line × ℕ)
@@ -253,106 +257,108 @@ span a b = do
   readPast k
   gives k
 
--- ---- every command
+-- ---- every command, where the bytes of `isWord` count for W: "Each match uses the set then standing" (W8.6)
 
-unfoldable pub program : Op → Program Did
+unfoldable pub program : (ℕ → Bool) → Op → Program Did
 -- the step alone; W (R37); the tests
-program onlyStep = goesOn
-program quit = gives quits
-program (test c) = do
-  t ← see (passes c)
+program isWord onlyStep = goesOn
+program isWord quit = gives quits
+program isWord (test c) = do
+  t ← see (passes isWord c)
   gives (answers t)
 -- "F tests live lines forward until one matches, the current line first"; "EOF is not tested" (R29, R35)
-program begin = do
+program isWord begin = do
   lineOr n21
   goesOn
-program (find se) = do
+program isWord (find se) = do
   (l, p) ← lineOr n21
-  either (holds se p l) goesOn lookOn
+  either (holds isWord se p l) goesOn lookOn
 -- "BF se likewise backward"; from EOF it starts with the last live line (R29)
-program beginBack = do
+program isWord beginBack = do
   t ← see isAtEof
   either t (go back) (gives tt)
   goesOn
-program (findBack se) = do
+program isWord (findBack se) = do
   (l, p) ← lineOr n22
-  either (holds se p l) goesOn lookBack
+  either (holds isWord se p l) goesOn lookBack
 -- "DF se finds as F and deletes the lines before the match, from the current one"
-program (findDelete se k) = do
+program isWord (findDelete se k) = do
   (l, p) ← lineOr n21
-  either (holds se p l) (gives (changes (strikeBack k ∷ []))) lookOn
+  either (holds isWord se p l) (gives (changes (strikeBack k ∷ []))) lookOn
 -- M, N, P (R29)
-program (move a) = do
+program isWord (move a) = do
   goTo a
   goesOn
-program nextLine = do
+program isWord nextLine = do
   lineOr n20
   goAhead
   goesOn
-program previousLine = do
+program isWord previousLine = do
   go back
   goesOn
 -- D; "R is D, then I": one command, its changes tested once (R33)
-program (delete a b) = do
+program isWord (delete a b) = do
   k ← span a b
   gives (changes (strike k ∷ []))
-program (replace a b ls) = do
+program isWord (replace a b ls) = do
   k ← span a b
   gives (changes (strike k ∷ put ls ∷ []))
 -- IS, I alone, which leave p; I with a line, which is moved to (R30); IC
-program (insert none ls) = gives (changes (put ls ∷ []))
-program (insert (some a) ls) = do
+program isWord (insert none ls) = gives (changes (put ls ∷ []))
+program isWord (insert (some a) ls) = do
   goTo a
   gives (changes (put ls ∷ []))
-program copy = do
+program isWord copy = do
   (l, p) ← lineOr n20
   gives (changes (put (l ∷ []) ∷ []))
 -- "Changes test 20, 27 or 24, 25, 26": A, B, E, AP, BP, EP
-program (alter c pointing q new) = do
+program isWord (alter c pointing q new) = do
   (l, p) ← lineOr n20
-  i ← placeOr24 q l p
+  i ← placeOr24 isWord q l p
   write (altered c l i (length (stringIn q)) new) (alteredPoint c pointing p i (length (stringIn q)) (length new))
 -- "SA and SB test as E does": 20, 24, 26 (W1.4)
-program (split after q) = do
+program isWord (split after q) = do
   (l, p) ← lineOr n20
-  i ← placeOr24 q l p
+  i ← placeOr24 isWord q l p
   cutAfter l (pointBy after i (length (stringIn q)))
 -- "CL has read the next live line before 25 is tested"; "CL leaves [p] unmoved" (W1.7, W1.9)
-program (join s) = do
+program isWord (join s) = do
   (l, p) ← lineOr n20
   next ← nextOr30
   writeJoined (l ++ (s ++ next)) p
 -- GE, GA, GB, CG: nothing is read, and no record changed (W2.3, W2.4)
-program (addGlobal c s new) = gives (adds (globalBy c s new))
-program cancelGlobals = gives cancels
+program isWord (addGlobal c s new) = gives (adds (globalBy c s new))
+program isWord cancelGlobals = gives cancels
+-- WORD, likewise (W0.3, W0.6)
+program isWord (nameWords xs) = gives (names xs)
 -- PA, PB, PR, >, <
-program (point after q) = do
+program isWord (point after q) = do
   (l, p) ← lineOr n20
-  i ← placeOr24 q l p
+  i ← placeOr24 isWord q l p
   go (pointTo (pointBy after i (length (stringIn q))))
   goesOn
-program pointStart = do
+program isWord pointStart = do
   lineOr n20
   go (pointTo 0)
   goesOn
-program right = do
+program isWord right = do
   (l, p) ← byteHere
   go (pointTo (suc p))
   goesOn
-program left = do
+program isWord left = do
   (l, p) ← lineOr n20
   stopIf n27 (eqb p 0)
   go (pointTo (p - 1))
   goesOn
 -- #; $ and % (R36)
-program cutByte = do
+program isWord cutByte = do
   (l, p) ← byteHere
   write (splice l p 1 []) p
-program (recase up) = do
+program isWord (recase up) = do
   (l, p) ← byteHere
   write (recased up l p) (suc p)
 
 -- ---- a step
 
 unfoldable pub step : Given → Op → RunState → Reads Out
-step g op s = perform g (program op) s
+step g op s = perform g (program (wordsIn s) op) s

@@ -25,4 +25,4 @@ passedThrough (global s put ∷ gs) l =
 
 -- a line as what is carried leaves it
 unfoldable pub leftBy : Carried → Line → Got Line
-leftBy (carried gs) l = passedThrough gs l
+leftBy (carried gs xs) l = passedThrough gs l

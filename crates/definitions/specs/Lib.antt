@@ -4,6 +4,7 @@ pub mod Journal
 pub mod Arranging
 pub mod Listing
 pub mod Joining
+pub mod WordSet
 pub mod Matching
 pub mod Search
 pub mod Tape

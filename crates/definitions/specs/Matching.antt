@@ -1,11 +1,11 @@
--- Qualified strings, and where they occur on a line (document 01, "Matching"; manual 2.3.2 and 3.3.6).
-use mathlib.Core.Bool.{Bool, true, false, not, _&&_, _||_}
+-- Qualified strings, and where they occur on a line (document 01, "Matching"; document 02, wish 8; manual 2.3.2 and 3.3.6).
+use mathlib.Core.Bool.{Bool, true, false, not, _&&_}
 use mathlib.Core.Option.{Option, none, some}
 use mathlib.Core.List.{List, [], _∷_}
 use Prim.Native.Nat.{ℕ, zero, suc, _+_, _-_, min, max}
 use lib.ListN.{length, drop, getD}
 use lib.Dec.{eqb, leb}
-use Rattle.definitions.specs.Bytes.{Line, isDigit, isLetter, upper}
+use Rattle.definitions.specs.Bytes.{Line, upper}
 
 -- ---- qualifiers
 
@@ -64,21 +64,19 @@ standsFirst u [] bs = true
 standsFirst u (x ∷ xs) [] = false
 standsFirst u (x ∷ xs) (b ∷ bs) = eqb (folded u x) (folded u b) && standsFirst u xs bs
 
-unfoldable pub isWordByte : ℕ → Bool
-isWordByte b = isLetter b || isDigit b
-
 unfoldable pub byteBefore : Line → ℕ → ℕ
 byteBefore l zero = 0
 byteBefore l (suc i) = getD l i 0
 
--- "W: the bytes before and after in the whole line are no letters or digits" (R39); no byte is none (0)
-unfoldable pub isApart : Bool → Line → ℕ → ℕ → Bool
-isApart false l i j = true
-isApart true l i j = not (isWordByte (byteBefore l i)) && not (isWordByte (getD l j 0))
+-- "W: the bytes before and after in the whole line are no letters or digits" (R39), or whichever bytes count for W then: `isWord` (document 02, wish 8;
+-- W8.6). Where the line has no byte, none counts (0, which no script names)
+unfoldable pub isApart : (ℕ → Bool) → Bool → Line → ℕ → ℕ → Bool
+isApart isWord false l i j = true
+isApart isWord true l i j = not (isWord (byteBefore l i)) && not (isWord (getD l j 0))
 
--- the string `s` occurs in the line at place i, as W and U ask
-unfoldable pub standsAt : Bool → Bool → Line → Line → ℕ → Bool
-standsAt w u s l i = standsFirst u s (drop i l) && isApart w l i (i + length s)
+-- the string `s` occurs in the line at place i, as W and U ask; "U does not touch" W's test (W8.6)
+unfoldable pub standsAt : (ℕ → Bool) → Bool → Bool → Line → Line → ℕ → Bool
+standsAt isWord w u s l i = standsFirst u s (drop i l) && isApart isWord w l i (i + length s)
 
 -- ---- occurrences
 
@@ -123,9 +121,9 @@ placeIn atEnd stands width k last t = onlyAt (leb 1 (places width t) && stands (
 placeIn precisely stands width k last t = onlyAt (eqb (places width t) 1 && stands (placeFrom false width t 0)) (placeFrom false width t 0)
 
 -- The place where the qualified string occurs in the line with the window from p: the byte of the line that it begins at. N is not looked at.
-unfoldable pub placeOf : Qualified → ℕ → Line → Option ℕ
-placeOf (qualified (qualifiers anchor count last negated apart anyCase skip cols) s) p l =
-    placeIn anchor (standsAt apart anyCase s l) (length s) count last (afterSpaces skip l (window cols p l))
+unfoldable pub placeOf : (ℕ → Bool) → Qualified → ℕ → Line → Option ℕ
+placeOf isWord (qualified (qualifiers anchor count last negated apart anyCase skip cols) s) p l =
+    placeIn anchor (standsAt isWord apart anyCase s l) (length s) count last (afterSpaces skip l (window cols p l))
 
 unfoldable pub isFound : Option ℕ → Bool
 isFound none = false
@@ -143,5 +141,5 @@ unfoldable pub stringIn : Qualified → Line
 stringIn (qualified q s) = s
 
 -- does the qualified string match the line, with the window from p
-unfoldable pub matches : Qualified → ℕ → Line → Bool
-matches q p l = turned (isNegated q) (isFound (placeOf q p l))
+unfoldable pub matches : (ℕ → Bool) → Qualified → ℕ → Line → Bool
+matches isWord q p l = turned (isNegated q) (isFound (placeOf isWord q p l))

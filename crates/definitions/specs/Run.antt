@@ -105,7 +105,7 @@ unfoldable pub ranScript : List ℕ → ℕ → ℕ → ℕ → Script → Answe
 ranScript table place budget size (items is) = cond (isTable table) (ranTable table place budget size is) (refusal 7 0)
 ranScript table place budget size (refusedAt n at) = refusal n at
 
--- "Order: 1, 8, then 2 to 6 by place in reading order (ties to the lower), 7, 9" (R45)
+-- "Order: 1, 8, then 2 to 6 by place in reading order (ties to the lower), 7, 9" (R45); document 02's 33 stands with 2 to 6 (W0.1)
 unfoldable pub runAnswer : List ℕ → List ℕ → ℕ → ℕ → ℕ → Answer
 runAnswer table script budget work size =
     cond (isScript script)

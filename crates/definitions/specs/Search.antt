@@ -9,11 +9,11 @@ pub data Search : Type 0 where
   one : Qualified → Search
   both either : Search → Search → Search
 
--- the search on a line, with the window from p
-unfoldable pub holds : Search → ℕ → Line → Bool
-holds (one q) p l = matches q p l
-holds (both a b) p l = holds a p l && holds b p l
-holds (either a b) p l = holds a p l || holds b p l
+-- the search on a line, with the window from p, where the bytes of `isWord` count for W
+unfoldable pub holds : (ℕ → Bool) → Search → ℕ → Line → Bool
+holds isWord (one q) p l = matches isWord q p l
+holds isWord (both a b) p l = holds isWord a p l && holds isWord b p l
+holds isWord (either a b) p l = holds isWord a p l || holds isWord b p l
 
 -- the search at EOF: a qualified string is true there if it has N, whatever else it says, and false if not (document 02, wish 4; W4.1; manual 3.3.10)
 unfoldable pub holdsAtEof : Search → Bool

@@ -6,7 +6,8 @@ use Prim.Native.Nat.{ℕ}
 use lib.ListN.{length}
 use lib.Dec.{leb}
 use Rattle.definitions.specs.Tape.{Reads, ret, bind}
-use Rattle.definitions.specs.Given.{Given, Global, Carried, carried, noGlobals}
+use Rattle.definitions.specs.WordSet.{Named}
+use Rattle.definitions.specs.Given.{Given, Global, Carried, carried, wordsOf, withWords, withoutGlobals}
 use Rattle.definitions.specs.Editor.{Ed, journal, Stop, n26, n31, stopNumber, Got, got, stop, Target, Move, moved, Edit, edits}
 use Rattle.definitions.specs.Reading.{Ran, gave, stopped, onceRead, readTo, hasRoom}
 
@@ -56,14 +57,19 @@ pub data RunState : Type 0 where
 unfoldable pub textOf : RunState → Ed
 textOf (state e c) = e
 
+-- the bytes that count for W
+unfoldable pub wordsIn : RunState → ℕ → Bool
+wordsIn (state e c) = wordsOf c
+
 -- what a step's program ends with: nothing is changed, and a test has this result; records are changed; W; one global more stands, or none (document 02,
--- wish 2)
+-- wish 2); other bytes count for W (wish 8)
 pub data Did : Type 0 where
   answers : Bool → Did
   changes : List Edit → Did
   quits : Did
   adds : Global → Did
   cancels : Did
+  names : List Named → Did
 
 -- what a step comes to: the run goes on, nothing changed (with a test's result); it goes on, records changed; or it ends with a number
 pub data Out : Type 0 where
@@ -77,7 +83,7 @@ within g c e e′ t = cond (hasRoom g (journal e′ t)) (edited (state e′ c), 
 
 -- "at most 16" stand; "31: a seventeenth global, when obeyed" (W2.3)
 unfoldable pub oneMore : Carried → Global → Ed → Out
-oneMore (carried gs) x e = cond (leb 16 (length gs)) (halt (stopNumber n31) (state e (carried gs))) (on true (state e (carried (gs ++ (x ∷ [])))))
+oneMore (carried gs xs) x e = cond (leb 16 (length gs)) (halt (stopNumber n31) (state e (carried gs xs))) (on true (state e (carried (gs ++ (x ∷ [])) xs)))
 
 -- the end of a step
 unfoldable pub finish : Given → Carried → Ran Did → Reads Out
@@ -85,7 +91,8 @@ finish g c (gave (answers b) e) = ret (on b (state e c))
 finish g c (gave (changes xs) e) = within g c e (edits xs e)
 finish g c (gave quits e) = ret (halt 0 (state e c))
 finish g c (gave (adds x) e) = ret (oneMore c x e)
-finish g c (gave cancels e) = ret (on true (state e noGlobals))
+finish g c (gave cancels e) = ret (on true (state e (withoutGlobals c)))
+finish g c (gave (names xs) e) = ret (on true (state e (withWords c xs)))
 finish g c (stopped n e) = ret (halt (stopNumber n) (state e c))
 
 -- a step that is this program

@@ -1,12 +1,14 @@
--- The reader of qualified strings and search expressions (document 01, "Script text": qualifiers, search expressions; numbers 3, 4 and 5).
+-- The reader of qualified strings and search expressions (document 01, "Script text": qualifiers, search expressions; numbers 3, 4 and 5),
+-- and of WORD's string (document 02, wish 8; number 33).
 use mathlib.Core.Bool.{Bool, true, false, cond, not, _&&_, _||_}
 use mathlib.Core.Option.{Option, none, some}
-use mathlib.Core.List.{[], _∷_}
+use mathlib.Core.List.{List, [], _∷_}
 use Prim.Native.Nat.{ℕ, zero, suc, _+_, _*_}
 use lib.Dec.{eqb, leb}
 use Rattle.definitions.specs.Bytes.{Line, isDigit, upper}
 use Rattle.definitions.specs.Matching.{Anchor, anywhere, atStart, atEnd, precisely, Columns, allColumns, columns, Qualifiers, qualifiers, Qualified, qualified}
 use Rattle.definitions.specs.Search.{Search, one, both, either}
+use Rattle.definitions.specs.WordSet.{Named, Names, allNames, misusedAt, namesFrom}
 use Rattle.definitions.specs.Reader.{Cursor, Got, got, refused, andThen, placeAt, bytesLeft, nextByte, afterByte, isNext, expect, skipSpaces, skipBlank, number, isDelimiter, stringNext, afterString, quoted}
 
 -- ---- which qualifiers may stand together
@@ -168,6 +170,14 @@ plainPair at c (b ∷ s) c₁ = got (b ∷ s, stringNext (nextByte c) c₁) (aft
 
 unfoldable pub twoPlainStrings : Cursor → Got (Line × Line)
 twoPlainStrings c = andThen (quoted (skipSpaces c)) (λ s c₁. plainPair (placeAt (skipSpaces c)) (skipSpaces c) s c₁)
+
+-- WORD's string, which must stand (W0.5), decoded; "33: a `-` or `"` used otherwise, found in decoding, at it"
+unfoldable pub namesOr33 : Names → Cursor → Got (List Named)
+namesOr33 (allNames xs) c = got xs c
+namesOr33 (misusedAt at) c = refused 33 at
+
+unfoldable pub wordNames : Cursor → Got (List Named)
+wordNames c = andThen (quoted (skipSpaces c)) (λ s c₁. namesOr33 (namesFrom (suc (placeAt (skipSpaces c))) 0 s) c₁)
 
 -- ---- search expressions
 
