@@ -17,18 +17,18 @@ use Rattle.definitions.specs.Everything.{everything}
 unfoldable pub empty : Bool → Qualified
 empty negated = qualified (qualifiers anywhere 0 false negated false false false allColumns) []
 
-empty-found : (negated : Bool) (p : ℕ) (l : Line) → isFound (placeOf (empty negated) p l) ≡ true
+empty-found : (isWord : ℕ → Bool) (negated : Bool) (p : ℕ) (l : Line) → isFound (placeOf isWord (empty negated) p l) ≡ true
 unfolding everything empty
-empty-found negated p l = rw (sub-zero (suc (length l - p)))
+empty-found isWord negated p l = rw (sub-zero (suc (length l - p)))
 
 -- IF and WH with `N//` test what IFEOF tests
-pub none-is-eof : (e : Ed) → passes (is (one (empty true))) e ≡ passes isEof e
+pub none-is-eof : (isWord : ℕ → Bool) (e : Ed) → passes isWord (is (one (empty true))) e ≡ passes isWord isEof e
 unfolding passes searchHolds isAtEof holds holdsAtEof matches turned isNegated empty
-none-is-eof (ed before [] p) = refl
-none-is-eof (ed before (r ∷ after) p) = ap not (empty-found true p (current r))
+none-is-eof isWord (ed before [] p) = refl
+none-is-eof isWord (ed before (r ∷ after) p) = ap not (empty-found isWord true p (current r))
 
 -- and so do UL and UT with `//`
-pub not-any-is-eof : (e : Ed) → passes (isNot (one (empty false))) e ≡ passes isEof e
+pub not-any-is-eof : (isWord : ℕ → Bool) (e : Ed) → passes isWord (isNot (one (empty false))) e ≡ passes isWord isEof e
 unfolding passes searchHolds isAtEof holds holdsAtEof matches turned isNegated empty
-not-any-is-eof (ed before [] p) = refl
-not-any-is-eof (ed before (r ∷ after) p) = ap not (empty-found false p (current r))
+not-any-is-eof isWord (ed before [] p) = refl
+not-any-is-eof isWord (ed before (r ∷ after) p) = ap not (empty-found isWord false p (current r))

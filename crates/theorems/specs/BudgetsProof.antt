@@ -195,7 +195,11 @@ items-answer size place budget is ls =
 -- a refusal's number is not 29
 refusal-29 : (n at : ℕ) (a : Answer) → Numbered a → a ≡ refusal n at → n ≡ 29 → ⊥
 unfolding Numbered
-refusal-29 n at a h q e = let k : RefusalNumber n = rw q at h in omega (arith, k, e)
+refusal-29 n at a h q e = by (rw q at h)
+  where
+    by : RefusalNumber n → ⊥
+    by (inl k) = omega (arith, k, e)
+    by (inr k) = omega (arith, k, e)
 
 -- what a run that wants a step comes to, by the budget that is left
 module _ (g : Given) (place budget : ℕ) (p : Pause) where

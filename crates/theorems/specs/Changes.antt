@@ -1,18 +1,19 @@
 -- The changes of which every step is made: the current place moves by one record, a record is erased, a line's text is replaced, a line is
 -- inserted, a line is read, and passed through the standing globals. What these keep, every program keeps that writes what it may. No command is named here.
 use mathlib.Core.Path.{_≡_, refl}
-use mathlib.Core.Bool.{false}
+use mathlib.Core.Bool.{Bool, false}
 use mathlib.Core.List.{List, [], _∷_, _++_, reverseAux, append-nil}
 use Prim.Native.Nat.{ℕ, zero, suc, _-_}
 use Rattle.definitions.specs.Bytes.{Line, eqLine}
 use Rattle.definitions.specs.Journal.{Record, kept, changed, deleted, inserted, change, rewrite, erase}
 use Rattle.definitions.specs.Tape.{Tape, unread, ended, bind}
-use Rattle.definitions.specs.Given.{Given, Global, Carried, carried, noGlobals}
+use Rattle.definitions.specs.WordSet.{Named}
+use Rattle.definitions.specs.Given.{Given, Global, Carried, carried, noGlobals, wordsOf, withWords, withoutGlobals}
 use Rattle.definitions.specs.Globals.{passedThrough, leftBy}
 use Rattle.definitions.specs.Editor.{Ed, ed, records, current, Got, got, Target, here, line, eof, Move, ahead, to, pointTo, land, goBack, locate, moved}
 use Rattle.definitions.specs.Editor.{Edit, strike, strikeBack, strikeNext, put, retext, struck, struckBack, struckNext, putBefore, edit, edits}
 use Rattle.definitions.specs.Reading.{Ran, gave, stopped, seen, readLine, readTo, opening}
-use Rattle.definitions.specs.StepProgram.{Program, _>>=_, _>>_, runs, RunState, state, Did, answers, changes, quits, adds, cancels, Out, oneMore, finish, perform}
+use Rattle.definitions.specs.StepProgram.{Program, _>>=_, _>>_, runs, RunState, state, wordsIn, Did, answers, changes, quits, adds, cancels, names, Out, oneMore, finish, perform}
 use Rattle.definitions.specs.Edit.{Op, program, step}
 use Rattle.definitions.specs.Control.{Item}
 use Rattle.definitions.specs.Run.{runItems}
@@ -77,6 +78,7 @@ module _ (L : Line → Type 0) (R : Line → Line → Type 0) (G : Global → Ty
   MayDo quits e = Unit {0}
   MayDo (adds x) e = G x
   MayDo cancels e = Unit {0}
+  MayDo (names xs) e = Unit {0}
 
   -- where every line, text and global is allowed, so is every change
   module _ (lines : (l : Line) → L l) (texts : (old new : Line) → R old new) (globals : (x : Global) → G x) where
@@ -98,6 +100,7 @@ module _ (L : Line → Type 0) (R : Line → Line → Type 0) (G : Global → Ty
     did-any quits e = tt
     did-any (adds x) e = globals x
     did-any cancels e = tt
+    did-any (names xs) e = tt
 
   module _ (K : Statement) where
     -- the statement holds where the program ends, and it may do what it does
@@ -107,6 +110,10 @@ module _ (L : Line → Type 0) (R : Line → Line → Type 0) (G : Global → Ty
     -- wherever the statement holds, the program comes to that, or stops where it holds
     abbrev pub Keeps : Program Did → Type 0
     Keeps m = (g : Given) (c : Carried) (e : Ed) (t : Tape) → CarriedOf G c → HoldsEd K e t → ComesTo g c DoesWell (λ n. HoldsEd K) m e t
+
+-- what holds of a step's program, whichever bytes count for W
+abbrev pub AsAnyWord : (Program Did → Type 0) → Op → Type 0
+AsAnyWord P op = (isWord : ℕ → Bool) → P (program isWord op)
 
 -- a changed record, where the two lines differ
 rewrite-kept : (l new : Line) → eqLine l new ≡ false → rewrite (kept l) new ≡ changed l new
@@ -241,7 +248,7 @@ module _ (L : Line → Type 0) (R : Line → Line → Type 0) (G : Global → Ty
     pass-allowed l new q = by c a q
       where
         by : (c : Carried) → CarriedOf G c → leftBy c l ≡ got new → R l new
-        by (carried gs) a q = closed .passes gs l new a (unfold leftBy in q)
+        by (carried gs xs) a q = closed .passes gs l new a (unfold leftBy in q)
 
     line-keeps : (e : Ed) (t : Tape) → HoldsEd K e t → At (Keeping (HoldsEd K)) (readLine g c e t)
     line-keeps (ed before after p) (unread (l ∷ ls)) h =
@@ -287,7 +294,16 @@ module _ (L : Line → Type 0) (R : Line → Line → Type 0) (G : Global → Ty
   -- ---- steps
 
   more-keeps : (c : Carried) (x : Global) (e : Ed) (t : Tape) → CarriedOf G c → G x → HoldsEd K e t → HoldsOut G K (oneMore c x e) t
-  more-keeps (carried gs) x e t a k h = one-comes (λ o. HoldsOut G K o t) gs x e (λ q. (h, each-append G gs (x ∷ []) a (k, tt))) (h, a)
+  more-keeps (carried gs xs) x e t a k h = one-comes (λ o. HoldsOut G K o t) gs xs x e (λ q. (h, each-append G gs (x ∷ []) a (k, tt))) (h, a)
+
+  -- CG and WORD (document 02, wishes 2 and 8)
+  none-carried : (c : Carried) → CarriedOf G (withoutGlobals c)
+  unfolding withoutGlobals
+  none-carried (carried gs xs) = tt
+
+  same-carried : (c : Carried) (xs : List Named) → CarriedOf G c → CarriedOf G (withWords c xs)
+  unfolding withWords
+  same-carried (carried gs xs) ys a = a
 
   finish-keeps : (g : Given) (c : Carried) (r : Ran Did) (t : Tape) → CarriedOf G c → Ended (DoesWell L R G K) (λ n. HoldsEd K) r t → At (HoldsOut G K) (finish g c r t)
   unfolding finish
@@ -295,13 +311,14 @@ module _ (L : Line → Type 0) (R : Line → Line → Type 0) (G : Global → Ty
   finish-keeps g c (gave (changes xs) e) t a h = within-comes (HoldsOut G K) g c e (edits xs e) t (λ x. (edits-keep t xs e (h .0) (h .1), a)) (h .1, a)
   finish-keeps g c (gave quits e) t a h = (h .1, a)
   finish-keeps g c (gave (adds x) e) t a h = more-keeps c x e t a (h .0) (h .1)
-  finish-keeps g c (gave cancels e) t a h = unfold noGlobals in (h .1, tt)
+  finish-keeps g c (gave cancels e) t a h = (h .1, none-carried c)
+  finish-keeps g c (gave (names xs) e) t a h = (h .1, same-carried c xs a)
   finish-keeps g c (stopped n e) t a h = (h, a)
 
   -- what the changes keep, every step keeps
-  pub step-keeps : (g : Given) (op : Op) (s : RunState) (t : Tape) → Keeps L R G K (program op) → HoldsState G K s t → At (HoldsOut G K) (step g op s t)
-  unfolding step perform bind
-  step-keeps g op (state e c) t f h = finish-keeps g c ((runs g c (program op) e t) .0) ((runs g c (program op) e t) .1) (h .1) (f g c e t (h .1) (h .0))
+  pub step-keeps : (g : Given) (op : Op) (s : RunState) (t : Tape) → AsAnyWord (Keeps L R G K) op → HoldsState G K s t → At (HoldsOut G K) (step g op s t)
+  unfolding step perform bind wordsIn
+  step-keeps g op (state e c) t f h = finish-keeps g c ((runs g c (program (wordsOf c) op) e t) .0) ((runs g c (program (wordsOf c) op) e t) .1) (h .1) (f (wordsOf c) g c e t (h .1) (h .0))
 
   pub opening-keeps : (t : Tape) → K [] [] t → At (HoldsEd K) (opening t)
   unfolding opening
@@ -310,7 +327,7 @@ module _ (L : Line → Type 0) (R : Line → Line → Type 0) (G : Global → Ty
   opening-keeps ended h = h
 
   -- and so it holds at the end of every run of such steps, if it holds before the first line is read
-  pub changes-keep : (g : Given) (budget : ℕ) (items : List Item) (t : Tape) → Inner (λ op. Keeps L R G K (program op)) → ItemsOf (λ op. Keeps L R G K (program op)) items
+  pub changes-keep : (g : Given) (budget : ℕ) (items : List Item) (t : Tape) → Inner (AsAnyWord (Keeps L R G K)) → ItemsOf (AsAnyWord (Keeps L R G K)) items
       → K [] [] t → At (AtEnd (HoldsState G K)) (runItems (step g) budget items t)
   changes-keep g budget items t inner h k =
-      runItems-keeps (λ op. Keeps L R G K (program op)) inner (HoldsState G K) (step g) (λ op s t′. step-keeps g op s t′) budget items t h (unfold noGlobals in (opening-keeps t k, tt))
+      runItems-keeps (AsAnyWord (Keeps L R G K)) inner (HoldsState G K) (step g) (λ op s t′. step-keeps g op s t′) budget items t h (unfold noGlobals in (opening-keeps t k, tt))

@@ -10,6 +10,7 @@ use lib.Dec.{leb}
 use Rattle.definitions.specs.Bytes.{Line}
 use Rattle.definitions.specs.Journal.{Record}
 use Rattle.definitions.specs.Tape.{Tape, restLines, Reads, bind}
+use Rattle.definitions.specs.WordSet.{Named}
 use Rattle.definitions.specs.Given.{Given, Global, Carried, carried}
 use Rattle.definitions.specs.Editor.{Ed, ed, records, journal, sources, current, Stop, n20, n26, n27, n31, stopNumber, Got, got, stop, Target, here, line, eof, Move, moved}
 use Rattle.definitions.specs.Reading.{Ran, gave, stopped, onceRead, hasRoom, readLine, readLines, readTo}
@@ -169,11 +170,12 @@ within-comes P g c e e′ t h k = by (hasRoom g (journal e′ t)) h
     by false f = k
 
 -- one global more stands, or the step stops with 31
-pub one-comes : (P : Out → Type 0) (gs : List Global) (x : Global) (e : Ed) → (leb 16 (length gs) ≡ false → P (on true (state e (carried (gs ++ (x ∷ []))))))
-    → P (halt (stopNumber n31) (state e (carried gs))) → P (oneMore (carried gs) x e)
+pub one-comes : (P : Out → Type 0) (gs : List Global) (xs : List Named) (x : Global) (e : Ed)
+    → (leb 16 (length gs) ≡ false → P (on true (state e (carried (gs ++ (x ∷ [])) xs)))) → P (halt (stopNumber n31) (state e (carried gs xs))) → P (oneMore (carried gs xs) x e)
 unfolding oneMore
-one-comes P gs x e h k = by (leb 16 (length gs)) h
+one-comes P gs xs x e h k = by (leb 16 (length gs)) h
   where
-    by : (b : Bool) → (b ≡ false → P (on true (state e (carried (gs ++ (x ∷ [])))))) → P (cond b (halt (stopNumber n31) (state e (carried gs))) (on true (state e (carried (gs ++ (x ∷ []))))))
+    by : (b : Bool) → (b ≡ false → P (on true (state e (carried (gs ++ (x ∷ [])) xs))))
+        → P (cond b (halt (stopNumber n31) (state e (carried gs xs))) (on true (state e (carried (gs ++ (x ∷ [])) xs))))
     by true f = k
     by false f = f refl

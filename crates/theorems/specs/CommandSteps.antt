@@ -15,13 +15,13 @@ use Rattle.definitions.specs.Edit.{Change, Test, isEof, Op, insert, addGlobal}
 use Rattle.definitions.specs.Control.{Seek, Opener, forever, branch, loop, Item, simple, seek, opens, leave}
 use Rattle.definitions.specs.Reader.{Cursor, cursor, placeAt, bytesLeft, isNext, skipSpaces, skipComment, isDigitNext, number, name, packed, isToken}
 use Rattle.definitions.specs.Strings.{Pair, pair}
-use Rattle.definitions.specs.Commands.{Shape, plain, leaves, seeks, moves, deletes, insertsString, insertsLines, replaces, alters, points, splits, joins, globals, repeats, branches, branchesEof, loops, unknown, Row, row, commandTable, lookUp, shapeOf, startsTarget, target, through, Span, span, lineSpan, optionalTarget, endOfLine, UpToZ, upToZ, noZ, linesUpToZ, linesAfter, bytesFrom, scriptLines, Decoded, whole, prefix, skipThen, testOf, deleteOp, replaceOp, alterOp, decode}
+use Rattle.definitions.specs.Commands.{Shape, plain, leaves, seeks, moves, deletes, insertsString, insertsLines, replaces, alters, points, splits, joins, globals, namesWords, repeats, branches, branchesEof, loops, unknown, Row, row, commandTable, lookUp, shapeOf, startsTarget, target, through, Span, span, lineSpan, optionalTarget, endOfLine, UpToZ, upToZ, noZ, linesUpToZ, linesAfter, bytesFrom, scriptLines, Decoded, whole, prefix, skipThen, testOf, deleteOp, replaceOp, alterOp, decode}
 use Rattle.theorems.specs.Lines.{and-both, and-left, and-right, TakenFrom, taken-from}
 use Rattle.theorems.specs.GoodItems.{goodTest, goodTarget, goodThrough, goodOption, goodOp, goodOpener, goodItem, placedIn}
 use Rattle.theorems.specs.Nesting.{isBranch, isBare}
 use Rattle.theorems.specs.NestingSteps.{isCommand}
 use Rattle.theorems.specs.ReaderSteps.{Sound, Reached, ReadsWell, gets, refuses, refuses-at, anything, as-far, then, decides, after-byte, past-spaces, past-comment, past-name, number-reads, IsNumber, advanced, quoted-reads}
-use Rattle.theorems.specs.StringsSteps.{goodPair, two-reads, goodPlainPair, two-plain-reads, qualified-reads}
+use Rattle.theorems.specs.StringsSteps.{goodPair, two-reads, goodPlainPair, two-plain-reads, words-reads, qualified-reads}
 use Rattle.theorems.specs.SearchSteps.{GoodSearch, search-reads}
 
 -- ---- line numbers
@@ -105,6 +105,7 @@ goodShape (points after) = true
 goodShape (splits after) = true
 goodShape joins = true
 goodShape (globals c) = true
+goodShape namesWords = true
 goodShape repeats = true
 goodShape (branches b) = true
 goodShape branchesEof = true
@@ -215,6 +216,7 @@ decode-reads i at (points after) c le g h = then (qualified-reads false c h) (λ
 decode-reads i at (splits after) c le g h = then (qualified-reads false c h) (λ q c₁ h₁ f. gets h₁ (simple-well at _ le f))
 decode-reads i at joins c le g h = then (quoted-reads (skipSpaces c) (past-spaces c h)) (λ l c₁ h₁ f. gets h₁ (simple-well at _ le f))
 decode-reads {s} i at (globals ch) c le g h = then (two-plain-reads c h) (λ x c₁ h₁ f. gets h₁ (simple-well at _ le (global-good s ch x f)))
+decode-reads i at namesWords c le g h = then (words-reads c h) (λ xs c₁ h₁ f. gets h₁ (simple-well at _ le (λ e. refl)))
 decode-reads i at repeats c le g h = gets h (forever-well at le)
 decode-reads {s} i at (branches b) c le g h = then (search-reads c h) (λ se c₁ h₁ f. gets (past-then c₁ h₁) (branch-well at (testOf b se) le (test-good s b se f)))
 decode-reads {s} i at branchesEof c le g h = gets (past-then c h) (branch-well at isEof le (eof-good s))

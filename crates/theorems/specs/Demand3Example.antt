@@ -6,6 +6,7 @@ use Prim.Native.Nat.{ℕ}
 use native.Mathlib.Omega.{arith}
 use Rattle.definitions.specs.Bytes.{bytes, linesOf}
 use Rattle.definitions.specs.Journal.{kept, changed}
+use Rattle.definitions.specs.WordSet.{lettersAndDigits}
 use Rattle.definitions.specs.Given.{global, Carried, carried}
 use Rattle.definitions.specs.Run.{Answer, answer, runAnswer, answerFurthest}
 use Rattle.definitions.specs.Everything.{everything}
@@ -36,9 +37,9 @@ ran₂-is : ran₂ ≡ answer 0 5 2 0 (kept (bytes "a") ∷ changed (bytes "b") 
 unfolding everything
 ran₂-is = refl
 
--- the global that stands at the end
+-- the global that stands at the end; letters and digits count for W, as at first
 abbrev stands : Carried
-stands = carried (global (bytes "y") (bytes "z") ∷ [])
+stands = carried (global (bytes "y") (bytes "z") ∷ []) lettersAndDigits
 
 stands-is : standing table script 99 40 ≡ stands
 unfolding everything standing standingOf standingAt

@@ -8,11 +8,11 @@ use borrow.Author.Tests.{leb-true}
 use Rattle.definitions.specs.Bytes.{Line}
 use Rattle.definitions.specs.Journal.{Record, kept, changed, deleted, inserted, journalBytes, journalLength}
 use Rattle.definitions.specs.Tape.{Tape, unread, ended, restLines, bind}
-use Rattle.definitions.specs.Given.{Given, Global, given, bytes, Carried, carried}
+use Rattle.definitions.specs.Given.{Given, Global, given, bytes, Carried, carried, wordsOf}
 use Rattle.definitions.specs.Globals.{leftBy}
 use Rattle.definitions.specs.Editor.{Ed, records, journal, Got, got, stop, Move, moved, eof, edits}
 use Rattle.definitions.specs.Reading.{Ran, gave, stopped, seen, hasRoom, readLine, opening}
-use Rattle.definitions.specs.StepProgram.{Program, runs, RunState, state, textOf, Did, answers, changes, quits, adds, cancels, Out, on, edited, halt, oneMore, finish, perform}
+use Rattle.definitions.specs.StepProgram.{Program, runs, RunState, state, textOf, wordsIn, Did, answers, changes, quits, adds, cancels, names, Out, on, edited, halt, oneMore, finish, perform}
 use Rattle.definitions.specs.Edit.{Op, program, step}
 use Rattle.definitions.specs.Control.{Item}
 use Rattle.definitions.specs.Run.{Answer, answer, refusal, ranItems, openingLength, answerRecords}
@@ -121,7 +121,7 @@ Stays c e t (edited s) t′ = Unit {0}
 Stays c e t (halt n s) t′ = OnlyRead c (records e) (restLines t) (textOf s) t′
 
 more-stays : (c d : Carried) (x : Global) (e₀ e : Ed) (t₀ t : Tape) → OnlyRead c (records e₀) (restLines t₀) e t → Stays c e₀ t₀ (oneMore d x e) t
-more-stays c (carried gs) x e₀ e t₀ t h = one-comes (λ o. Stays c e₀ t₀ o t) gs x e (λ q. unfold Stays textOf in h) (unfold Stays textOf in h)
+more-stays c (carried gs xs) x e₀ e t₀ t h = one-comes (λ o. Stays c e₀ t₀ o t) gs xs x e (λ q. unfold Stays textOf in h) (unfold Stays textOf in h)
 
 finish-stays : (g : Given) (c : Carried) (e₀ : Ed) (t₀ : Tape) (r : Ran Did) (t : Tape) → Keeping (OnlyRead c (records e₀) (restLines t₀)) r t → At (Stays c e₀ t₀) (finish g c r t)
 unfolding finish Stays textOf
@@ -130,13 +130,14 @@ finish-stays g c e₀ t₀ (gave (changes xs) e) t h = unfold Stays textOf in (w
 finish-stays g c e₀ t₀ (gave quits e) t h = h
 finish-stays g c e₀ t₀ (gave (adds x) e) t h = more-stays c c x e₀ e t₀ t h
 finish-stays g c e₀ t₀ (gave cancels e) t h = h
+finish-stays g c e₀ t₀ (gave (names xs) e) t h = h
 finish-stays g c e₀ t₀ (stopped n e) t h = h
 
 -- "the stopping command changes no record, its reading counts"; nor does one that goes on without a change
 pub step-stays : (g : Given) (op : Op) (e : Ed) (c : Carried) (t : Tape) → At (Stays c e t) (step g op (state e c) t)
-unfolding step perform bind
+unfolding step perform bind wordsIn
 step-stays g op e c t =
-    finish-stays g c e t ((runs g c (program op) e t) .0) ((runs g c (program op) e t) .1) (runs-only g c (records e) (restLines t) (program op) e t
+    finish-stays g c e t ((runs g c (program (wordsOf c) op) e t) .0) ((runs g c (program (wordsOf c) op) e t) .1) (runs-only g c (records e) (restLines t) (program (wordsOf c) op) e t
     (record { read = []; rs = []; same = sym (append-nil (records e)); first = refl; left = tt }))
 
 -- ---- the buffer has room
@@ -170,7 +171,7 @@ module _ (size : ℕ) where
   -- ---- a step
 
   more-fits : (c : Carried) (x : Global) (e : Ed) (t : Tape) → FitsIn size e t → AfterStep (FitsState size) (oneMore c x e) t
-  more-fits (carried gs) x e t h = one-comes (λ o. AfterStep (FitsState size) o t) gs x e (λ q. unfold textOf in h) (unfold textOf in h)
+  more-fits (carried gs xs) x e t h = one-comes (λ o. AfterStep (FitsState size) o t) gs xs x e (λ q. unfold textOf in h) (unfold textOf in h)
 
   finish-fits : (c : Carried) (r : Ran Did) (t : Tape) → Keeping (FitsIn size) r t → At (AfterStep (FitsState size)) (finish (given (bytes size)) c r t)
   unfolding finish textOf
@@ -180,13 +181,14 @@ module _ (size : ℕ) where
   finish-fits c (gave quits e) t h = h
   finish-fits c (gave (adds x) e) t h = more-fits c x e t h
   finish-fits c (gave cancels e) t h = h
+  finish-fits c (gave (names xs) e) t h = h
   finish-fits c (stopped n e) t h = h
 
   step-fits : (op : Op) (s : RunState) (t : Tape) → FitsState size s t → At (AfterStep (FitsState size)) (step (given (bytes size)) op s t)
-  unfolding step perform bind textOf
+  unfolding step perform bind wordsIn textOf
   step-fits op (state e c) t h =
       let g : Given = given (bytes size) in
-      finish-fits c ((runs g c (program op) e t) .0) ((runs g c (program op) e t) .1) (runs-keep g c (FitsIn size) (line-fits c) move-fits (program op) e t h)
+      finish-fits c ((runs g c (program (wordsOf c) op) e t) .0) ((runs g c (program (wordsOf c) op) e t) .1) (runs-keep g c (FitsIn size) (line-fits c) move-fits (program (wordsOf c) op) e t h)
 
 -- ---- the run
 

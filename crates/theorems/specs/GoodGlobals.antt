@@ -103,4 +103,4 @@ through-line gs l new a q h = rw q at (passed-line gs l a h)
 
 pub left-line : (c : Carried) (l new : Line) → GoodCarried c → leftBy c l ≡ got new → IsLine l → IsLine new
 unfolding leftBy
-left-line (carried gs) l new a q h = through-line gs l new a q h
+left-line (carried gs xs) l new a q h = through-line gs l new a q h

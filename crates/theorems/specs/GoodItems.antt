@@ -9,7 +9,7 @@ use Rattle.definitions.specs.Matching.{Columns, allColumns, columns, Qualifiers
 use Rattle.definitions.specs.Strings.{isEmpty}
 use Rattle.definitions.specs.Search.{Search, one, both, either}
 use Rattle.definitions.specs.Editor.{Target, here, line, eof, Through, alone, upTo, toEof}
-use Rattle.definitions.specs.Edit.{Test, is, isNot, isEof, Op, onlyStep, quit, test, begin, beginBack, find, findBack, findDelete, move, nextLine, previousLine, delete, replace, insert, copy, alter, split, join, addGlobal, cancelGlobals, point, pointStart, right, left, cutByte, recase}
+use Rattle.definitions.specs.Edit.{Test, is, isNot, isEof, Op, onlyStep, quit, test, begin, beginBack, find, findBack, findDelete, move, nextLine, previousLine, delete, replace, insert, copy, alter, split, join, addGlobal, cancelGlobals, nameWords, point, pointStart, right, left, cutByte, recase}
 use Rattle.definitions.specs.Control.{Opener, times, forever, bare, branch, loop, Item, simple, seek, opens, bracket, close, otherwise, leave, lineEnd}
 
 -- "Numbers are 1 to 65,535"
@@ -74,6 +74,7 @@ goodOp (split after q) = goodQualified q
 goodOp (join s) = isLine s
 goodOp (addGlobal c s new) = isLine s && not (isEmpty s) && isLine new
 goodOp cancelGlobals = true
+goodOp (nameWords xs) = true
 goodOp (point after q) = goodQualified q
 goodOp pointStart = true
 goodOp right = true

@@ -9,14 +9,13 @@ use Rattle.definitions.specs.Tape.{Tape, unread, restLines}
 use Rattle.definitions.specs.Given.{Given, given, bytes}
 use Rattle.definitions.specs.Editor.{ed, records, journal}
 use Rattle.definitions.specs.StepProgram.{RunState, state, textOf}
-use Rattle.definitions.specs.Edit.{program}
 use Rattle.definitions.specs.Control.{Item}
 use Rattle.definitions.specs.Run.{ranItems}
 use Rattle.theorems.specs.Each.{Each, each-append, each-reverse, each-map}
 use Rattle.theorems.specs.Runs.{items-weaken}
 use Rattle.theorems.specs.ArrangeLaws.{arrange-each}
 use Rattle.theorems.specs.Answers.{Shown, ran-shown}
-use Rattle.theorems.specs.Changes.{HoldsState, rest-keeps, changes-keep}
+use Rattle.theorems.specs.Changes.{HoldsState, AsAnyWord, rest-keeps, changes-keep}
 use Rattle.theorems.specs.JournalBytes.{IsLine, GoodRecord}
 use Rattle.theorems.specs.GoodItems.{goodOp}
 use Rattle.theorems.specs.GoodGlobals.{GoodGlobal}
@@ -35,4 +34,4 @@ ran-good size place budget items ls k h =
     let g : Given = given (bytes size) in
     ran-shown (HoldsState GoodGlobal Good) GoodRecords journal-good (arrange-each GoodRecord) g (rest-keeps IsLine IsLineAfter GoodGlobal Good good-closed g) place budget items ls
     (changes-keep IsLine IsLineAfter GoodGlobal Good good-closed g budget items (unread ls) inner-lines
-    (items-weaken (λ op. goodOp op ≡ true) (λ op. WritesLines (program op)) good-lines items k) (tt, tt, unfold restLines in h))
+    (items-weaken (λ op. goodOp op ≡ true) (AsAnyWord WritesLines) good-lines items k) (tt, tt, unfold restLines in h))

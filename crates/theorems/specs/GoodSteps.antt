@@ -16,14 +16,14 @@ use Rattle.definitions.specs.Tape.{Tape, restLines}
 use Rattle.definitions.specs.Given.{Given, Carried}
 use Rattle.definitions.specs.Editor.{Ed, ed, afterOf, current, firstLive, Stop, n20, n21, n22, n24, n25, n30, strike, strikeBack, strikeNext, put, retext, edit}
 use Rattle.definitions.specs.StepProgram.{Program, gives, _>>=_, _>>_, runs, Did, answers, changes}
-use Rattle.definitions.specs.Edit.{Op, onlyStep, quit, test, begin, beginBack, find, findBack, findDelete, move, nextLine, previousLine, delete, replace, insert, copy, alter, split, join, addGlobal, cancelGlobals, point, pointStart, right, left, cutByte, recase}
+use Rattle.definitions.specs.Edit.{Op, onlyStep, quit, test, begin, beginBack, find, findBack, findDelete, move, nextLine, previousLine, delete, replace, insert, copy, alter, split, join, addGlobal, cancelGlobals, nameWords, point, pointStart, right, left, cutByte, recase}
 use Rattle.definitions.specs.Edit.{orStop, either, see, goesOn, readPast, lineOr, lookOn, lookBack, placeOr24, byteHere, write, cutAfter, nextOr30, writeJoined, span, program}
 use Rattle.definitions.specs.Control.{Item}
 use Rattle.theorems.specs.Each.{Each, each-append, each-drop}
 use Rattle.theorems.specs.Lines.{and-right}
 use Rattle.theorems.specs.ComesTo.{Gives, Stops, ComesTo, then-comes, and-comes, line-comes, byte-comes, test-comes, some-comes, either-comes}
 use Rattle.theorems.specs.Runs.{Inner, ItemsOf}
-use Rattle.theorems.specs.Changes.{Statement, Closed, HoldsEd, DoesWell, Keeps, program-keeps, then-keeps, and-keeps}
+use Rattle.theorems.specs.Changes.{Statement, Closed, HoldsEd, DoesWell, Keeps, AsAnyWord, program-keeps, then-keeps, and-keeps}
 use Rattle.theorems.specs.JournalBytes.{IsLine, GoodRecord, line-text, line-of, all-lines}
 use Rattle.theorems.specs.GoodItems.{goodTarget, goodThrough, goodOption, goodQualified, goodOp}
 use Rattle.theorems.specs.GoodLines.{splice-text, altered-text, recased-text, appended-text, taken-line, dropped-line, current-line, current-text, rewrite-good, erase-good}
@@ -187,19 +187,20 @@ lookBack-lines = and-lines _ _ (answer-lines false)
 
 -- ---- the steps of searches, tests and rounds
 
-find-lines : (n : Stop) (se : Search) (m k : Program Did) → WritesLines m → WritesLines k → WritesLines (_>>=_ (lineOr n) (λ x. either (holds se (x .1) (x .0)) m k))
-find-lines n se m k f i = then-lines (lineOr n) _ (λ x. either-lines (holds se (x .1) (x .0)) m k f i)
+find-lines : (n : Stop) (isWord : ℕ → Bool) (se : Search) (m k : Program Did) → WritesLines m → WritesLines k
+    → WritesLines (_>>=_ (lineOr n) (λ x. either (holds isWord se (x .1) (x .0)) m k))
+find-lines n isWord se m k f i = then-lines (lineOr n) _ (λ x. either-lines (holds isWord se (x .1) (x .0)) m k f i)
 
-pub inner-lines : Inner (λ op. WritesLines (program op))
+pub inner-lines : Inner (AsAnyWord WritesLines)
 unfolding program
 inner-lines = record {
-  rounds = goes-lines;
-  tests = λ x. then-lines _ _ (λ b. answer-lines b);
-  begins = and-lines _ _ goes-lines;
-  beginsBack = then-lines _ _ (λ b. and-lines _ _ goes-lines);
-  finds = λ se. find-lines n21 se _ _ goes-lines lookOn-lines;
-  findsBack = λ se. find-lines n22 se _ _ goes-lines lookBack-lines;
-  findsDelete = λ se k. find-lines n21 se _ _ (strikeBack-lines k) lookOn-lines;
+  rounds = λ isWord. goes-lines;
+  tests = λ x isWord. then-lines _ _ (λ b. answer-lines b);
+  begins = λ isWord. and-lines _ _ goes-lines;
+  beginsBack = λ isWord. then-lines _ _ (λ b. and-lines _ _ goes-lines);
+  finds = λ se isWord. find-lines n21 isWord se _ _ goes-lines lookOn-lines;
+  findsBack = λ se isWord. find-lines n22 isWord se _ _ goes-lines lookBack-lines;
+  findsDelete = λ se k isWord. find-lines n21 isWord se _ _ (strikeBack-lines k) lookOn-lines;
 }
 
 -- ---- the commands
@@ -208,40 +209,41 @@ inner-lines = record {
 abbrev pub GoodItems : List Item → Type 0
 GoodItems items = ItemsOf (λ op. goodOp op ≡ true) items
 
-pub good-lines : (op : Op) → goodOp op ≡ true → WritesLines (program op)
+pub good-lines : (op : Op) → goodOp op ≡ true → AsAnyWord WritesLines op
 unfolding goodOp program
-good-lines onlyStep h = absurd (false≢true h)
-good-lines quit h = unfold runs in (λ g c e t a k. (tt, k))
-good-lines (test x) h = absurd (false≢true h)
-good-lines begin h = absurd (false≢true h)
-good-lines beginBack h = absurd (false≢true h)
-good-lines (find se) h = absurd (false≢true h)
-good-lines (findBack se) h = absurd (false≢true h)
-good-lines (findDelete se k) h = absurd (false≢true h)
-good-lines (move a) h = and-lines _ _ goes-lines
-good-lines nextLine h = and-lines _ _ (and-lines _ _ goes-lines)
-good-lines previousLine h = and-lines _ _ goes-lines
-good-lines (delete a b) h = then-lines (span a b) _ strike-lines
-good-lines (replace a b ls) h = then-lines (span a b) _ (λ k. replace-lines k ls (all-lines ls (and-right (goodTarget a && goodThrough b) (allLines ls) h)))
-good-lines (insert none ls) h = put-lines ls (all-lines ls (and-right (goodOption none) (allLines ls) h))
-good-lines (insert (some a) ls) h = and-lines _ _ (put-lines ls (all-lines ls (and-right (goodOption (some a)) (allLines ls) h)))
-good-lines copy h = line-lines n20 _ (λ g c before r after p t a k. put-lines (current r ∷ []) (current-line r (k .1 .0), tt) g c (ed before (r ∷ after) p) t a k)
-good-lines (alter d pointing q new) h =
+good-lines onlyStep h isWord = absurd (false≢true h)
+good-lines quit h isWord = unfold runs in (λ g c e t a k. (tt, k))
+good-lines (test x) h isWord = absurd (false≢true h)
+good-lines begin h isWord = absurd (false≢true h)
+good-lines beginBack h isWord = absurd (false≢true h)
+good-lines (find se) h isWord = absurd (false≢true h)
+good-lines (findBack se) h isWord = absurd (false≢true h)
+good-lines (findDelete se k) h isWord = absurd (false≢true h)
+good-lines (move a) h isWord = and-lines _ _ goes-lines
+good-lines nextLine h isWord = and-lines _ _ (and-lines _ _ goes-lines)
+good-lines previousLine h isWord = and-lines _ _ goes-lines
+good-lines (delete a b) h isWord = then-lines (span a b) _ strike-lines
+good-lines (replace a b ls) h isWord = then-lines (span a b) _ (λ k. replace-lines k ls (all-lines ls (and-right (goodTarget a && goodThrough b) (allLines ls) h)))
+good-lines (insert none ls) h isWord = put-lines ls (all-lines ls (and-right (goodOption none) (allLines ls) h))
+good-lines (insert (some a) ls) h isWord = and-lines _ _ (put-lines ls (all-lines ls (and-right (goodOption (some a)) (allLines ls) h)))
+good-lines copy h isWord = line-lines n20 _ (λ g c before r after p t a k. put-lines (current r ∷ []) (current-line r (k .1 .0), tt) g c (ed before (r ∷ after) p) t a k)
+good-lines (alter d pointing q new) h isWord =
     line-lines n20 _ (λ g c before r after p t a k. unfold placeOr24 in
-    (some-comes g c WritesWell StopsWell n24 (placeOf q p (current r)) _ (ed before (r ∷ after) p) t k
+    (some-comes g c WritesWell StopsWell n24 (placeOf isWord q p (current r)) _ (ed before (r ∷ after) p) t k
     (λ i. write-lines g c before r after p t _ _ (λ o. altered-text d (current r) i (length (stringIn q)) new o (line-text new (and-right (goodQualified q) (isLine new) h))) k)))
-good-lines (split after q) h =
+good-lines (split after q) h isWord =
     line-lines n20 _ (λ g c before r after p t a k. unfold placeOr24 in
-    (some-comes g c WritesWell StopsWell n24 (placeOf q p (current r)) _ (ed before (r ∷ after) p) t k (λ i. cut-lines g c before r after p t _ k)))
-good-lines (join s) h =
+    (some-comes g c WritesWell StopsWell n24 (placeOf isWord q p (current r)) _ (ed before (r ∷ after) p) t k (λ i. cut-lines g c before r after p t _ k)))
+good-lines (join s) h isWord =
     line-lines n20 _ (λ g c before r after p t a k.
     then-comes g c GivesText WritesWell StopsWell nextOr30 _ (ed before (r ∷ after) p) t (next-text g c (ed before (r ∷ after) p) t a k) (λ m e′ t′ x.
     joined-lines g c e′ t′ _ p (appended-text (current r) (s ++ m) (current-text r (k .1 .0)) (appended-text s m (line-text s h) (x .0))) (x .1)))
-good-lines (addGlobal d s new) h = unfold runs in (λ g c e t a k. (global-good d s new (unfold goodOp in h), k))
-good-lines cancelGlobals h = unfold runs in (λ g c e t a k. (tt, k))
-good-lines (point b q) h = then-lines (lineOr n20) _ (λ x. then-lines (placeOr24 q (x .0) (x .1)) _ (λ i. and-lines _ _ goes-lines))
-good-lines pointStart h = and-lines _ _ (and-lines _ _ goes-lines)
-good-lines right h = then-lines byteHere _ (λ x. and-lines _ _ goes-lines)
-good-lines left h = then-lines (lineOr n20) _ (λ x. and-lines _ _ (and-lines _ _ goes-lines))
-good-lines cutByte h = byte-lines _ (λ g c before r after p t x k. write-lines g c before r after p t _ _ (λ o. splice-text (current r) p 1 [] o (unfold allText in refl)) k)
-good-lines (recase up) h = byte-lines _ (λ g c before r after p t x k. write-lines g c before r after p t _ _ (recased-text up (current r) p (leb-false (length (current r)) p x)) k)
+good-lines (addGlobal d s new) h isWord = unfold runs in (λ g c e t a k. (global-good d s new (unfold goodOp in h), k))
+good-lines cancelGlobals h isWord = unfold runs in (λ g c e t a k. (tt, k))
+good-lines (nameWords xs) h isWord = unfold runs in (λ g c e t a k. (tt, k))
+good-lines (point b q) h isWord = then-lines (lineOr n20) _ (λ x. then-lines (placeOr24 isWord q (x .0) (x .1)) _ (λ i. and-lines _ _ goes-lines))
+good-lines pointStart h isWord = and-lines _ _ (and-lines _ _ goes-lines)
+good-lines right h isWord = then-lines byteHere _ (λ x. and-lines _ _ goes-lines)
+good-lines left h isWord = then-lines (lineOr n20) _ (λ x. and-lines _ _ (and-lines _ _ goes-lines))
+good-lines cutByte h isWord = byte-lines _ (λ g c before r after p t x k. write-lines g c before r after p t _ _ (λ o. splice-text (current r) p 1 [] o (unfold allText in refl)) k)
+good-lines (recase up) h isWord = byte-lines _ (λ g c before r after p t x k. write-lines g c before r after p t _ _ (recased-text up (current r) p (leb-false (length (current r)) p x)) k)

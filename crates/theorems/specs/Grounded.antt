@@ -13,11 +13,11 @@ use Rattle.definitions.specs.Journal.{oldOf, oldSide}
 use Rattle.definitions.specs.Matching.{Qualified, placeOf}
 use Rattle.definitions.specs.Search.{Search, holds}
 use Rattle.definitions.specs.Tape.{Tape, unread, ended, bind}
-use Rattle.definitions.specs.Given.{Given, Global, given, bytes, Carried, carried, noGlobals}
+use Rattle.definitions.specs.Given.{Given, Global, given, bytes, Carried, carried, noGlobals, wordsOf}
 use Rattle.definitions.specs.Editor.{Ed, ed, sources, Stop, n20, n21, n22, n24, n25, n27, stopNumber, back, pointTo, Edit, strike, strikeBack, strikeNext, put, retext, edit, edits}
 use Rattle.definitions.specs.Reading.{Ran, gave, stopped, opening}
-use Rattle.definitions.specs.StepProgram.{Program, gives, _>>=_, _>>_, runs, RunState, state, Did, answers, changes, quits, adds, cancels, Out, on, edited, halt, oneMore, finish, perform}
-use Rattle.definitions.specs.Edit.{Op, onlyStep, quit, test, begin, beginBack, find, findBack, findDelete, move, nextLine, previousLine, delete, replace, insert, copy, alter, split, join, addGlobal, cancelGlobals, point, pointStart, right, left, cutByte, recase}
+use Rattle.definitions.specs.StepProgram.{Program, gives, _>>=_, _>>_, runs, RunState, state, wordsIn, Did, answers, changes, quits, adds, cancels, names, Out, on, edited, halt, oneMore, finish, perform}
+use Rattle.definitions.specs.Edit.{Op, onlyStep, quit, test, begin, beginBack, find, findBack, findDelete, move, nextLine, previousLine, delete, replace, insert, copy, alter, split, join, addGlobal, cancelGlobals, nameWords, point, pointStart, right, left, cutByte, recase}
 use Rattle.definitions.specs.Edit.{stopIf, either, see, go, goesOn, goAhead, goTo, lineOr, isAtEof, lookOn, lookBack, write, placeOr24, byteHere, cutAfter, nextOr30, writeJoined, span, program, step}
 use Rattle.definitions.specs.Control.{Item}
 use Rattle.definitions.specs.Run.{runItems}
@@ -81,10 +81,11 @@ Does (changes xs) e t = Grounded e t × EditsFrom xs e t
 Does quits e t = Grounded e t
 Does (adds x) e t = Grounded e t
 Does cancels e t = Grounded e t
+Does (names xs) e t = Grounded e t
 
 -- a seventeenth is 31
 more-grounded : (c : Carried) (x : Global) (e : Ed) (t : Tape) → Grounded e t → GroundedOut (oneMore c x e) t
-more-grounded (carried gs) x e t h = one-comes (λ o. GroundedOut o t) gs x e (λ q. h) (unfold stopNumber in (other-number 31 e t tt h))
+more-grounded (carried gs xs) x e t h = one-comes (λ o. GroundedOut o t) gs xs x e (λ q. h) (unfold stopNumber in (other-number 31 e t tt h))
 
 finish-grounded : (g : Given) (c : Carried) (r : Ran Did) (t : Tape) → Ended Does Halts r t → At GroundedOut (finish g c r t)
 unfolding finish
@@ -93,6 +94,7 @@ finish-grounded g c (gave (changes xs) e) t h = within-comes GroundedOut g c e (
 finish-grounded g c (gave quits e) t h = other-number 0 e t tt h
 finish-grounded g c (gave (adds x) e) t h = more-grounded c x e t h
 finish-grounded g c (gave cancels e) t h = h
+finish-grounded g c (gave (names xs) e) t h = h
 finish-grounded g c (stopped n e) t h = h
 
 -- ---- parts of programs
@@ -131,9 +133,9 @@ module _ (g : Given) (c : Carried) where
   tested : (n : Stop) (x : Bool) (m : Program Did) → T (not (meetsEof (stopNumber n))) → AtLine Does m → AtLine Does (_>>_ (stopIf n x) m)
   tested n x m k f e t h = test-comes g c Does Halts n x m e t (λ q. other-stop n e t k h) (λ q. f e t h)
 
-  placed : (q : Qualified) (l : Line) (p : ℕ) (k : ℕ → Program Did) → ((i : ℕ) → AtLine Does (k i)) → AtLine Does (_>>=_ (placeOr24 q l p) k)
+  placed : (isWord : ℕ → Bool) (q : Qualified) (l : Line) (p : ℕ) (k : ℕ → Program Did) → ((i : ℕ) → AtLine Does (k i)) → AtLine Does (_>>=_ (placeOr24 isWord q l p) k)
   unfolding placeOr24
-  placed q l p k f e t h = some-comes g c Does Halts n24 (placeOf q p l) k e t (other-stop n24 e t (unfold stopNumber in tt) h) (λ i. f i e t h)
+  placed isWord q l p k f e t h = some-comes g c Does Halts n24 (placeOf isWord q p l) k e t (other-stop n24 e t (unfold stopNumber in tt) h) (λ i. f i e t h)
 
   with-byte : (k : Line × ℕ → Program Did) → ((x : Line × ℕ) → AtLine Does (k x)) → Anywhere Does (_>>=_ byteHere k)
   with-byte k f (ed before [] p) t h = unfold stopNumber in (byte-comes g c Does Halts k (ed before [] p) t (other-number 27 (ed before [] p) t tt h) (other-number 20 (ed before [] p) t tt h))
@@ -185,50 +187,52 @@ module _ (g : Given) (c : Carried) where
   unfolding lookBack
   lookBack-comes e t h = and-comes g c Ground Does Halts (go back) _ e t (back-comes g c e t (line-grounded e t h)) (λ u. on-comes false)
 
-  looked : (n : Stop) (se : Search) (m k : Program Did) → AtLine Does m → AtLine Does k → Anywhere Does (_>>=_ (lineOr n) (λ x. either (holds se (x .1) (x .0)) m k))
-  looked n se m k f i = with-line n _ (λ x e t h. either-comes g c Does Halts (holds se (x .1) (x .0)) m k e t (f e t h) (i e t h))
+  looked : (n : Stop) (isWord : ℕ → Bool) (se : Search) (m k : Program Did) → AtLine Does m → AtLine Does k
+      → Anywhere Does (_>>=_ (lineOr n) (λ x. either (holds isWord se (x .1) (x .0)) m k))
+  looked n isWord se m k f i = with-line n _ (λ x e t h. either-comes g c Does Halts (holds isWord se (x .1) (x .0)) m k e t (f e t h) (i e t h))
 
   -- ---- every command
 
-  program-comes : (op : Op) (e : Ed) (t : Tape) → HoldsEd Sourced e t → Grounded e t → ComesGrounded g c Does (program op) e t
+  program-comes : (isWord : ℕ → Bool) (op : Op) (e : Ed) (t : Tape) → HoldsEd Sourced e t → Grounded e t → ComesGrounded g c Does (program isWord op) e t
   unfolding program
-  program-comes onlyStep e t s h = goes-comes e t h
-  program-comes quit e t s h = unfold runs in h
-  program-comes (test x) e t s h = unfold see _>>=_ runs in h
-  program-comes begin e t s h = at-line n21 _ (λ e₁ t₁ h₁. goes-comes e₁ t₁ (line-grounded e₁ t₁ h₁)) e t h
-  program-comes beginBack e t s h =
+  program-comes isWord onlyStep e t s h = goes-comes e t h
+  program-comes isWord quit e t s h = unfold runs in h
+  program-comes isWord (test x) e t s h = unfold see _>>=_ runs in h
+  program-comes isWord begin e t s h = at-line n21 _ (λ e₁ t₁ h₁. goes-comes e₁ t₁ (line-grounded e₁ t₁ h₁)) e t h
+  program-comes isWord beginBack e t s h =
       unfold see _>>=_ runs in (then-goes (either (isAtEof e) (go back) (gives tt)) e t
       (either-comes g c Ground Halts (isAtEof e) (go back) (gives tt) e t (back-comes g c e t h) (unfold runs in h)))
-  program-comes (find se) e t s h = looked n21 se _ _ (λ e₁ t₁ h₁. goes-comes e₁ t₁ (line-grounded e₁ t₁ h₁)) lookOn-comes e t h
-  program-comes (findBack se) e t s h = looked n22 se _ _ (λ e₁ t₁ h₁. goes-comes e₁ t₁ (line-grounded e₁ t₁ h₁)) lookBack-comes e t h
-  program-comes (findDelete se k) e t s h = looked n21 se _ _ (strikeBack-comes k) lookOn-comes e t h
-  program-comes (move a) e t s h = then-goes (goTo a) e t (goTo-comes g c a e t s h)
-  program-comes nextLine e t s h = at-line n20 _ (λ e₁ t₁ h₁. then-goes goAhead e₁ t₁ (goAhead-comes g c e₁ t₁ h₁)) e t h
-  program-comes previousLine e t s h = then-goes (go back) e t (back-comes g c e t h)
-  program-comes (delete a b) e t s h = then-comes g c Spans Does Halts (span a b) _ e t (span-comes g c a b e t s h) strike-comes
-  program-comes (replace a b ls) e t s h = then-comes g c Spans Does Halts (span a b) _ e t (span-comes g c a b e t s h) (replace-comes ls)
-  program-comes (insert none ls) e t s h = put-comes ls e t h
-  program-comes (insert (some a) ls) e t s h = and-comes g c Ground Does Halts (goTo a) _ e t (goTo-comes g c a e t s h) (λ u. put-comes ls)
-  program-comes copy e t s h = with-line n20 _ (λ x e₁ t₁ h₁. put-comes (x .0 ∷ []) e₁ t₁ (line-grounded e₁ t₁ h₁)) e t h
-  program-comes (alter d pointing q new) e t s h = with-line n20 _ (λ x. placed q (x .0) (x .1) _ (λ i. write-comes _ _)) e t h
-  program-comes (split after q) e t s h = with-line n20 _ (λ x. placed q (x .0) (x .1) _ (λ i. cut-comes _ _)) e t h
-  program-comes (join l) e t s h =
+  program-comes isWord (find se) e t s h = looked n21 isWord se _ _ (λ e₁ t₁ h₁. goes-comes e₁ t₁ (line-grounded e₁ t₁ h₁)) lookOn-comes e t h
+  program-comes isWord (findBack se) e t s h = looked n22 isWord se _ _ (λ e₁ t₁ h₁. goes-comes e₁ t₁ (line-grounded e₁ t₁ h₁)) lookBack-comes e t h
+  program-comes isWord (findDelete se k) e t s h = looked n21 isWord se _ _ (strikeBack-comes k) lookOn-comes e t h
+  program-comes isWord (move a) e t s h = then-goes (goTo a) e t (goTo-comes g c a e t s h)
+  program-comes isWord nextLine e t s h = at-line n20 _ (λ e₁ t₁ h₁. then-goes goAhead e₁ t₁ (goAhead-comes g c e₁ t₁ h₁)) e t h
+  program-comes isWord previousLine e t s h = then-goes (go back) e t (back-comes g c e t h)
+  program-comes isWord (delete a b) e t s h = then-comes g c Spans Does Halts (span a b) _ e t (span-comes g c a b e t s h) strike-comes
+  program-comes isWord (replace a b ls) e t s h = then-comes g c Spans Does Halts (span a b) _ e t (span-comes g c a b e t s h) (replace-comes ls)
+  program-comes isWord (insert none ls) e t s h = put-comes ls e t h
+  program-comes isWord (insert (some a) ls) e t s h = and-comes g c Ground Does Halts (goTo a) _ e t (goTo-comes g c a e t s h) (λ u. put-comes ls)
+  program-comes isWord copy e t s h = with-line n20 _ (λ x e₁ t₁ h₁. put-comes (x .0 ∷ []) e₁ t₁ (line-grounded e₁ t₁ h₁)) e t h
+  program-comes isWord (alter d pointing q new) e t s h = with-line n20 _ (λ x. placed isWord q (x .0) (x .1) _ (λ i. write-comes _ _)) e t h
+  program-comes isWord (split after q) e t s h = with-line n20 _ (λ x. placed isWord q (x .0) (x .1) _ (λ i. cut-comes _ _)) e t h
+  program-comes isWord (join l) e t s h =
       with-line n20 _ (λ x e₁ t₁ h₁. then-comes g c (λ m. OnLine) Does Halts nextOr30 _ e₁ t₁ (nextOr30-comes g c e₁ t₁ h₁) (λ m. joined-comes _ _)) e t h
-  program-comes (addGlobal d l new) e t s h = unfold runs in h
-  program-comes cancelGlobals e t s h = unfold runs in h
-  program-comes (point b q) e t s h = with-line n20 _ (λ x. placed q (x .0) (x .1) _ (λ i. pointed _)) e t h
-  program-comes pointStart e t s h = at-line n20 _ (pointed 0) e t h
-  program-comes right e t s h = with-byte _ (λ x. pointed _) e t h
-  program-comes left e t s h = with-line n20 _ (λ x. tested n27 _ _ (unfold stopNumber in tt) (pointed _)) e t h
-  program-comes cutByte e t s h = with-byte _ (λ x. write-comes _ _) e t h
-  program-comes (recase up) e t s h = with-byte _ (λ x. write-comes _ _) e t h
+  program-comes isWord (addGlobal d l new) e t s h = unfold runs in h
+  program-comes isWord cancelGlobals e t s h = unfold runs in h
+  program-comes isWord (nameWords xs) e t s h = unfold runs in h
+  program-comes isWord (point b q) e t s h = with-line n20 _ (λ x. placed isWord q (x .0) (x .1) _ (λ i. pointed _)) e t h
+  program-comes isWord pointStart e t s h = at-line n20 _ (pointed 0) e t h
+  program-comes isWord right e t s h = with-byte _ (λ x. pointed _) e t h
+  program-comes isWord left e t s h = with-line n20 _ (λ x. tested n27 _ _ (unfold stopNumber in tt) (pointed _)) e t h
+  program-comes isWord cutByte e t s h = with-byte _ (λ x. write-comes _ _) e t h
+  program-comes isWord (recase up) e t s h = with-byte _ (λ x. write-comes _ _) e t h
 
 -- ---- the theorem
 
 -- for every step, also one that stops the run
 pub step-grounded : (g : Given) (op : Op) (s : RunState) (t : Tape) → HoldsState AnyGlobal Sourced s t → GroundedState s t → At GroundedOut (step g op s t)
-unfolding step perform bind
-step-grounded g op (state e c) t s h = finish-grounded g c ((runs g c (program op) e t) .0) ((runs g c (program op) e t) .1) (program-comes g c op e t (s .0) h)
+unfolding step perform bind wordsIn
+step-grounded g op (state e c) t s h = finish-grounded g c ((runs g c (program (wordsOf c) op) e t) .0) ((runs g c (program (wordsOf c) op) e t) .1) (program-comes g c (wordsOf c) op e t (s .0) h)
 
 -- with the first source line read
 abbrev pub Settled : RunState → Tape → Type 0
@@ -241,7 +245,7 @@ both (halt n s) t h k = k
 
 step-settled : (g : Given) (op : Op) (s : RunState) (t : Tape) → Settled s t → At (StepOr Settled StoppedState) (step g op s t)
 step-settled g op s t h =
-    both ((step g op s t) .0) ((step g op s t) .1) (step-keeps AnyLine AnyText AnyGlobal Sourced (read-closed 1) g op s t (read-keeps 1 (program op)) (h .0)) (step-grounded g op s t (h .0) (h .1))
+    both ((step g op s t) .0) ((step g op s t) .1) (step-keeps AnyLine AnyText AnyGlobal Sourced (read-closed 1) g op s t (λ isWord. read-keeps 1 (program isWord op)) (h .0)) (step-grounded g op s t (h .0) (h .1))
 
 pub opening-settled : (t : Tape) → Settled (state ((opening t) .0) noGlobals) ((opening t) .1)
 unfolding opening sources oldSide oldOf noGlobals

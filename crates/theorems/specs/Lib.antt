@@ -31,6 +31,7 @@ pub mod GoodGlobals
 pub mod GoodSteps
 pub mod GoodRecords
 pub mod Nesting
+pub mod Words
 pub mod ReaderSteps
 pub mod StringsSteps
 pub mod SearchSteps

@@ -1,4 +1,4 @@
--- The number of an answer tells how the run ended (document 01, "Who causes which number"): 0 done, 20 to 31 stopped, 1 to 9 refused.
+-- The number of an answer tells how the run ended (document 01, "Who causes which number"): 0 done, 20 to 31 stopped, 1 to 9 and 33 refused.
 use mathlib.Core.Path.{_≡_, refl}
 use mathlib.Core.Bool.{Bool, true, false, cond}
 use mathlib.Core.Logic.{_⊎_, inl, inr}
@@ -10,10 +10,10 @@ use lib.Dec.{leb}
 use Rattle.definitions.specs.Bytes.{Line, linesOf}
 use Rattle.definitions.specs.Table.{isTable, isScript}
 use Rattle.definitions.specs.Tape.{Tape, unread, bind}
-use Rattle.definitions.specs.Given.{Given, given, bytes, Global, Carried, carried}
+use Rattle.definitions.specs.Given.{Given, given, bytes, Global, Carried, carried, wordsOf}
 use Rattle.definitions.specs.Editor.{Ed, Stop, n20, n21, n22, n23, n24, n25, n26, n27, n28, n30, n31, stopNumber, eof, edits}
 use Rattle.definitions.specs.Reading.{Ran, gave, stopped, readTo}
-use Rattle.definitions.specs.StepProgram.{runs, RunState, state, Did, answers, changes, quits, adds, cancels, Out, on, edited, halt, oneMore, finish, perform}
+use Rattle.definitions.specs.StepProgram.{runs, RunState, state, wordsIn, Did, answers, changes, quits, adds, cancels, names, Out, on, edited, halt, oneMore, finish, perform}
 use Rattle.definitions.specs.Edit.{Op, program, step}
 use Rattle.definitions.specs.Control.{Item}
 use Rattle.definitions.specs.Script.{Script, items, refusedAt, readScript}
@@ -49,7 +49,7 @@ stop-number n30 = inr (omega arith, omega arith, λ q. omega (arith, q))
 stop-number n31 = inr (omega arith, omega arith, λ q. omega (arith, q))
 
 one-number : (c : Carried) (x : Global) (e : Ed) (t : Tape) → StepNumbered (oneMore c x e) t
-one-number (carried gs) x e t = one-comes (λ o. StepNumbered o t) gs x e (λ room. tt) (stop-number n31)
+one-number (carried gs xs) x e t = one-comes (λ o. StepNumbered o t) gs xs x e (λ room. tt) (stop-number n31)
 
 finish-number : (g : Given) (c : Carried) (r : Ran Did) (t : Tape) → At StepNumbered (finish g c r t)
 unfolding finish
@@ -58,11 +58,12 @@ finish-number g c (gave (changes xs) e) t = within-comes StepNumbered g c e (edi
 finish-number g c (gave quits e) t = inl refl
 finish-number g c (gave (adds x) e) t = one-number c x e t
 finish-number g c (gave cancels e) t = tt
+finish-number g c (gave (names xs) e) t = tt
 finish-number g c (stopped n e) t = stop-number n
 
 pub step-number : (g : Given) (op : Op) (s : RunState) (t : Tape) → At StepNumbered (step g op s t)
-unfolding step perform bind
-step-number g op (state e c) t = finish-number g c ((runs g c (program op) e t) .0) ((runs g c (program op) e t) .1)
+unfolding step perform bind wordsIn
+step-number g op (state e c) t = finish-number g c ((runs g c (program (wordsOf c) op) e t) .0) ((runs g c (program (wordsOf c) op) e t) .1)
 
 -- ---- the answer
 
@@ -70,9 +71,9 @@ step-number g op (state e c) t = finish-number g c ((runs g c (program op) e t) 
 abbrev pub EndNumber : ℕ → Type 0
 EndNumber n = (n ≡ 0) ⊎ ((20 ≤ n) × (n ≤ 31))
 
--- a number of "The script's author", "The table's keeper", or 8 and 9 of "The loader"
+-- a number of "The script's author", "The table's keeper", or 8 and 9 of "The loader", or document 02's 33
 abbrev pub RefusalNumber : ℕ → Type 0
-RefusalNumber n = (1 ≤ n) × (n ≤ 9)
+RefusalNumber n = ((1 ≤ n) × (n ≤ 9)) ⊎ (n ≡ 33)
 
 -- the number of an answer, by its case
 unfoldable pub Numbered : Answer → Type 0
@@ -122,26 +123,31 @@ script-numbered : (table : List ℕ) (budget size : ℕ) (script : List ℕ) (r 
 unfolding ranScript ranTable Numbered
 script-numbered table budget size script (items is) e =
     cond-numbered (isTable table) _ 7 0
-    (cond-numbered (leb (openingLength (linesOf table)) size) _ 9 0 (items-numbered (given (bytes size)) (length script) budget is (linesOf table)) (omega arith, omega arith))
-    (omega arith, omega arith)
+    (cond-numbered (leb (openingLength (linesOf table)) size) _ 9 0 (items-numbered (given (bytes size)) (length script) budget is (linesOf table)) (inl (omega arith, omega arith)))
+    (inl (omega arith, omega arith))
 script-numbered table budget size script (refusedAt n at) e =
-    let k : (2 ≤ n) × (n ≤ 6) = refusal-numbers script n at e in
-    (omega (arith, k .0), omega (arith, k .1))
+    by (refusal-numbers script n at e)
+  where
+    by : ((2 ≤ n) × (n ≤ 6)) ⊎ (n ≡ 33) → RefusalNumber n
+    by (inl k) = inl (omega (arith, k .0), omega (arith, k .1))
+    by (inr q) = inr q
 
--- THE LAW: refusals have the numbers 1 to 9, all other answers 0 or 20 to 31
+-- THE LAW: refusals have the numbers 1 to 9 and 33, all other answers 0 or 20 to 31
 pub answer-numbered : (table script : List ℕ) (budget work size : ℕ) → Numbered (runAnswer table script budget work size)
 unfolding runAnswer
 answer-numbered table script budget work size =
     cond-numbered (isScript script) _ 1 0
-    (cond-numbered (leb (workLength script) work) _ 8 0 (script-numbered table budget size script (readScript script) refl) (omega arith, omega arith))
-    (omega arith, omega arith)
+    (cond-numbered (leb (workLength script) work) _ 8 0 (script-numbered table budget size script (readScript script) refl) (inl (omega arith, omega arith)))
+    (inl (omega arith, omega arith))
 
 -- so the number alone says whether a run was refused
 number-accepted : (a : Answer) → Numbered a → EndNumber (answerNumber a) → IsAccepted a
 unfolding Numbered answerNumber IsAccepted
 number-accepted (answer n steps f at j) h k = tt
-number-accepted (refusal n at) h (inl q) = omega (arith, q, h .0)
-number-accepted (refusal n at) h (inr (b, d)) = omega (arith, b, h .1)
+number-accepted (refusal n at) (inl h) (inl q) = omega (arith, q, h .0)
+number-accepted (refusal n at) (inl h) (inr (b, d)) = omega (arith, b, h .1)
+number-accepted (refusal n at) (inr e) (inl q) = omega (arith, q, e)
+number-accepted (refusal n at) (inr e) (inr (b, d)) = omega (arith, d, e)
 
 pub accepted-by-number : (table script : List ℕ) (budget work size : ℕ) → EndNumber (answerNumber (runAnswer table script budget work size)) → IsAccepted (runAnswer table script budget work size)
 accepted-by-number table script budget work size h = number-accepted (runAnswer table script budget work size) (answer-numbered table script budget work size) h

@@ -18,7 +18,7 @@ use Rattle.theorems.specs.ReadTo.{as-comes}
 
 -- what holds of each global that stands
 abbrev pub CarriedOf : (Global → Type 0) → Carried → Type 0
-CarriedOf G (carried gs) = Each G gs
+CarriedOf G (carried gs xs) = Each G gs
 
 -- the globals stop with 25 only
 abbrev StopIs25 : Got Line → Type 0
@@ -36,7 +36,7 @@ passed-25 (global s put ∷ gs) l = by (ltb 255 (length (putForEach s put 0 l)))
 
 pub left-25 : (c : Carried) (l : Line) (n : Stop) → leftBy c l ≡ stop n → n ≡ n25
 unfolding leftBy
-left-25 (carried gs) l n q = rw q at (passed-25 gs l)
+left-25 (carried gs xs) l n q = rw q at (passed-25 gs l)
 
 module _ (P : Ran (Unit {0}) → Tape → Type 0) (g : Given) (c : Carried) (e : Ed) (l : Line) (ls : List Line) where
   -- what is asked where the line is changed to `new`

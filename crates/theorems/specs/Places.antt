@@ -93,8 +93,8 @@ text-placed anchor stands w k last p l (text start end) i v e =
     (omega (arith, r .0, v .0), omega (arith, r .1, v .2))
 
 -- the string begins after p bytes at least, and ends within the line
-pub place-inside : (q : Qualified) (p : ℕ) (l : Line) (i : ℕ) → p ≤ length l → placeOf q p l ≡ some i → (p ≤ i) × (i + length (stringIn q) ≤ length l)
+pub place-inside : (isWord : ℕ → Bool) (q : Qualified) (p : ℕ) (l : Line) (i : ℕ) → p ≤ length l → placeOf isWord q p l ≡ some i → (p ≤ i) × (i + length (stringIn q) ≤ length l)
 unfolding placeOf stringIn
-place-inside (qualified (qualifiers anchor k last n w u skip cols) s) p l i h e =
-    text-placed anchor (standsAt w u s l) (length s) k last p l (afterSpaces skip l (window cols p l)) i
+place-inside isWord (qualified (qualifiers anchor k last n w u skip cols) s) p l i h e =
+    text-placed anchor (standsAt isWord w u s l) (length s) k last p l (afterSpaces skip l (window cols p l)) i
     (after-in skip p l (window cols p l) (window-in cols p l h)) e

@@ -8,10 +8,10 @@ use Prim.Native.Nat.{ℕ}
 use Rattle.definitions.specs.Bytes.{Line}
 use Rattle.definitions.specs.Journal.{Record}
 use Rattle.definitions.specs.Tape.{Tape, Reads, ret, bind}
-use Rattle.definitions.specs.Given.{Given, Carried}
+use Rattle.definitions.specs.Given.{Given, Carried, wordsOf}
 use Rattle.definitions.specs.Editor.{Ed, ed, current, Stop, Got, got, stop, Move, moved}
 use Rattle.definitions.specs.Reading.{Ran, gave, stopped, onceRead, readTo}
-use Rattle.definitions.specs.StepProgram.{Program, gives, stops, looks, reads, moves, _>>=_, _>>_, onceMoved, runs, state, Did, finish, perform}
+use Rattle.definitions.specs.StepProgram.{Program, gives, stops, looks, reads, moves, _>>=_, _>>_, onceMoved, runs, state, wordsIn, Did, finish, perform}
 use Rattle.definitions.specs.Edit.{stopIf, orStop, either, go, lineIn, lineOr, Op, program, step}
 
 module _ {A B : Type 0} (g : Given) (c : Carried) (k : A → Program B) where
@@ -121,6 +121,6 @@ module _ (g : Given) (c : Carried) (x : Move) (e : Ed) (t : Tape) where
 -- ---- a whole step
 
 -- a step, once it is known what its program comes to
-pub step-of : (g : Given) (op : Op) (e : Ed) (c : Carried) (t : Tape) (x : Ran Did × Tape) → runs g c (program op) e t ≡ x → step g op (state e c) t ≡ finish g c (x .0) (x .1)
-unfolding step perform bind
+pub step-of : (g : Given) (op : Op) (e : Ed) (c : Carried) (t : Tape) (x : Ran Did × Tape) → runs g c (program (wordsOf c) op) e t ≡ x → step g op (state e c) t ≡ finish g c (x .0) (x .1)
+unfolding step perform bind wordsIn
 step-of g op e c t x h = ap (λ (y : Ran Did × Tape). finish g c (y .0) (y .1)) h

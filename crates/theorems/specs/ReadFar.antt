@@ -95,8 +95,8 @@ module _ (k : ℕ) where
 
   far-read : (s : RunState) (t : Tape) → k ≤ furthest (textOf s) t → HoldsState AnyGlobal (HasRead k) s t
   unfolding furthest textOf records
-  far-read (state (ed before after p) (carried gs)) ended h = (h, each-all AnyGlobal (λ x. tt) gs)
-  far-read (state (ed before after p) (carried gs)) (unread ls) h = (h, each-all AnyGlobal (λ x. tt) gs)
+  far-read (state (ed before after p) (carried gs xs)) ended h = (h, each-all AnyGlobal (λ x. tt) gs)
+  far-read (state (ed before after p) (carried gs xs)) (unread ls) h = (h, each-all AnyGlobal (λ x. tt) gs)
 
   read-far : (s : RunState) (t : Tape) → HoldsState AnyGlobal (HasRead k) s t → k ≤ furthest (textOf s) t
   unfolding furthest textOf records
@@ -113,7 +113,7 @@ run-further g more steps c s t = by ((run (step g) more steps c s t) .0) ((run (
     kept-read : At (AtEnd (HoldsState AnyGlobal (HasRead far))) (run (step g) more steps c s t)
     kept-read =
         run-ends (λ op. Unit {0}) (inner-all (λ op. Unit {0}) (λ op. tt)) (HoldsState AnyGlobal (HasRead far)) (λ n. HoldsState AnyGlobal (HasRead far)) (λ s′ t′ h. h) (λ s′ t′ h. h)
-        (step g) (λ op s′ t′ u. step-keeps AnyLine AnyText AnyGlobal (HasRead far) (read-closed far) g op s′ t′ (read-keeps far (program op))) more steps c s t
+        (step g) (λ op s′ t′ u. step-keeps AnyLine AnyText AnyGlobal (HasRead far) (read-closed far) g op s′ t′ (λ isWord. read-keeps far (program isWord op))) more steps c s t
         (ctl-all (λ op. Unit {0}) (λ op. tt) c) (far-read far s t (omega arith))
 
     by : (x : End) (t′ : Tape) → AtEnd (HoldsState AnyGlobal (HasRead far)) x t′ → EndOf (λ n s″ t″. far ≤ furthest (textOf s″) t″) x t′

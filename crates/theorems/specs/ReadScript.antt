@@ -1,12 +1,13 @@
 -- What every reading of a script comes to: a refusal with a number and a place of document 01, or items that are well nested and within bounds.
-use mathlib.Core.Path.{_≡_, subst}
-use mathlib.Core.Bool.{true}
+use mathlib.Core.Path.{_≡_, refl, subst}
+use mathlib.Core.Bool.{Bool, true, false, _&&_, _||_}
+use mathlib.Core.Logic.{_⊎_, inl, inr}
 use mathlib.Core.List.{List}
 use Prim.Native.Nat.{ℕ, _*_, _≤_}
 use native.Mathlib.Omega.{arith}
 use lib.ListN.{length}
-use lib.Dec.{leb}
-use borrow.Author.Tests.{leb-true}
+use lib.Dec.{eqb, leb}
+use borrow.Author.Tests.{leb-true, eqb-true}
 use Rattle.definitions.specs.Table.{isScript}
 use Rattle.definitions.specs.Control.{Item}
 use Rattle.definitions.specs.Script.{Script, items, refusedAt, readScript}
@@ -32,16 +33,21 @@ record Accepted (s : List ℕ) (all : List Item) : Type 0 where
 acceptance : {s : List ℕ} {all : List Item} → Fine s (items all) → Accepted s all
 acceptance (accepted n p l g) = record { nests = n; placed = p; few = l; good = g }
 
--- a refusal's number is 2, 3, 4, 5 or 6
-pub refusal-numbers : (s : List ℕ) (n at : ℕ) → readScript s ≡ refusedAt n at → (2 ≤ n) × (n ≤ 6)
-refusal-numbers s n at e = numbers (refusal (fine s (refusedAt n at) e) .0)
+-- a refusal's number is 2, 3, 4, 5, 6 or 33
+pub refusal-numbers : (s : List ℕ) (n at : ℕ) → readScript s ≡ refusedAt n at → ((2 ≤ n) × (n ≤ 6)) ⊎ (n ≡ 33)
+refusal-numbers s n at e = numbers (leb 2 n && leb n 6) refl (refusal (fine s (refusedAt n at) e) .0)
   where
-    numbers : isRefusal n ≡ true → (2 ≤ n) × (n ≤ 6)
-    numbers q = (leb-true 2 n (and-left (leb 2 n) (leb n 6) q), leb-true n 6 (and-right (leb 2 n) (leb n 6) q))
+    numbers : (t : Bool) → (leb 2 n && leb n 6) ≡ t → (t || eqb n 33) ≡ true → ((2 ≤ n) × (n ≤ 6)) ⊎ (n ≡ 33)
+    numbers true h q = inl (leb-true 2 n (and-left (leb 2 n) (leb n 6) h), leb-true n 6 (and-right (leb 2 n) (leb n 6) h))
+    numbers false h q = inr (eqb-true n 33 q)
 
 -- the reader's fuel and rounds are enough for every script: their want, number 0, is never the answer
 pub fuel-suffices : (s : List ℕ) (at : ℕ) → readScript s ≡ refusedAt 0 at → ⊥
-fuel-suffices s at e = omega (arith, refusal-numbers s 0 at e .0)
+fuel-suffices s at e = by (refusal-numbers s 0 at e)
+  where
+    by : ((2 ≤ 0) × (0 ≤ 6)) ⊎ (_≡_ {A = ℕ} 0 33) → ⊥
+    by (inl k) = omega (arith, k .0)
+    by (inr q) = omega (arith, q)
 
 -- a refusal's place is in the script, or at its end
 pub place-within : (s : List ℕ) (n at : ℕ) → readScript s ≡ refusedAt n at → at ≤ length s

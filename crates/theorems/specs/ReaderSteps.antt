@@ -8,12 +8,12 @@ use native.Mathlib.Omega.{arith}
 use lib.ListN.{length, drop, length-drop}
 use lib.Dec.{eqb, leb}
 use borrow.Author.Tests.{eqb-true}
-use Rattle.definitions.specs.Bytes.{isDigit, isCapital, isSmall, isLetter, upper, linesOf, isLine, allLines}
+use Rattle.definitions.specs.Bytes.{Line, isDigit, isCapital, isSmall, isLetter, upper, linesOf, isLine, allLines}
 use Rattle.definitions.specs.Table.{isScript}
 use Rattle.definitions.specs.Reader.{Cursor, cursor, Got, got, refused, andThen, placeAt, bytesLeft, nextByte, afterByte, isNext, expect, spacesAt, skipSpaces, lineEndAt, skipComment, blankAt, skipBlank, Token, token, digitsAt, digits, isDigitNext, inRange, number, lettersAt, name, afterToken, isDelimiter, stringUpTo, stringNext, advance, pastDelimiter, afterString, quoted}
 use Rattle.definitions.specs.Commands.{bytesFrom}
 use Rattle.theorems.specs.GoodItems.{isNumber}
-use Rattle.theorems.specs.Lines.{lines-tail, lines-drop, string-line, string-short}
+use Rattle.theorems.specs.Lines.{lines-tail, lines-drop, script-lines, string-line, string-short}
 
 -- ---- what is said of a cursor and of a reading
 
@@ -27,9 +27,9 @@ pub record Reached (s : List ℕ) (left : ℕ) (c : Cursor) : Type 0 where
   pub fewer : bytesLeft c < left
   pub lines : Sound s (allLines (linesOf (bytesFrom c)))
 
--- the numbers of the reader's refusals: 2 to 6
+-- the numbers of the reader's refusals: 2 to 6, and document 02's 33
 abbrev pub isRefusal : ℕ → Bool
-isRefusal n = leb 2 n && leb n 6
+isRefusal n = (leb 2 n && leb n 6) || eqb n 33
 
 -- what comes of reading a thing: the thing, of which P holds, and a cursor with fewer than `left` bytes left; or a refusal, at a place of the script
 pub data ReadsWell {A : Type 0} (P : A → Type 0) (s : List ℕ) (left : ℕ) : Got A → Type 0 where
@@ -251,3 +251,16 @@ unfolding quoted
 quoted-reads {s} {left} c h = decides (ReadsWell (λ l. Sound s (isLine l)) s left) (isDelimiter (nextByte c)) _ _
     (λ t. gets (past-string (nextByte c) (afterByte c) (after-byte c h)) (string-sound (nextByte c) (afterByte c) (after-byte c h)))
     (λ t. refuses-at refl h)
+
+abbrev LineGot : Got Line → Type 0
+LineGot (got l c) = isLine l ≡ true
+LineGot (refused n at) = Unit {0}
+
+line-got : (at : ℕ) (bs : List ℕ) → allLines (linesOf bs) ≡ true → LineGot (quoted (cursor at bs))
+unfolding quoted nextByte afterByte stringNext
+line-got at [] h = decides LineGot (isDelimiter 0) _ _ (λ t. string-line 0 [] h) (λ t. tt)
+line-got at (b ∷ bs) h = decides LineGot (isDelimiter b) _ _ (λ t. string-line b bs (lines-tail b bs h)) (λ t. tt)
+
+-- the string read at a place of a script is a line: its bytes are from 32 to 126, at most 255 of them
+pub quoted-line : (s : List ℕ) → isScript s ≡ true → (at : ℕ) (l : Line) (c : Cursor) → quoted (cursor at (drop at s)) ≡ got l c → isLine l ≡ true
+quoted-line s e at l c q = rw q at (line-got at (drop at s) (lines-drop at s (script-lines s e)))

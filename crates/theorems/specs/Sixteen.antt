@@ -6,10 +6,11 @@ use lib.ListN.{length, length-append}
 use borrow.Author.Tests.{leb-false}
 use Rattle.definitions.specs.Bytes.{Line, linesOf}
 use Rattle.definitions.specs.Tape.{Tape, unread, bind}
-use Rattle.definitions.specs.Given.{Given, given, bytes, Global, Carried, carried, noGlobals}
+use Rattle.definitions.specs.WordSet.{Named}
+use Rattle.definitions.specs.Given.{Given, given, bytes, Global, Carried, carried, noGlobals, wordsOf, withWords, withoutGlobals}
 use Rattle.definitions.specs.Editor.{Ed, edits}
 use Rattle.definitions.specs.Reading.{Ran, gave, stopped}
-use Rattle.definitions.specs.StepProgram.{runs, RunState, state, Did, answers, changes, quits, adds, cancels, oneMore, finish, perform}
+use Rattle.definitions.specs.StepProgram.{runs, RunState, state, wordsIn, Did, answers, changes, quits, adds, cancels, names, oneMore, finish, perform}
 use Rattle.definitions.specs.Edit.{Op, program, step}
 use Rattle.definitions.specs.Control.{Item}
 use Rattle.definitions.specs.Script.{Script, items, refusedAt, readScript}
@@ -21,15 +22,24 @@ use Rattle.theorems.specs.Demand3.{standingAt, standingOf, standing}
 
 -- so many globals are carried
 unfoldable pub howMany : Carried → ℕ
-howMany (carried gs) = length gs
+howMany (carried gs xs) = length gs
 
 abbrev Few : RunState → Tape → Type 0
 Few (state e c) t = howMany c ≤ 16
 
 one-few : (c : Carried) (x : Global) (e : Ed) (t : Tape) → howMany c ≤ 16 → AfterStep Few (oneMore c x e) t
 unfolding howMany
-one-few (carried gs) x e t h =
-    one-comes (λ o. AfterStep Few o t) gs x e (λ room. unfold howMany in (rw (length-append gs (x ∷ [])) (omega (arith, leb-false 16 (length gs) room)))) (unfold howMany in h)
+one-few (carried gs xs) x e t h =
+    one-comes (λ o. AfterStep Few o t) gs xs x e (λ room. unfold howMany in (rw (length-append gs (x ∷ [])) (omega (arith, leb-false 16 (length gs) room)))) (unfold howMany in h)
+
+-- CG and WORD (document 02, wishes 2 and 8)
+none-few : (c : Carried) → howMany (withoutGlobals c) ≤ 16
+unfolding howMany withoutGlobals
+none-few (carried gs xs) = omega arith
+
+words-few : (c : Carried) (xs : List Named) → howMany c ≤ 16 → howMany (withWords c xs) ≤ 16
+unfolding howMany withWords
+words-few (carried gs xs) ys h = h
 
 finish-few : (g : Given) (c : Carried) (r : Ran Did) (t : Tape) → howMany c ≤ 16 → At (AfterStep Few) (finish g c r t)
 unfolding finish
@@ -37,12 +47,13 @@ finish-few g c (gave (answers b) e) t h = h
 finish-few g c (gave (changes xs) e) t h = within-comes (AfterStep Few) g c e (edits xs e) t (λ x. h) h
 finish-few g c (gave quits e) t h = h
 finish-few g c (gave (adds x) e) t h = one-few c x e t h
-finish-few g c (gave cancels e) t h = unfold howMany noGlobals in (omega arith)
+finish-few g c (gave cancels e) t h = none-few c
+finish-few g c (gave (names xs) e) t h = words-few c xs h
 finish-few g c (stopped n e) t h = h
 
 step-few : (g : Given) (op : Op) (s : RunState) (t : Tape) → Few s t → At (AfterStep Few) (step g op s t)
-unfolding step perform bind
-step-few g op (state e c) t h = finish-few g c ((runs g c (program op) e t) .0) ((runs g c (program op) e t) .1) h
+unfolding step perform bind wordsIn
+step-few g op (state e c) t h = finish-few g c ((runs g c (program (wordsOf c) op) e t) .0) ((runs g c (program (wordsOf c) op) e t) .1) h
 
 end-few : (x : End) (t : Tape) → AtEnd Few x t → howMany (standingAt x) ≤ 16
 unfolding standingAt

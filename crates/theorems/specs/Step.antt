@@ -8,10 +8,10 @@ use Prim.Native.Nat.{ℕ}
 use Rattle.definitions.specs.Bytes.{Line}
 use Rattle.definitions.specs.Journal.{kept, oldOf, oldSide}
 use Rattle.definitions.specs.Tape.{Tape, unread, ended, restLines, Reads, bind}
-use Rattle.definitions.specs.Given.{given, bytes, boundless, Global, Carried, carried, noGlobals}
+use Rattle.definitions.specs.Given.{given, bytes, boundless, Global, Carried, carried, wordsOf, withWords, withoutGlobals}
 use Rattle.definitions.specs.Editor.{Ed, ed, records, stopNumber, Got, got, stop, Target, moved, edits}
 use Rattle.definitions.specs.Reading.{Ran, gave, stopped, onceRead, hasRoom, readTo, opening}
-use Rattle.definitions.specs.StepProgram.{Program, gives, stops, looks, reads, moves, onceMoved, runs, RunState, state, Did, answers, changes, quits, adds, cancels, Out, on, edited, halt, within, oneMore, finish, perform}
+use Rattle.definitions.specs.StepProgram.{Program, gives, stops, looks, reads, moves, onceMoved, runs, RunState, state, wordsIn, Did, answers, changes, quits, adds, cancels, names, Out, on, edited, halt, within, oneMore, finish, perform}
 use Rattle.definitions.specs.Edit.{Op, program, step}
 use Rattle.theorems.specs.ComesTo.{within-comes, one-comes}
 use Rattle.theorems.specs.Reading.{At, Local, metEof, readOnly, Faithful, never, ret-faithful, bind-faithful}
@@ -82,7 +82,7 @@ module _ (size : ℕ) (c : Carried) (e e′ : Ed) where
 -- one global more, or 31: the text is left
 one-old : (c : Carried) (x : Global) (e : Ed) → oldOut (oneMore c x e) ≡ oldEd e
 unfolding oldOut oldState
-one-old (carried gs) x e = one-comes (λ o. oldOut o ≡ oldEd e) gs x e (λ room. refl) refl
+one-old (carried gs xs) x e = one-comes (λ o. oldOut o ≡ oldEd e) gs xs x e (λ room. refl) refl
 
 finish-faithful : (size : ℕ) (c : Carried) (r : Ran Did) → Faithful (finish (given (bytes size)) c r) (finish (given boundless) c r) oldOut fullOut (oldRan r)
 unfolding finish oldOut oldState oldRan
@@ -90,7 +90,8 @@ finish-faithful size c (gave (answers b) e) = ret-faithful (on b (state e c)) ol
 finish-faithful size c (gave (changes xs) e) = within-faithful size c e (edits xs e) (edits-old xs e)
 finish-faithful size c (gave quits e) = ret-faithful (halt 0 (state e c)) oldOut fullOut (oldEd e) refl
 finish-faithful size c (gave (adds x) e) = ret-faithful (oneMore c x e) oldOut fullOut (oldEd e) (one-old c x e)
-finish-faithful size c (gave cancels e) = ret-faithful (on true (state e noGlobals)) oldOut fullOut (oldEd e) refl
+finish-faithful size c (gave cancels e) = ret-faithful (on true (state e (withoutGlobals c))) oldOut fullOut (oldEd e) refl
+finish-faithful size c (gave (names xs) e) = ret-faithful (on true (state e (withWords c xs))) oldOut fullOut (oldEd e) refl
 finish-faithful size c (stopped n e) = ret-faithful (halt (stopNumber n) (state e c)) oldOut fullOut (oldEd e) refl
 
 finish-full : (size : ℕ) (c : Carried) (r : Ran Did) (t : Tape) → fullRan r → fullOut ((finish (given (bytes size)) c r t) .0)
@@ -105,10 +106,10 @@ unfoldable pub stepFree : Op → RunState → Reads Out
 stepFree op s = step (given boundless) op s
 
 pub step-faithful : (size : ℕ) (op : Op) (s : RunState) → Faithful (step (given (bytes size)) op s) (stepFree op s) oldOut fullOut (oldState s)
-unfolding step stepFree perform oldState
+unfolding step stepFree perform wordsIn oldState
 step-faithful size op (state e c) =
-    bind-faithful (runs (given (bytes size)) c (program op) e) (runs (given boundless) c (program op) e) (finish (given (bytes size)) c) (finish (given boundless) c)
-    oldRan fullRan oldOut fullOut (oldEd e) (finish-full size c) (runs-faithful size c (program op) e) (finish-faithful size c)
+    bind-faithful (runs (given (bytes size)) c (program (wordsOf c) op) e) (runs (given boundless) c (program (wordsOf c) op) e) (finish (given (bytes size)) c) (finish (given boundless) c)
+    oldRan fullRan oldOut fullOut (oldEd e) (finish-full size c) (runs-faithful size c (program (wordsOf c) op) e) (finish-faithful size c)
 
 -- ---- the opening
 

@@ -1,19 +1,21 @@
 -- The reader of qualified strings keeps to the script, its rounds are enough, and what it reads is within bounds.
 use mathlib.Core.Path.{_≡_, refl, ap, _∙_}
-use mathlib.Core.Bool.{Bool, true, false, not, _&&_, _||_}
+use mathlib.Core.Bool.{Bool, true, false, not, _&&_, _||_, false≢true}
 use mathlib.Core.List.{List, [], _∷_}
-use Prim.Native.Nat.{ℕ, zero, suc, _≤_}
+use Prim.Native.Nat.{ℕ, zero, suc, _+_, _≤_}
 use native.Mathlib.Nat.{not-suc-le-zero}
 use native.Mathlib.Omega.{arith}
 use lib.ListN.{length}
 use lib.Dec.{eqb, leb}
 use Rattle.definitions.specs.Bytes.{Line, isDigit, isSmall, upper, isLine}
 use Rattle.definitions.specs.Matching.{Anchor, atStart, atEnd, precisely, Qualifiers, qualifiers}
-use Rattle.definitions.specs.Reader.{Cursor, got, refused, placeAt, bytesLeft, nextByte, afterByte, skipSpaces, isDelimiter, stringNext}
-use Rattle.definitions.specs.Strings.{noQualifiers, isAnchored, clashesWithL, unless, addAnchor, addCount, addL, addN, addW, addU, addS, setColumns, hasColumns, wantsBytes, QualifierByte, byteB, byteE, byteP, byteL, byteN, byteW, byteU, byteS, byteDigit, byteColumns, byteOther, letterOf, qualifierByte, added, readCount, readColumns, readQualifier, readQualifiers, isEmpty, readString, startQualifiers, qualifiedString, Pair, pair, secondString, twoStrings, plainPair, twoPlainStrings}
-use Rattle.theorems.specs.Lines.{and-left, and-right, and-both}
+use Rattle.definitions.specs.WordSet.{Names, allNames, misusedAt, namesFrom}
+use Rattle.definitions.specs.Reader.{Cursor, cursor, Got, got, refused, andThen, placeAt, bytesLeft, nextByte, afterByte, skipSpaces, isDelimiter, stringUpTo, stringNext, afterString, quoted}
+use Rattle.definitions.specs.Strings.{noQualifiers, isAnchored, clashesWithL, unless, addAnchor, addCount, addL, addN, addW, addU, addS, setColumns, hasColumns, wantsBytes, QualifierByte, byteB, byteE, byteP, byteL, byteN, byteW, byteU, byteS, byteDigit, byteColumns, byteOther, letterOf, qualifierByte, added, readCount, readColumns, readQualifier, readQualifiers, isEmpty, readString, startQualifiers, qualifiedString, Pair, pair, secondString, twoStrings, plainPair, twoPlainStrings, namesOr33, wordNames}
+use Rattle.theorems.specs.Lines.{and-left, and-right, and-both, string-short}
+use Rattle.theorems.specs.Words.{misused-inside}
 use Rattle.theorems.specs.GoodItems.{isNumber, goodColumns, goodQualifiers, goodQualified}
-use Rattle.theorems.specs.ReaderSteps.{Sound, Reached, ReadsWell, gets, refuses, refuses-at, place-short, as-far, continues, then, widen, decides, past-byte, after-byte, past-spaces, expect-reads, number-reads, IsNumber, past-string, string-sound, quoted-reads}
+use Rattle.theorems.specs.ReaderSteps.{Sound, Reached, ReadsWell, gets, refuses, refuses-at, anything, place-short, as-far, continues, then, widen, decides, along-at, past-byte, after-byte, past-spaces, expect-reads, number-reads, IsNumber, past-string, string-sound, quoted-reads}
 
 -- ---- one qualifier
 
@@ -181,3 +183,26 @@ plain-pair-reads c (b ∷ l) c₁ h g h₁ = gets (past-string (nextByte c) c₁
 pub two-plain-reads : {s : List ℕ} {left : ℕ} (c : Cursor) → Reached s left c → ReadsWell (λ x. Sound s (goodPlainPair x)) s left (twoPlainStrings c)
 unfolding twoPlainStrings
 two-plain-reads c h = then (quoted-reads (skipSpaces c) (past-spaces c h)) (λ l c₁ h₁ g. plain-pair-reads (skipSpaces c) l c₁ (past-spaces c h) g h₁)
+
+-- ---- WORD's string (document 02, wish 8)
+
+names-reads : {s : List ℕ} {left : ℕ} (at : ℕ) (l : Line) (c : Cursor) → at + length l ≤ length s → Reached s left c → ReadsWell anything s left (namesOr33 (namesFrom at 0 l) c)
+names-reads {s} {left} at l c le h = by (namesFrom at 0 l) refl
+  where
+    by : (ns : Names) → namesFrom at 0 l ≡ ns → ReadsWell anything s left (namesOr33 ns c)
+    by (allNames xs) e = unfold namesOr33 in (gets h tt)
+    by (misusedAt p) e = unfold namesOr33 in (refuses {at = p} refl (omega (arith, misused-inside at 0 l p e .1)))
+
+-- a string that begins has its place in the script
+string-reads-names : {s : List ℕ} {left : ℕ} (c : Cursor) → isDelimiter (nextByte c) ≡ true → Reached s left c
+    → ReadsWell anything s left (namesOr33 (namesFrom (suc (placeAt c)) 0 (stringNext (nextByte c) (afterByte c))) (afterString (nextByte c) (afterByte c)))
+unfolding placeAt bytesLeft nextByte afterByte isDelimiter stringNext
+string-reads-names (cursor at []) t h = absurd (false≢true t)
+string-reads-names (cursor at (b ∷ bs)) t h =
+    names-reads (suc at) (stringUpTo b bs) (afterString b (cursor (suc at) bs)) (omega (arith, string-short b bs, h .within)) (past-string b (cursor (suc at) bs) (along-at h))
+
+pub words-reads : {s : List ℕ} {left : ℕ} (c : Cursor) → Reached s left c → ReadsWell anything s left (wordNames c)
+unfolding wordNames quoted
+words-reads {s} {left} c h =
+    decides (λ (r : Got Line). ReadsWell anything s left (andThen r (λ l c₁. namesOr33 (namesFrom (suc (placeAt (skipSpaces c))) 0 l) c₁))) (isDelimiter (nextByte (skipSpaces c))) _ _
+    (λ t. unfold andThen in (string-reads-names (skipSpaces c) t (past-spaces c h))) (λ t. unfold andThen in (refuses-at refl (past-spaces c h)))
