@@ -160,29 +160,29 @@ module _ (table j : List ℕ) (st : State) where
 
 -- ---- the place of a string
 
-module _ (g : Given) (c : Carried) (q : Qualified) (t : Tape) where
-  find-eof : (b : List Record) (p : ℕ) → runs g c (placeAt q) (ed b [] p) t ≡ (stopped n20 (ed b [] p), t)
+module _ (g : Given) (c : Carried) (isWord : ℕ → Bool) (q : Qualified) (t : Tape) where
+  find-eof : (b : List Record) (p : ℕ) → runs g c (placeAt isWord q) (ed b [] p) t ≡ (stopped n20 (ed b [] p), t)
   unfolding placeAt lineOr lineIn _>>=_ runs
   find-eof b p = refl
 
-  find-line : (b : List Record) (r : Record) (a : List Record) (p : ℕ) → runs g c (placeAt q) (ed b (r ∷ a) p) t ≡ runs g c (orStop n24 (placeOf q p (current r))) (ed b (r ∷ a) p) t
+  find-line : (b : List Record) (r : Record) (a : List Record) (p : ℕ) → runs g c (placeAt isWord q) (ed b (r ∷ a) p) t ≡ runs g c (orStop n24 (placeOf isWord q p (current r))) (ed b (r ∷ a) p) t
   unfolding placeAt lineOr lineIn placeOr24 _>>=_ runs
   find-line b r a p = refl
 
 -- where the string is found at place i, a program goes on with the line, p and the place, which lies within the line
-pub record PlaceOn {A : Type 0} (g : Given) (c : Carried) (q : Qualified) (k : Line × ℕ → ℕ → Program A) (e : Ed) (t : Tape) (i : ℕ) : Type 0 where
-  pub same : runs g c (_>>=_ (lineOr n20) (λ x. _>>=_ (placeOr24 q (x .0) (x .1)) (k x))) e t ≡ runs g c (k (currentLine e, pointOf e) i) e t
+pub record PlaceOn {A : Type 0} (g : Given) (c : Carried) (isWord : ℕ → Bool) (q : Qualified) (k : Line × ℕ → ℕ → Program A) (e : Ed) (t : Tape) (i : ℕ) : Type 0 where
+  pub same : runs g c (_>>=_ (lineOr n20) (λ x. _>>=_ (placeOr24 isWord q (x .0) (x .1)) (k x))) e t ≡ runs g c (k (currentLine e, pointOf e) i) e t
   pub more : (j : List ℕ) (st : State) → Shows j st e t → st .back < length j
   pub inside : PointIn e → i + length (stringIn q) ≤ length (currentLine e)
 
-module _ {A : Type 0} (g : Given) (c : Carried) (q : Qualified) (k : Line × ℕ → ℕ → Program A) (t : Tape) where
-  place-eof : (b : List Record) (p : ℕ) → runs g c (_>>=_ (lineOr n20) (λ x. _>>=_ (placeOr24 q (x .0) (x .1)) (k x))) (ed b [] p) t ≡ (stopped n20 (ed b [] p), t)
+module _ {A : Type 0} (g : Given) (c : Carried) (isWord : ℕ → Bool) (q : Qualified) (k : Line × ℕ → ℕ → Program A) (t : Tape) where
+  place-eof : (b : List Record) (p : ℕ) → runs g c (_>>=_ (lineOr n20) (λ x. _>>=_ (placeOr24 isWord q (x .0) (x .1)) (k x))) (ed b [] p) t ≡ (stopped n20 (ed b [] p), t)
   unfolding lineOr lineIn _>>=_ runs
   place-eof b p = refl
 
   place-line : (b : List Record) (r : Record) (a : List Record) (p : ℕ)
-      → runs g c (_>>=_ (lineOr n20) (λ x. _>>=_ (placeOr24 q (x .0) (x .1)) (k x))) (ed b (r ∷ a) p) t
-      ≡ runs g c (_>>=_ (orStop n24 (placeOf q p (current r))) (k (current r, p))) (ed b (r ∷ a) p) t
+      → runs g c (_>>=_ (lineOr n20) (λ x. _>>=_ (placeOr24 isWord q (x .0) (x .1)) (k x))) (ed b (r ∷ a) p) t
+      ≡ runs g c (_>>=_ (orStop n24 (placeOf isWord q p (current r))) (k (current r, p))) (ed b (r ∷ a) p) t
   unfolding lineOr lineIn placeOr24 _>>=_ runs
   place-line b r a p = refl
 
@@ -198,44 +198,44 @@ module _ {A : Type 0} (g : Given) (c : Carried) (q : Qualified) (k : Line × ℕ
   look-no-place none x e n z = ap (λ (y : StopNumber). (stopped y e, t)) (same-stop n24 n e t z)
   look-no-place (some m) x e n z = gave-stopped m n e e t t (sym z)
 
-  pub place-on : (e : Ed) (i : ℕ) → runs g c (placeAt q) e t ≡ (gave i e, t) → PlaceOn g c q k e t i
-  place-on (ed b [] p) i z = gave-stopped i n20 (ed b [] p) (ed b [] p) t t (sym (find-eof g c q t b p) ∙ z)
+  pub place-on : (e : Ed) (i : ℕ) → runs g c (placeAt isWord q) e t ≡ (gave i e, t) → PlaceOn g c isWord q k e t i
+  place-on (ed b [] p) i z = gave-stopped i n20 (ed b [] p) (ed b [] p) t t (sym (find-eof g c isWord q t b p) ∙ z)
   place-on (ed b (r ∷ a) p) i z =
-      let f : _ = look-place (placeOf q p (current r)) (current r, p) (ed b (r ∷ a) p) i (sym (find-line g c q t b r a p) ∙ z) in
-      record { same = place-line b r a p ∙ f .0; more = shown-more b r a p t; inside = λ h. place-inside q p (current r) i h (f .1) .1 }
+      let f : _ = look-place (placeOf isWord q p (current r)) (current r, p) (ed b (r ∷ a) p) i (sym (find-line g c isWord q t b r a p) ∙ z) in
+      record { same = place-line b r a p ∙ f .0; more = shown-more b r a p t; inside = λ h. place-inside isWord q p (current r) i h (f .1) .1 }
 
   -- where it is not, it stops
-  pub place-stop : (e : Ed) (n : StopNumber) → runs g c (placeAt q) e t ≡ (stopped n e, t)
-      → runs g c (_>>=_ (lineOr n20) (λ x. _>>=_ (placeOr24 q (x .0) (x .1)) (k x))) e t ≡ (stopped n e, t)
+  pub place-stop : (e : Ed) (n : StopNumber) → runs g c (placeAt isWord q) e t ≡ (stopped n e, t)
+      → runs g c (_>>=_ (lineOr n20) (λ x. _>>=_ (placeOr24 isWord q (x .0) (x .1)) (k x))) e t ≡ (stopped n e, t)
   place-stop (ed b [] p) n z =
-      place-eof b p ∙ ap (λ (y : StopNumber). (stopped y (ed b [] p), t)) (same-stop n20 n (ed b [] p) t (sym (find-eof g c q t b p) ∙ z))
+      place-eof b p ∙ ap (λ (y : StopNumber). (stopped y (ed b [] p), t)) (same-stop n20 n (ed b [] p) t (sym (find-eof g c isWord q t b p) ∙ z))
   place-stop (ed b (r ∷ a) p) n z =
-      place-line b r a p ∙ look-no-place (placeOf q p (current r)) (current r, p) (ed b (r ∷ a) p) n (sym (find-line g c q t b r a p) ∙ z)
+      place-line b r a p ∙ look-no-place (placeOf isWord q p (current r)) (current r, p) (ed b (r ∷ a) p) n (sym (find-line g c isWord q t b r a p) ∙ z)
 
 -- ---- what `place_here` answers
 
-module _ (table j : List ℕ) (st : State) (q : Qualified) where
-  pub finds-eof : length j ≤ st .back → Finds table j st q (Nowhere 20)
+module _ (isWord : ℕ → Bool) (table j : List ℕ) (st : State) (q : Qualified) where
+  pub finds-eof : length j ≤ st .back → Finds isWord table j st q (Nowhere 20)
   unfolding PlaceIs stopNumber
-  finds-eof end (ed b [] p) c t w = (n20, refl, find-eof (lent j) c q t b p)
+  finds-eof end (ed b [] p) c t w = (n20, refl, find-eof (lent j) c isWord q t b p)
   finds-eof end (ed b (r ∷ a) p) c t w = absurd (shown-eof b r a p t (w .shows) end)
 
   module _ (more : st .back < length j) (line : List ℕ) (is : (e : Ed) (t : Tape) → Shows j st e t → TableOf table e t → line ≡ currentLine e)
-      (f : Found) (found : foundOf f ≡ placeOf q (st .p) line) where
-    place-is : (b : List Record) (r : Record) (a : List Record) (p : ℕ) (t : Tape) → Ready table j st (ed b (r ∷ a) p) t → (o : Option ℕ) → foundOf f ≡ o → placeOf q p (current r) ≡ o
+      (f : Found) (found : foundOf f ≡ placeOf isWord q (st .p) line) where
+    place-is : (b : List Record) (r : Record) (a : List Record) (p : ℕ) (t : Tape) → Ready table j st (ed b (r ∷ a) p) t → (o : Option ℕ) → foundOf f ≡ o → placeOf isWord q p (current r) ≡ o
     place-is b r a p t w o s = rw (← is (ed b (r ∷ a) p) t (w .shows) (w .old), ← (w .shows .p)) (sym found ∙ s)
 
     place-runs : (c : Carried) (b : List Record) (r : Record) (a : List Record) (p : ℕ) (t : Tape) → Ready table j st (ed b (r ∷ a) p) t → (o : Option ℕ) → foundOf f ≡ o
-        → runs (lent j) c (placeAt q) (ed b (r ∷ a) p) t ≡ runs (lent j) c (orStop n24 o) (ed b (r ∷ a) p) t
+        → runs (lent j) c (placeAt isWord q) (ed b (r ∷ a) p) t ≡ runs (lent j) c (orStop n24 o) (ed b (r ∷ a) p) t
     place-runs c b r a p t w o s =
-        find-line (lent j) c q t b r a p ∙ ap (λ (y : Option ℕ). runs (lent j) c (orStop n24 y) (ed b (r ∷ a) p) t) (place-is b r a p t w o s)
+        find-line (lent j) c isWord q t b r a p ∙ ap (λ (y : Option ℕ). runs (lent j) c (orStop n24 y) (ed b (r ∷ a) p) t) (place-is b r a p t w o s)
 
-    pub finds-none : f ≡ Nothing → Finds table j st q (Nowhere 24)
+    pub finds-none : f ≡ Nothing → Finds isWord table j st q (Nowhere 24)
     unfolding orStop runs PlaceIs stopNumber foundOf
     finds-none z (ed b [] p) c t w = absurd (shown-record b p t (w .shows) more)
     finds-none z (ed b (r ∷ a) p) c t w = (n24, refl, place-runs c b r a p t w none (rw z))
 
-    pub finds-on : (i : ℕ) → f ≡ At i → Finds table j st q (PlaceFound i)
+    pub finds-on : (i : ℕ) → f ≡ At i → Finds isWord table j st q (PlaceFound i)
     unfolding orStop runs PlaceIs foundOf
     finds-on i z (ed b [] p) c t w = absurd (shown-record b p t (w .shows) more)
     finds-on i z (ed b (r ∷ a) p) c t w = place-runs c b r a p t w (some i) (rw z)

@@ -8,13 +8,13 @@ use lib.Dec.{leb}
 use Rattle.definitions.specs.Bytes.{Line, allText}
 use Rattle.definitions.specs.Journal.{Record, kept, changed, deleted, inserted, oldOf, rewrite}
 use Rattle.definitions.specs.Tape.{Tape}
-use Rattle.definitions.specs.Given.{Carried}
+use Rattle.definitions.specs.Given.{Carried, wordsOf}
 use Rattle.definitions.specs.Editor.{Ed, isLive, n20, stopNumber}
 use Rattle.definitions.specs.Editor.{Stop as StopNumber}
 use Rattle.definitions.specs.Reading.{Ran, gave, stopped}
 use Rattle.definitions.specs.StepProgram.{Program, gives, _>>=_, runs, state, Did, perform}
 use Rattle.definitions.specs.Matching.{Qualified, qualified}
-use Rattle.definitions.specs.Edit.{Op, Change, afterIt, beforeIt, exchange, splice, altered, alteredPoint, lineOr, placeOr24, byteHere, write}
+use Rattle.definitions.specs.Edit.{Op, Change, afterIt, beforeIt, exchange, splice, altered, alteredPoint, lineOr, placeOr24, byteHere, write, step}
 use Rattle.text.specs.Lines.{part}
 use Rattle.matching.specs.Quals.{qualifiersOf}
 use Rattle.matching.specs.declared.Quals.{Quals}
@@ -67,11 +67,11 @@ byteAt = do
   (l, p) ← byteHere
   gives (getD l p 0)
 
--- the place of a string in the line's window
-unfoldable pub placeAt : Qualified → Program ℕ
-placeAt q = do
+-- the place of a string in the line's window, where the bytes of `isWord` count for W
+unfoldable pub placeAt : (ℕ → Bool) → Qualified → Program ℕ
+placeAt isWord q = do
   (l, p) ← lineOr n20
-  placeOr24 q l p
+  placeOr24 isWord q l p
 
 -- a part of a step stops with the number m, the text and the tape as they were
 abbrev pub Halts : ℕ → Ed → Tape → Ran ℕ × Tape → Type 0
@@ -92,8 +92,14 @@ abbrev pub Sights : List ℕ → List ℕ → State → Byte → Type 0
 Sights table j st r = (e : Ed) (c : Carried) (t : Tape) → ShowsOf table j st e t → ByteIs r e t (runs (lent j) c byteAt e t)
 
 -- the place of the string q is r
-abbrev pub Finds : List ℕ → List ℕ → State → Qualified → Place → Type 0
-Finds table j st q r = (e : Ed) (c : Carried) (t : Tape) → Ready table j st e t → PlaceIs r e t (runs (lent j) c (placeAt q) e t)
+abbrev pub Finds : (ℕ → Bool) → List ℕ → List ℕ → State → Qualified → Place → Type 0
+Finds isWord table j st q r = (e : Ed) (c : Carried) (t : Tape) → Ready table j st e t → PlaceIs r e t (runs (lent j) c (placeAt isWord q) e t)
+
+-- with the buffer j and its numbers st before, and the buffer k after, the function that answered r did the command, which looks for a string: it is told
+-- which bytes count for W
+abbrev pub PerformsTold : (ℕ → Bool) → List ℕ → List ℕ → State → Op → List ℕ → Moved → Type 0
+PerformsTold isWord table j st op k r =
+    (e : Ed) (c : Carried) (t : Tape) → isWord ≡ wordsOf c → Ready table j st e t → Answered k r (step (lent j) op (state e c) t)
 
 -- ---- the current line with another text
 

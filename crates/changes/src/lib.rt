@@ -9,9 +9,10 @@ ghost use lib.ListN.{length};
 ghost use Rattle.definitions.specs.Bytes.{allText, lower as «lower-of»};
 ghost use Rattle.definitions.specs.Given.{Carried};
 ghost use Rattle.definitions.specs.Edit.{Op, alteredPoint, pointBy as «point-by», cased as «cased-of»};
+ghost use Rattle.wordset.specs.Sets.{inSet};
 ghost use Rattle.editor.specs.Shows.{ShowsText, Performs, atPoint};
-ghost use Rattle.editor.specs.Current.{ShownOf, PerformsOf, IsReady, PerformsOn};
-ghost use Rattle.changes.specs.Current.{changeOf, sought, alterOf, StringsIn, HasLine, Alters};
+ghost use Rattle.editor.specs.Current.{ShownOf, PerformsOf, IsReady};
+ghost use Rattle.changes.specs.Current.{changeOf, sought, alterOf, StringsIn, PerformsTold, HasLine, Alters};
 use editor::Moved;
 use editor::State;
 use look::Byte;
@@ -77,8 +78,9 @@ pub fn point_by(after: bool, i: usize, n: usize) -> usize
     i
 }
 
-// PA (after), PB: p after or before the string.
+// PA (after), PB: p after or before the string. The bytes of the set count for W.
 pub fn point<'a>(
+    set: &[u32],
     table: &'a [u8],
     j: &'a [u8],
     st: State,
@@ -88,10 +90,10 @@ pub fn point<'a>(
     from: usize,
     to: usize,
 ) -> Moved
-    requires { ⌜ IsReady (now table) (now j) st × (from ≤ to) × (to ≤ length (now script)) ⌝ }
-    ensures { λ r. ⌜ PerformsOn (now (table .entry)) (now (j .entry)) st (Op.point after (sought q (now (script .entry)) from to)) (now (j .entry)) r ⌝ }
+    requires { ⌜ (3 ≤ length (now set)) × IsReady (now table) (now j) st × (from ≤ to) × (to ≤ length (now script)) ⌝ }
+    ensures { λ r. ⌜ PerformsTold (inSet (now (set .entry)) 0) (now (table .entry)) (now (j .entry)) st (Op.point after (sought q (now (script .entry)) from to)) (now (j .entry)) r ⌝ }
 {
-    let place = look::place_here(table, j, st, q, script, from, to);
+    let place = look::place_here(set, table, j, st, q, script, from, to);
     match place {
         Place::Nowhere(n) => Moved::Stop(n, st),
         Place::At(i) => point_to(st, point_by(after, i, to - from)),
@@ -186,8 +188,9 @@ fn alter_at(
     rewrite::splice_current(table, j, st, i, n, new, m, q)
 }
 
-// A, B, E; with pointing AP, BP, EP. kind: 0 for A, 1 for B, 2 for E.
+// A, B, E; with pointing AP, BP, EP. kind: 0 for A, 1 for B, 2 for E. The bytes of the set count for W.
 pub fn alter(
+    set: &[u32],
     table: &[u8],
     j: &mut [u8],
     st: State,
@@ -200,10 +203,10 @@ pub fn alter(
     start: usize,
     end: usize,
 ) -> Moved
-    requires { ⌜ IsReady (now table) (now j) st × StringsIn (now script) from to start end ⌝ }
-    ensures { λ r. ⌜ PerformsOn (now (table .entry)) (now (j .entry)) st (alterOf kind pointing q (now (script .entry)) from to start end) (now (j .exit)) r ⌝ }
+    requires { ⌜ (3 ≤ length (now set)) × IsReady (now table) (now j) st × StringsIn (now script) from to start end ⌝ }
+    ensures { λ r. ⌜ PerformsTold (inSet (now (set .entry)) 0) (now (table .entry)) (now (j .entry)) st (alterOf kind pointing q (now (script .entry)) from to start end) (now (j .exit)) r ⌝ }
 {
-    let place = look::place_here(table, j, st, q, script, from, to);
+    let place = look::place_here(set, table, j, st, q, script, from, to);
     match place {
         Place::Nowhere(n) => Moved::Stop(n, st),
         Place::At(i) => {

@@ -3,6 +3,7 @@ ghost use mathlib.Core.Path.{_≡_};
 ghost use Prim.Native.Nat.{_+_, _≤_};
 ghost use lib.ListN.{length, take};
 ghost use Rattle.definitions.specs.Edit.{splice};
+ghost use Rattle.wordset.specs.Sets.{inSet};
 ghost use Rattle.editor.specs.Current.{ShownOf, IsReady};
 ghost use Rattle.changes.specs.Current.{written, sought, HasLine, Sights, Finds, Splices};
 use editor::State;
@@ -38,8 +39,10 @@ pub fn byte_here<'a>(table: &'a [u8], j: &'a [u8], st: State) -> Byte
     Byte::Here(line[p])
 }
 
-// The place in the current line's window of the string that the script has from `from` to `to`. 20: EOF is current. 24: no match.
+// The place in the current line's window of the string that the script has from `from` to `to`, where the bytes of the set count for W. 20: EOF is
+// current. 24: no match.
 pub fn place_here<'a>(
+    set: &[u32],
     table: &'a [u8],
     j: &'a [u8],
     st: State,
@@ -48,15 +51,15 @@ pub fn place_here<'a>(
     from: usize,
     to: usize,
 ) -> Place
-    requires { ⌜ IsReady (now table) (now j) st × (from ≤ to) × (to ≤ length (now script)) ⌝ }
-    ensures { λ r. ⌜ Finds (now (table .entry)) (now (j .entry)) st (sought q (now (script .entry)) from to) r ⌝ }
+    requires { ⌜ (3 ≤ length (now set)) × IsReady (now table) (now j) st × (from ≤ to) × (to ≤ length (now script)) ⌝ }
+    ensures { λ r. ⌜ Finds (inSet (now (set .entry)) 0) (now (table .entry)) (now (j .entry)) st (sought q (now (script .entry)) from to) r ⌝ }
 {
     let at = st.back;
     if at >= j.len() {
         return Place::Nowhere(20);
     }
     let line = editor::current::current_line(table, j, st);
-    let found = matching::find(line, st.p, q, &script[from..to]);
+    let found = matching::find(set, line, st.p, q, &script[from..to]);
     match found {
         Found::At(i) => Place::At(i),
         Found::Nothing => Place::Nowhere(24),

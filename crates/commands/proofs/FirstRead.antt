@@ -8,11 +8,11 @@ use lib.Dec.{ltb}
 use mathlib.Core.Bool.{Bool, true, false}
 use Rattle.definitions.specs.Bytes.{Line}
 use Rattle.definitions.specs.Tape.{Tape, restLines}
-use Rattle.definitions.specs.Given.{Given, Carried, noGlobals, given, bytes}
+use Rattle.definitions.specs.Given.{Given, Carried, noGlobals, given, bytes, wordsOf}
 use Rattle.definitions.specs.Editor.{Ed, afterOf, firstLive, n20, n25, n30, stopNumber, Target, Through, strikeNext, retext}
 use Rattle.definitions.specs.Editor.{Edit as Editing}
 use Rattle.definitions.specs.Reading.{Ran, gave}
-use Rattle.definitions.specs.StepProgram.{Program, gives, _>>=_, _>>_, runs, state, Did, changes, perform}
+use Rattle.definitions.specs.StepProgram.{Program, gives, _>>=_, _>>_, runs, state, wordsIn, Did, changes, perform}
 use Rattle.definitions.specs.Edit.{Op, stopIf, orStop, see, readPast, goTo, lineOr, nextOr30, writeJoined, span, program, step}
 use Rattle.theorems.specs.OldSide.{oldEd, journal-old}
 use Rattle.theorems.specs.ReadTo.{oldRan}
@@ -101,16 +101,16 @@ module _ (s : Line) where
       next none = unfold orStop Still in tt
       next (some l) = unfold orStop Still in tt
 
-  join-calm : Calm (program (Op.join s))
+  join-calm : (isWord : ℕ → Bool) → Calm (program isWord (Op.join s))
   unfolding program writeJoined _>>_ Calm
-  join-calm =
+  join-calm isWord =
       calm-then (lineOr n20) (λ y. _>>=_ nextOr30 (λ m. writeJoined (y .0 ++ (s ++ m)) (y .1)))
       (λ y. calm-then nextOr30 (λ m. writeJoined (y .0 ++ (s ++ m)) (y .1)) (λ m. calm-then (stopIf n25 (ltb 255 (length (y .0 ++ (s ++ m))))) (λ v. gives (changes (retext (y .0 ++ (s ++ m)) (y .1) ∷ strikeNext ∷ []))) (λ v. tt)))
 
   -- where a line is current, the next live line is read
-  join-runs : (g : Given) (c : Carried) (e : Ed) (t : Tape) → HasLine e → runs g c (program (Op.join s)) e t ≡ runs g c (_>>=_ (readPast 1) (joinRest (currentLine e, pointOf e))) e t
+  join-runs : (isWord : ℕ → Bool) (g : Given) (c : Carried) (e : Ed) (t : Tape) → HasLine e → runs g c (program isWord (Op.join s)) e t ≡ runs g c (_>>=_ (readPast 1) (joinRest (currentLine e, pointOf e))) e t
   unfolding program joinRest nextOr30 _>>_
-  join-runs g c e t h =
+  join-runs isWord g c e t h =
       let l : Line = currentLine e in
       let p : ℕ = pointOf e in
       line-runs g c n20 (λ y. _>>=_ nextOr30 (λ m. writeJoined (y .0 ++ (s ++ m)) (y .1))) e t h
@@ -119,17 +119,17 @@ module _ (s : Line) where
   module _ {table j : List ℕ} {st : State} (c : Carried) (e : Ed) (t : Tape) (h : ShowsOf table j st e t) where
     -- EOF is current
     pub join-eof : length j ≤ st .back → Answered j (Stop 20 st) (step (lent j) (Op.join s) (state e c) t)
-    unfolding step program stopNumber
+    unfolding step wordsIn program stopNumber
     join-eof end = perform-no-line (lent j) c n20 (λ y. _>>=_ nextOr30 (λ m. writeJoined (y .0 ++ (s ++ m)) (y .1))) e t (h .shows) 20 refl end
 
     module _ (more : st .back < length j) (i : List ℕ) {m : Moved} {s′ : State} (w : Came i m (runs (lent j) c (readPast 1) e t)) where
       -- the next live line cannot be read
       pub join-unread : {n : ℕ} → m ≡ Stop n s′ → Answered i m (step (lent j) (Op.join s) (state e c) t)
-      unfolding step
-      join-unread {n} q = rw q (perform-stop (lent j) c (program (Op.join s)) e t i n s′ (halts (rw q at w)))
+      unfolding step wordsIn
+      join-unread {n} q = rw q (perform-stop (lent j) c (program (wordsOf c) (Op.join s)) e t i n s′ (halts (rw q at w)))
         where
-          halts : Came i (Stop n s′) (runs (lent j) c (readPast 1) e t) → Came i (Stop n s′) (runs (lent j) c (program (Op.join s)) e t)
-          halts v = rw (join-runs (lent j) c e t (line-here e t (h .shows) more)) (then-stop (lent j) c (readPast 1) (joinRest (currentLine e, pointOf e)) e t i n s′ v)
+          halts : Came i (Stop n s′) (runs (lent j) c (readPast 1) e t) → Came i (Stop n s′) (runs (lent j) c (program (wordsOf c) (Op.join s)) e t)
+          halts v = rw (join-runs (wordsOf c) (lent j) c e t (line-here e t (h .shows) more)) (then-stop (lent j) c (readPast 1) (joinRest (currentLine e, pointOf e)) e t i n s′ v)
 
       -- the text is shown that it came to, of the same table
       pub join-shown : m ≡ On s′ → ShownOf table i s′
@@ -140,17 +140,17 @@ module _ (s : Line) where
 
       -- it is read: the rest is as where no global stands
       pub join-read : (k : List ℕ) (r : Moved) → m ≡ On s′ → length i ≡ length j → Joins table i s′ s k r → Answered k r (step (lent j) (Op.join s) (state e c) t)
-      unfolding step
+      unfolding step wordsIn
       join-read k r q long plain = by (went (runs (lent j) c (readPast 1) e t) (rw q at w))
         where
-          same : (x : Ed) (u : Tape) → runs (lent j) c (readPast 1) e t ≡ (gave tt x, u) → runs (lent j) c (program (Op.join s)) e t ≡ runs (lent j) noGlobals (program (Op.join s)) x u
+          same : (x : Ed) (u : Tape) → runs (lent j) c (readPast 1) e t ≡ (gave tt x, u) → runs (lent j) c (program (wordsOf c) (Op.join s)) e t ≡ runs (lent j) noGlobals (program (wordsOf c) (Op.join s)) x u
           same x u z =
               let has : HasLine e = line-here e t (h .shows) more in
               let a : Added e t x u = past-added (lent j) c 1 e t z in
-              join-runs (lent j) c e t has ∙ ahead-first (lent j) c e t has z noGlobals (joinRest (currentLine e, pointOf e)) (rest-still (currentLine e, pointOf e))
-              ∙ ap (λ (y : Line × ℕ). runs (lent j) noGlobals (_>>=_ (readPast 1) (joinRest y)) x u) (sym (line-same a has)) ∙ sym (join-runs (lent j) noGlobals x u (line-stays a has))
+              join-runs (wordsOf c) (lent j) c e t has ∙ ahead-first (lent j) c e t has z noGlobals (joinRest (currentLine e, pointOf e)) (rest-still (currentLine e, pointOf e))
+              ∙ ap (λ (y : Line × ℕ). runs (lent j) noGlobals (_>>=_ (readPast 1) (joinRest y)) x u) (sym (line-same a has)) ∙ sym (join-runs (wordsOf c) (lent j) noGlobals x u (line-stays a has))
 
-          by : Went i s′ (runs (lent j) c (readPast 1) e t) → Answered k r (perform (lent j) (program (Op.join s)) (state e c) t)
+          by : Went i s′ (runs (lent j) c (readPast 1) e t) → Answered k r (perform (lent j) (program (wordsOf c) (Op.join s)) (state e c) t)
           by v =
-              answers-first (lent j) c (program (Op.join s)) join-calm e t (v .text) (v .tape) k r (same (v .text) (v .tape) (v .is))
-              (unfold step in (rw (lent-same j i long) at (plain (v .text) (v .tape) (record { shows = v .shows; old = part-table j c (readPast 1) e t (v .text) (v .tape) (h .old) (v .is) }))))
+              answers-first (lent j) c (program (wordsOf c) (Op.join s)) (join-calm (wordsOf c)) e t (v .text) (v .tape) k r (same (v .text) (v .tape) (v .is))
+              (unfold step wordsIn program in (rw (lent-same j i long) at (plain (v .text) (v .tape) (record { shows = v .shows; old = part-table j c (readPast 1) e t (v .text) (v .tape) (h .old) (v .is) }))))

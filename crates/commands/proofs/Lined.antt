@@ -14,7 +14,7 @@ use Rattle.definitions.specs.StepProgram.{state}
 use Rattle.definitions.specs.Edit.{Op, step}
 use Rattle.theorems.specs.GoodItems.{goodThrough}
 use Rattle.strings.proofs.Lines.{script-short}
-use Rattle.items.specs.Kinds.{pairShape, fourShape, shapeOf, moveKind, deleteKind, joinKind, replaceKind}
+use Rattle.items.specs.Kinds.{pairShape, fourShape, shapeOf, moveKind, deleteKind, joinKind, replaceKind, wordSetKind}
 use Rattle.items.specs.Words.{kindAt, numberAt, partOf, StringIn}
 use Rattle.items.specs.Arguments.{stringStart, stringLength, spanFrom, spanThrough}
 use Rattle.items.specs.Simple.{CommandAt}
@@ -54,16 +54,16 @@ module _ (s w : List ℕ) (k kind : ℕ) (is : kind ≡ kindAt w k) where
           rw (from-is, n-is, word-is) (string-inside x short, ap isLine (string-is x short) ∙ good)
 
   -- R and I: their words, and the lines
-  pub four-in : shapeOf kind ≡ fourShape → SomeCommand s w k → (k + 3 < length w) × Insertable s (getD w (k + 2) 0) (getD w (k + 3) 0)
+  pub four-in : shapeOf kind ≡ fourShape → (kind ≡ wordSetKind → ⊥) → SomeCommand s w k → (k + 3 < length w) × Insertable s (getD w (k + 2) 0) (getD w (k + 3) 0)
   unfolding formOf Means
-  four-in shape (op, h) = on (eqb kind replaceKind) refl
+  four-in shape named (op, h) = on (eqb kind replaceKind) refl
     where
       on : (t : Bool) → eqb kind replaceKind ≡ t → (k + 3 < length w) × Insertable s (getD w (k + 2) 0) (getD w (k + 3) 0)
       on true e = lines (meant-as s w k kind is replacing (ap formOf (eqb-true kind replaceKind e)) op h)
         where
           lines : Means s w k (h .end) kind replacing op → (k + 3 < length w) × Insertable s (getD w (k + 2) 0) (getD w (k + 3) 0)
           lines (a, b, ls, q, ends, span, x, good) = (omega (arith, ends, h .inside), insertable (h .form) x good)
-      on false e = lines (four-left s w k (h .end) kind op shape (eqb-false kind replaceKind e) (meant s w k kind is op h))
+      on false e = lines (four-left s w k (h .end) kind op shape (eqb-false kind replaceKind e) named (meant s w k kind is op h))
         where
           lines : Means s w k (h .end) kind lining op → (k + 3 < length w) × Insertable s (getD w (k + 2) 0) (getD w (k + 3) 0)
           lines (a, ls, q, ends, code, some, x, good) = (omega (arith, ends, h .inside), insertable (h .form) x good)
@@ -123,10 +123,10 @@ module _ (s w : List ℕ) (k kind : ℕ) (is : kind ≡ kindAt w k) where
           on : Means s w k (h .end) kind replacing op → Answered b r (step (lent j) op (state e c) t)
           on (a, b′, ls, q, ends, span, x, good) = rw (q, x .is) (rw (starts-as a b′ span, goes-as a b′ span) at (does e c t stand shows))
 
-    pub lines-as : shapeOf kind ≡ fourShape → (kind ≡ replaceKind → ⊥)
+    pub lines-as : shapeOf kind ≡ fourShape → (kind ≡ wordSetKind → ⊥) → (kind ≡ replaceKind → ⊥)
         → PerformsBy s w j st (Op.insert (spotOf (getD w (k + 1) 0)) (linesOf (partOf s (getD w (k + 2) 0) (getD w (k + 3) 0)))) b r → PerformsLines s w k j st b r
     unfolding Means
-    lines-as shape other does op e c t h stand shows = on (four-left s w k (h .end) kind op shape other (meant s w k kind is op h))
+    lines-as shape named other does op e c t h stand shows = on (four-left s w k (h .end) kind op shape other named (meant s w k kind is op h))
       where
         on : Means s w k (h .end) kind lining op → Answered b r (step (lent j) op (state e c) t)
         on (a, ls, q, ends, code, some, x, good) =

@@ -1,5 +1,5 @@
 -- The commands with a qualified string: what their words are read as. Assumes nothing.
-use mathlib.Core.Path.{_≡_, refl, sym, _∙_}
+use mathlib.Core.Path.{_≡_, refl, sym, ap, _∙_}
 use mathlib.Core.Logic.{inl, inr}
 use mathlib.Core.Bool.{Bool, true, false, false≢true}
 use mathlib.Core.List.{List}
@@ -9,11 +9,13 @@ use lib.Dec.{leb, eqb}
 use lib.ListN.{length, getD}
 use Rattle.definitions.specs.Bytes.{Line, allText, isLine}
 use Rattle.definitions.specs.Matching.{Qualified, qualified}
+use Rattle.definitions.specs.Given.{Carried, wordsOf}
 use Rattle.definitions.specs.StepProgram.{state}
 use Rattle.definitions.specs.Edit.{Change, afterIt, beforeIt, exchange, Op, step}
 use Rattle.theorems.specs.Lines.{and-left}
 use Rattle.strings.proofs.Lines.{script-short}
 use Rattle.text.specs.Lines.{part}
+use Rattle.wordset.specs.Sets.{inSet}
 use Rattle.matching.specs.declared.Quals.{Quals}
 use Rattle.matching.specs.Quals.{qualifiersOf}
 use Rattle.matching.specs.Words.{Readable, startAt, lengthAt, endAt, qualsAt, stringAt}
@@ -24,11 +26,12 @@ use Rattle.items.specs.Arguments.{stringStart, stringLength}
 use Rattle.items.specs.Simple.{CommandAt}
 use Rattle.items.proofs.Meaning.{changing, aiming, formOf, Means, meant-as}
 use Rattle.items.proofs.Strings.{string-inside, string-is}
+use Rattle.globals.specs.Standing.{setIn, Standing}
+use Rattle.globals.proofs.Standing.{set-counts}
 use Rattle.editor.specs.declared.State.{State}
 use Rattle.editor.specs.declared.Moved.{Moved}
 use Rattle.editor.specs.Shows.{lent, Answered}
-use Rattle.editor.specs.Current.{PerformsOn}
-use Rattle.changes.specs.Current.{changeOf, sought, StringsIn}
+use Rattle.changes.specs.Current.{changeOf, sought, StringsIn, PerformsTold}
 use Rattle.commands.specs.Performing.{splitBy, changeBy, pointingBy, SomeCommand, PerformsAt}
 
 less : (a b : ℕ) → (a + b) - a ≡ b
@@ -134,28 +137,32 @@ module _ (s w : List ℕ) (k kind : ℕ) (is : kind ≡ kindAt w k) where
         on : Means s w k (h .end) kind changing op → Second s start (start + len)
         on (c, p, q, new, n, e, kinds, ends, reads, x, good) = rw (start-is, len-is, at-is ∙ reads .ends) (second s (getD w n 0) new (script-short s (h .form)) x good)
 
-  module _ (table j : List ℕ) (st : State) (b : List ℕ) (r : Moved) (qs : Quals) (from len : ℕ) (q-is : qs ≡ qualsAt w (k + 1)) (from-is : from ≡ startAt w (k + 1)) (len-is : len ≡ lengthAt w (k + 1)) where
-    pub points-as : shapeOf kind ≡ stringShape → splitBy kind ≡ false → PerformsOn table j st (Op.point (eqb kind pointAfterKind) (sought qs s from (from + len))) b r
+  module _ (table j : List ℕ) (st : State) (b : List ℕ) (r : Moved) (qs : Quals) (from len : ℕ) (q-is : qs ≡ qualsAt w (k + 1)) (from-is : from ≡ startAt w (k + 1)) (len-is : len ≡ lengthAt w (k + 1)) (set : List ℕ) (set-is : set ≡ setIn w) where
+    -- the bytes of the word set count
+    counts : (c : Carried) → Standing s w c → inSet set 0 ≡ wordsOf c
+    counts c stands = ap (λ (v : List ℕ). inSet v 0) set-is ∙ set-counts s w c stands
+
+    pub points-as : shapeOf kind ≡ stringShape → splitBy kind ≡ false → PerformsTold (inSet set 0) table j st (Op.point (eqb kind pointAfterKind) (sought qs s from (from + len))) b r
         → PerformsAt s table w k j st b r
     unfolding Means
     points-as shape other does op e c t h stands ready = on (aims-mean shape op h)
       where
         on : Means s w k (h .end) kind aiming op → Answered b r (step (lent j) op (state e c) t)
-        on (after, q, reads, inl (o, kinds)) = rw o (rw (point-back kind after kinds .1, string-read s w (k + 1) (h .end) q reads qs from len q-is from-is len-is) at (does e c t ready))
+        on (after, q, reads, inl (o, kinds)) = rw o (rw (point-back kind after kinds .1, string-read s w (k + 1) (h .end) q reads qs from len q-is from-is len-is) at (does e c t (counts c stands) ready))
         on (after, q, reads, inr (o, kinds)) = absurd (false≢true (sym other ∙ split-back kind after kinds .0))
 
-    pub splits-as : shapeOf kind ≡ stringShape → splitBy kind ≡ true → PerformsOn table j st (Op.split (eqb kind splitAfterKind) (sought qs s from (from + len))) b r
+    pub splits-as : shapeOf kind ≡ stringShape → splitBy kind ≡ true → PerformsTold (inSet set 0) table j st (Op.split (eqb kind splitAfterKind) (sought qs s from (from + len))) b r
         → PerformsAt s table w k j st b r
     unfolding Means
     splits-as shape this does op e c t h stands ready = on (aims-mean shape op h)
       where
         on : Means s w k (h .end) kind aiming op → Answered b r (step (lent j) op (state e c) t)
         on (after, q, reads, inl (o, kinds)) = absurd (false≢true (sym (point-back kind after kinds .0) ∙ this))
-        on (after, q, reads, inr (o, kinds)) = rw o (rw (split-back kind after kinds .1, string-read s w (k + 1) (h .end) q reads qs from len q-is from-is len-is) at (does e c t ready))
+        on (after, q, reads, inr (o, kinds)) = rw o (rw (split-back kind after kinds .1, string-read s w (k + 1) (h .end) q reads qs from len q-is from-is len-is) at (does e c t (counts c stands) ready))
 
     pub alters-as : shapeOf kind ≡ changeShape → isGlobal kind ≡ false → (at : ℕ) → at ≡ endAt w (k + 1) → (start : ℕ) → start ≡ stringStart (getD w at 0) → (more : ℕ) → more ≡ stringLength (getD w at 0)
         → (change : ℕ) → change ≡ changeBy kind → (points : Bool) → points ≡ pointingBy kind
-        → PerformsOn table j st (Op.alter (changeOf change) points (sought qs s from (from + len)) (part start (start + more) s)) b r → PerformsAt s table w k j st b r
+        → PerformsTold (inSet set 0) table j st (Op.alter (changeOf change) points (sought qs s from (from + len)) (part start (start + more) s)) b r → PerformsAt s table w k j st b r
     unfolding Means
     alters-as shape other at at-is start start-is more more-is change change-is points points-is does op e c t h stands ready = on (alters-mean shape other op h)
       where
@@ -164,4 +171,4 @@ module _ (s w : List ℕ) (k kind : ℕ) (is : kind ≡ kindAt w k) where
 
         on : Means s w k (h .end) kind changing op → Answered b r (step (lent j) op (state e c) t)
         on (ch, p, q, new, n, o, kinds, ends, reads, x, good) =
-            rw o (rw (change-is, points-is, change-back kind ch p kinds .0, change-back kind ch p kinds .1, string-read s w (k + 1) n q reads qs from len q-is from-is len-is, new-is new n (reads .ends) x) at (does e c t ready))
+            rw o (rw (change-is, points-is, change-back kind ch p kinds .0, change-back kind ch p kinds .1, string-read s w (k + 1) n q reads qs from len q-is from-is len-is, new-is new n (reads .ends) x) at (does e c t (counts c stands) ready))

@@ -11,7 +11,7 @@ use Rattle.definitions.specs.Given.{Carried}
 use Rattle.definitions.specs.Editor.{Ed}
 use Rattle.definitions.specs.StepProgram.{state}
 use Rattle.definitions.specs.Edit.{Op, step}
-use Rattle.items.specs.Kinds.{splitAfterKind, splitBeforeKind, afterKind, afterPointingKind, beforeKind, beforePointingKind, exchangePointingKind, cancelKind, isGlobal}
+use Rattle.items.specs.Kinds.{splitAfterKind, splitBeforeKind, afterKind, afterPointingKind, beforeKind, beforePointingKind, exchangePointingKind, cancelKind, wordSetKind, isGlobal}
 use Rattle.items.specs.Words.{kindAt, partOf}
 use Rattle.items.specs.Simple.{CommandAt}
 use Rattle.editor.specs.declared.State.{State}
@@ -40,9 +40,9 @@ pointingBy kind = eqb kind afterPointingKind || (eqb kind beforePointingKind || 
 abbrev pub SomeCommand : List ℕ → List ℕ → ℕ → Type 0
 SomeCommand script w k = (op : Op) × CommandAt script w k op
 
--- it is none of GE, GA, GB and CG, which change what stands
-abbrev pub LeavesGlobals : List ℕ → ℕ → Type 0
-LeavesGlobals w k = (isGlobal (kindAt w k) ≡ false) × (kindAt w k ≡ cancelKind → ⊥)
+-- it is none of GE, GA, GB, CG and WORD, which change what is carried
+abbrev pub LeavesCarried : List ℕ → ℕ → Type 0
+LeavesCarried w k = (isGlobal (kindAt w k) ≡ false) × (kindAt w k ≡ cancelKind → ⊥) × (kindAt w k ≡ wordSetKind → ⊥)
 
 -- with the buffer j and its numbers st before, and the buffer j′ after, the function that answered r performed the command at k, whatever globals stand
 abbrev pub PerformsAt : List ℕ → List ℕ → List ℕ → ℕ → List ℕ → State → List ℕ → Moved → Type 0

@@ -6,7 +6,7 @@ mod qualified;
 
 ghost use Rattle.editor.specs.Current.{IsReady};
 ghost use Rattle.reading.specs.Carrying.{SomeStand};
-ghost use Rattle.commands.specs.Performing.{SomeCommand, LeavesGlobals, PerformsAt};
+ghost use Rattle.commands.specs.Performing.{SomeCommand, LeavesCarried, PerformsAt};
 use editor::Moved;
 use editor::State;
 use items::heads::kind_of;
@@ -16,9 +16,9 @@ use items::kinds::PAIRS;
 use items::kinds::STRINGS;
 use items::kinds::WORDS;
 
-// The simple command whose words stand at k, whatever globals stand; GE, GA, GB and CG are performed elsewhere, for they change what stands.
+// The simple command whose words stand at k, whatever is carried; GE, GA, GB, CG and WORD are performed elsewhere, for they change what is carried.
 pub fn perform(script: &[u8], table: &[u8], w: &[u32], k: usize, j: &mut [u8], st: State) -> Moved
-    requires { ⌜ SomeCommand (now script) (now w) k × SomeStand (now script) (now w) × LeavesGlobals (now w) k × IsReady (now table) (now j) st ⌝ }
+    requires { ⌜ SomeCommand (now script) (now w) k × SomeStand (now script) (now w) × LeavesCarried (now w) k × IsReady (now table) (now j) st ⌝ }
     ensures { λ r. ⌜ PerformsAt (now (script .entry)) (now (table .entry)) (now (w .entry)) k (now (j .entry)) st (now (j .exit)) r ⌝ }
 {
     let kind = kind_of(w, k);

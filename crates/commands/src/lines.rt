@@ -1,6 +1,6 @@
 // The commands with lines, or a string: M, D, IS, CL; R, I.
 ghost use mathlib.Core.Path.{_≡_};
-ghost use Rattle.items.specs.Kinds.{pairShape, fourShape, shapeOf};
+ghost use Rattle.items.specs.Kinds.{pairShape, fourShape, shapeOf, wordSetKind};
 ghost use Rattle.items.specs.Words.{kindAt};
 ghost use Rattle.editor.specs.Shows.{ShowsText};
 ghost use Rattle.editor.specs.Current.{IsReady};
@@ -73,7 +73,7 @@ pub fn of_four_words(
     j: &mut [u8],
     st: State,
 ) -> Moved
-    requires { ⌜ SomeCommand (now script) (now w) k × SomeStand (now script) (now w) × ShowsText (now j) st × (kind ≡ kindAt (now w) k) × (shapeOf kind ≡ fourShape) ⌝ }
+    requires { ⌜ SomeCommand (now script) (now w) k × SomeStand (now script) (now w) × ShowsText (now j) st × (kind ≡ kindAt (now w) k) × (shapeOf kind ≡ fourShape) × (kind ≡ wordSetKind → ⊥) ⌝ }
     ensures { λ r. ⌜ PerformsLines (now (script .entry)) (now (w .entry)) k (now (j .entry)) st (now (j .exit)) r ⌝ }
 {
     let word = w[k + 1];

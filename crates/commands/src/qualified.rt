@@ -4,9 +4,11 @@ ghost use mathlib.Core.Bool.{false};
 ghost use Rattle.items.specs.Kinds.{stringShape, changeShape, shapeOf, isGlobal};
 ghost use Rattle.items.specs.Words.{kindAt};
 ghost use Rattle.editor.specs.Current.{IsReady};
+ghost use Rattle.reading.specs.Carrying.{SomeStand};
 ghost use Rattle.commands.specs.Performing.{splitBy, changeBy, pointingBy, SomeCommand, PerformsAt};
 use editor::Moved;
 use editor::State;
+use globals::word_set;
 use items::arguments::string_length;
 use items::arguments::string_start;
 use items::kinds::AFTER;
@@ -43,17 +45,18 @@ pub fn aims(
     j: &mut [u8],
     st: State,
 ) -> Moved
-    requires { ⌜ SomeCommand (now script) (now w) k × IsReady (now table) (now j) st × (kind ≡ kindAt (now w) k) × (shapeOf kind ≡ stringShape) ⌝ }
+    requires { ⌜ SomeCommand (now script) (now w) k × SomeStand (now script) (now w) × IsReady (now table) (now j) st × (kind ≡ kindAt (now w) k) × (shapeOf kind ≡ stringShape) ⌝ }
     ensures { λ r. ⌜ PerformsAt (now (script .entry)) (now (table .entry)) (now (w .entry)) k (now (j .entry)) st (now (j .exit)) r ⌝ }
 {
     let at = k + 1;
     let q = quals_at(w, at);
     let from = start_at(w, at);
     let to = from + length_at(w, at);
+    let set = word_set(w);
     if is_split(kind) {
-        return splits::split(table, j, st, kind == SPLIT_AFTER, q, script, from, to);
+        return splits::split(set, table, j, st, kind == SPLIT_AFTER, q, script, from, to);
     }
-    changes::point(table, j, st, kind == POINT_AFTER, q, script, from, to)
+    changes::point(set, table, j, st, kind == POINT_AFTER, q, script, from, to)
 }
 
 // What a change of this kind does.
@@ -90,7 +93,7 @@ pub fn alters(
     j: &mut [u8],
     st: State,
 ) -> Moved
-    requires { ⌜ SomeCommand (now script) (now w) k × IsReady (now table) (now j) st × (kind ≡ kindAt (now w) k) × (shapeOf kind ≡ changeShape) × (isGlobal kind ≡ false) ⌝ }
+    requires { ⌜ SomeCommand (now script) (now w) k × SomeStand (now script) (now w) × IsReady (now table) (now j) st × (kind ≡ kindAt (now w) k) × (shapeOf kind ≡ changeShape) × (isGlobal kind ≡ false) ⌝ }
     ensures { λ r. ⌜ PerformsAt (now (script .entry)) (now (table .entry)) (now (w .entry)) k (now (j .entry)) st (now (j .exit)) r ⌝ }
 {
     let at = k + 1;
@@ -101,6 +104,7 @@ pub fn alters(
     let start = string_start(word);
     let end = start + string_length(word);
     changes::alter(
+        word_set(w),
         table,
         j,
         st,

@@ -11,12 +11,12 @@ use borrow.Author.Tests.{leb-false}
 use Rattle.definitions.specs.Bytes.{Line, eqLine}
 use Rattle.definitions.specs.Journal.{Record, kept, changed, deleted, inserted, change, rewrite, erase}
 use Rattle.definitions.specs.Tape.{Tape, unread, ended, ret, bind}
-use Rattle.definitions.specs.Given.{Given, Global, Carried, carried}
+use Rattle.definitions.specs.Given.{Given, Global, Carried, carried, wordsOf}
 use Rattle.definitions.specs.Editor.{Ed, ed, beforeOf, afterOf, records, journal, sources, current, isLive, hasLive, firstLive, Stop, n20, n21, n22, n23, n24, n25, n26, n27, n28, n30, n31, stopNumber, Got, got, stop, land, goBack, locate}
 use Rattle.definitions.specs.Editor.{Target, here, line, eof, Through, alone, upTo, toEof, Move, ahead, back, to, pointTo, moved, strike, strikeBack, strikeNext, put, retext, struck, struckBack, putBefore, edit, edits}
 use Rattle.definitions.specs.Reading.{Ran, gave, stopped, seen, hasRoom, readChanged, readAs, readLine}
 use Rattle.definitions.specs.Globals.{leftBy}
-use Rattle.definitions.specs.StepProgram.{Program, gives, stops, _>>=_, _>>_, runs, state, textOf, Did, answers, changes, quits, adds, cancels, Out, on, halt, oneMore, finish, perform}
+use Rattle.definitions.specs.StepProgram.{Program, gives, stops, _>>=_, _>>_, runs, state, textOf, wordsIn, Did, answers, changes, quits, adds, cancels, names, Out, on, halt, oneMore, finish, perform}
 use Rattle.definitions.specs.Matching.{Qualified, placeOf, stringIn}
 use Rattle.definitions.specs.Search.{Search, holds}
 use Rattle.definitions.specs.Edit.{Op, Change, afterIt, beforeIt, exchange, stopIf, orStop, either, see, go, goesOn, readUpTo, readPast, goAhead, goTo, lineIn, lineOr, isAtEof, lookOn, lookBack, splice, altered, alteredPoint, pointBy, cased, recased, placeOr24, write, cutAfter, nextOr30, writeJoined, countThrough, reach, span, program, step}
@@ -308,15 +308,16 @@ Done (changes xs) e t = PointIn (edits xs e)
 Done quits e t = Unit {0}
 Done (adds x) e t = PointAt e t
 Done cancels e t = PointAt e t
+Done (names xs) e t = PointAt e t
 
 abbrev OutIn : Out → Tape → Type 0
 OutIn o t = PointOut o
 
 more-in : (c : Carried) (x : Global) (e : Ed) (t : Tape) → PointAt e t → PointOut (oneMore c x e)
 unfolding oneMore textOf
-more-in (carried gs) x e t h = by (leb 16 (length gs))
+more-in (carried gs xs) x e t h = by (leb 16 (length gs))
   where
-    by : (b : Bool) → PointOut (cond b (halt (stopNumber n31) (state e (carried gs))) (on true (state e (carried (gs ++ (x ∷ []))))))
+    by : (b : Bool) → PointOut (cond b (halt (stopNumber n31) (state e (carried gs xs))) (on true (state e (carried (gs ++ (x ∷ [])) xs))))
     by true = tt
     by false = point-in e t h
 
@@ -327,6 +328,7 @@ finish-in g c (gave (changes xs) e) t h = within-comes OutIn g c e (edits xs e) 
 finish-in g c (gave quits e) t h = tt
 finish-in g c (gave (adds x) e) t h = more-in c x e t h
 finish-in g c (gave cancels e) t h = point-in e t h
+finish-in g c (gave (names xs) e) t h = point-in e t h
 finish-in g c (stopped n e) t h = tt
 
 module _ (g : Given) (c : Carried) where
@@ -356,8 +358,8 @@ module _ (g : Given) (c : Carried) where
   unfolding lookBack
   look-back-step = part-and (go back) _ (back-part g c) (on-step false)
 
-  looked : (n : Stop) (se : Search) (m k : Program Did) → Step m → Step k → Step (_>>=_ (lineOr n) (λ x. either (holds se (x .1) (x .0)) m k))
-  looked n se m k f i = part-then (lineOr n) _ (line-part g c n) (λ x e t h. either-comes g c Done Any (holds se (x .1) (x .0)) m k e t (f e t h) (i e t h))
+  looked : (isWord : ℕ → Bool) (n : Stop) (se : Search) (m k : Program Did) → Step m → Step k → Step (_>>=_ (lineOr n) (λ x. either (holds isWord se (x .1) (x .0)) m k))
+  looked isWord n se m k f i = part-then (lineOr n) _ (line-part g c n) (λ x e t h. either-comes g c Done Any (holds isWord se (x .1) (x .0)) m k e t (f e t h) (i e t h))
 
   put-step : (ls : List Line) → Step (gives (changes (put ls ∷ [])))
   unfolding runs edits
@@ -395,10 +397,10 @@ module _ (g : Given) (c : Carried) where
     some-step none k f = tt
     some-step (some i) k f = f i refl
 
-    place-step : (q : Qualified) (k : ℕ → Program Did) → ((i : ℕ) → p ≤ i → i + length (stringIn q) ≤ length (current r) → ComesTo g c Done Any (k i) (ed b (r ∷ a) p) t)
-        → ComesTo g c Done Any (_>>=_ (placeOr24 q (current r) p) k) (ed b (r ∷ a) p) t
+    place-step : (isWord : ℕ → Bool) (q : Qualified) (k : ℕ → Program Did) → ((i : ℕ) → p ≤ i → i + length (stringIn q) ≤ length (current r) → ComesTo g c Done Any (k i) (ed b (r ∷ a) p) t)
+        → ComesTo g c Done Any (_>>=_ (placeOr24 isWord q (current r) p) k) (ed b (r ∷ a) p) t
     unfolding placeOr24
-    place-step q k f = some-step (placeOf q p (current r)) k (λ i is. f i (place-inside q p (current r) i (h .1) is .0) (place-inside q p (current r) i (h .1) is .1))
+    place-step isWord q k f = some-step (placeOf isWord q p (current r)) k (λ i is. f i (place-inside isWord q p (current r) i (h .1) is .0) (place-inside isWord q p (current r) i (h .1) is .1))
 
   -- CL: the joined text is no shorter than the current line was
   joined-step : (l : Line) (q : ℕ) → q ≤ length l → Step (writeJoined l q)
@@ -416,61 +418,62 @@ module _ (g : Given) (c : Carried) where
 
   -- ---- every command
 
-  program-in : (op : Op) → Step (program op)
+  program-in : (isWord : ℕ → Bool) (op : Op) → Step (program isWord op)
   unfolding program
-  program-in Op.onlyStep e t h = goes-step e t h
-  program-in Op.quit e t h = unfold runs in tt
-  program-in (Op.test x) e t h = part-then _ _ (see-part g c _) (λ b. on-step b) e t h
-  program-in Op.begin e t h = part-and (lineOr n21) _ (line-part g c n21) goes-step e t h
-  program-in Op.beginBack e t h =
+  program-in isWord Op.onlyStep e t h = goes-step e t h
+  program-in isWord Op.quit e t h = unfold runs in tt
+  program-in isWord (Op.test x) e t h = part-then _ _ (see-part g c _) (λ b. on-step b) e t h
+  program-in isWord Op.begin e t h = part-and (lineOr n21) _ (line-part g c n21) goes-step e t h
+  program-in isWord Op.beginBack e t h =
       part-then (see isAtEof) _ (see-part g c isAtEof)
       (λ x. part-and (either x (go back) (gives tt)) goesOn (λ e t h. either-comes g c Keeps Any x (go back) (gives tt) e t (back-part g c e t h) (gives-part g c tt e t h)) goes-step) e t h
-  program-in (Op.find se) e t h = looked n21 se _ _ goes-step look-on-step e t h
-  program-in (Op.findBack se) e t h = looked n22 se _ _ goes-step look-back-step e t h
-  program-in (Op.findDelete se k) e t h = looked n21 se _ _ (strike-back-step k) look-on-step e t h
-  program-in (Op.move a) e t h = part-and (goTo a) _ (to-part g c a) goes-step e t h
-  program-in Op.nextLine e t h = part-and (lineOr n20) _ (line-part g c n20) (part-and goAhead _ (ahead-part g c) goes-step) e t h
-  program-in Op.previousLine e t h = part-and (go back) _ (back-part g c) goes-step e t h
-  program-in (Op.delete a b) e t h = part-then (span a b) _ (span-part g c a b) strike-step e t h
-  program-in (Op.replace a b ls) e t h = part-then (span a b) _ (span-part g c a b) (replace-step ls) e t h
-  program-in (Op.insert none ls) e t h = put-step ls e t h
-  program-in (Op.insert (some a) ls) e t h = part-and (goTo a) _ (to-part g c a) (put-step ls) e t h
-  program-in Op.copy e t h = part-then (lineOr n20) _ (line-part g c n20) (λ x. put-step (x .0 ∷ [])) e t h
-  program-in (Op.alter d pointing q new) (ed b [] p) t h = line-comes g c Done Any n20 _ (ed b [] p) t tt
-  program-in (Op.alter d pointing q new) (ed b (r ∷ a) p) t h =
+  program-in isWord (Op.find se) e t h = looked isWord n21 se _ _ goes-step look-on-step e t h
+  program-in isWord (Op.findBack se) e t h = looked isWord n22 se _ _ goes-step look-back-step e t h
+  program-in isWord (Op.findDelete se k) e t h = looked isWord n21 se _ _ (strike-back-step k) look-on-step e t h
+  program-in isWord (Op.move a) e t h = part-and (goTo a) _ (to-part g c a) goes-step e t h
+  program-in isWord Op.nextLine e t h = part-and (lineOr n20) _ (line-part g c n20) (part-and goAhead _ (ahead-part g c) goes-step) e t h
+  program-in isWord Op.previousLine e t h = part-and (go back) _ (back-part g c) goes-step e t h
+  program-in isWord (Op.delete a b) e t h = part-then (span a b) _ (span-part g c a b) strike-step e t h
+  program-in isWord (Op.replace a b ls) e t h = part-then (span a b) _ (span-part g c a b) (replace-step ls) e t h
+  program-in isWord (Op.insert none ls) e t h = put-step ls e t h
+  program-in isWord (Op.insert (some a) ls) e t h = part-and (goTo a) _ (to-part g c a) (put-step ls) e t h
+  program-in isWord Op.copy e t h = part-then (lineOr n20) _ (line-part g c n20) (λ x. put-step (x .0 ∷ [])) e t h
+  program-in isWord (Op.alter d pointing q new) (ed b [] p) t h = line-comes g c Done Any n20 _ (ed b [] p) t tt
+  program-in isWord (Op.alter d pointing q new) (ed b (r ∷ a) p) t h =
       line-comes g c Done Any n20 _ (ed b (r ∷ a) p) t
-      (place-step b r a p t h q _ (λ i x y. write-step b r a p t h _ _ (altered-in d pointing (current r) p i (length (stringIn q)) new x y)))
-  program-in (Op.split after q) (ed b [] p) t h = line-comes g c Done Any n20 _ (ed b [] p) t tt
-  program-in (Op.split after q) (ed b (r ∷ a) p) t h =
-      line-comes g c Done Any n20 _ (ed b (r ∷ a) p) t (place-step b r a p t h q _ (λ i x y. cut-step b r a p t h _))
-  program-in (Op.join s) (ed b [] p) t h = line-comes g c Done Any n20 _ (ed b [] p) t tt
-  program-in (Op.join s) (ed b (r ∷ a) p) t h =
+      (place-step b r a p t h isWord q _ (λ i x y. write-step b r a p t h _ _ (altered-in d pointing (current r) p i (length (stringIn q)) new x y)))
+  program-in isWord (Op.split after q) (ed b [] p) t h = line-comes g c Done Any n20 _ (ed b [] p) t tt
+  program-in isWord (Op.split after q) (ed b (r ∷ a) p) t h =
+      line-comes g c Done Any n20 _ (ed b (r ∷ a) p) t (place-step b r a p t h isWord q _ (λ i x y. cut-step b r a p t h _))
+  program-in isWord (Op.join s) (ed b [] p) t h = line-comes g c Done Any n20 _ (ed b [] p) t tt
+  program-in isWord (Op.join s) (ed b (r ∷ a) p) t h =
       line-comes g c Done Any n20 _ (ed b (r ∷ a) p) t
       (part-then nextOr30 _ (next-part g c) (λ m. joined-step (current r ++ (s ++ m)) p (omega (arith, length-append (current r) (s ++ m), h .1))) (ed b (r ∷ a) p) t h)
-  program-in (Op.addGlobal d s new) e t h = unfold runs in h
-  program-in Op.cancelGlobals e t h = unfold runs in h
-  program-in (Op.point after q) (ed b [] p) t h = line-comes g c Done Any n20 _ (ed b [] p) t tt
-  program-in (Op.point after q) (ed b (r ∷ a) p) t h =
+  program-in isWord (Op.addGlobal d s new) e t h = unfold runs in h
+  program-in isWord Op.cancelGlobals e t h = unfold runs in h
+  program-in isWord (Op.nameWords xs) e t h = unfold runs in h
+  program-in isWord (Op.point after q) (ed b [] p) t h = line-comes g c Done Any n20 _ (ed b [] p) t tt
+  program-in isWord (Op.point after q) (ed b (r ∷ a) p) t h =
       line-comes g c Done Any n20 _ (ed b (r ∷ a) p) t
-      (place-step b r a p t h q _ (λ i x y. point-step b r a p t h _ (point-by-in after i (length (stringIn q)) (length (current r)) y)))
-  program-in Op.pointStart e t h = start-step e t h
-  program-in Op.right (ed b [] p) t h = byte-comes g c Done Any _ (ed b [] p) t tt tt
-  program-in Op.right (ed b (r ∷ a) p) t h = byte-comes g c Done Any _ (ed b (r ∷ a) p) t tt (λ x. point-step b r a p t h (suc p) (leb-false (length (current r)) p x))
-  program-in Op.left (ed b [] p) t h = line-comes g c Done Any n20 _ (ed b [] p) t tt
-  program-in Op.left (ed b (r ∷ a) p) t h =
+      (place-step b r a p t h isWord q _ (λ i x y. point-step b r a p t h _ (point-by-in after i (length (stringIn q)) (length (current r)) y)))
+  program-in isWord Op.pointStart e t h = start-step e t h
+  program-in isWord Op.right (ed b [] p) t h = byte-comes g c Done Any _ (ed b [] p) t tt tt
+  program-in isWord Op.right (ed b (r ∷ a) p) t h = byte-comes g c Done Any _ (ed b (r ∷ a) p) t tt (λ x. point-step b r a p t h (suc p) (leb-false (length (current r)) p x))
+  program-in isWord Op.left (ed b [] p) t h = line-comes g c Done Any n20 _ (ed b [] p) t tt
+  program-in isWord Op.left (ed b (r ∷ a) p) t h =
       line-comes g c Done Any n20 _ (ed b (r ∷ a) p) t
       (test-comes g c Done Any n27 (eqb p 0) _ (ed b (r ∷ a) p) t (λ x. tt) (λ x. point-step b r a p t h (p - 1) (omega (arith, h .1))))
-  program-in Op.cutByte (ed b [] p) t h = byte-comes g c Done Any _ (ed b [] p) t tt tt
-  program-in Op.cutByte (ed b (r ∷ a) p) t h =
+  program-in isWord Op.cutByte (ed b [] p) t h = byte-comes g c Done Any _ (ed b [] p) t tt tt
+  program-in isWord Op.cutByte (ed b (r ∷ a) p) t h =
       byte-comes g c Done Any _ (ed b (r ∷ a) p) t tt
       (λ x. let l : p < length (current r) = leb-false (length (current r)) p x in
       write-step b r a p t h (splice (current r) p 1 []) p (omega (arith, splice-length (current r) p 1 [] (omega arith))))
-  program-in (Op.recase up) (ed b [] p) t h = byte-comes g c Done Any _ (ed b [] p) t tt tt
-  program-in (Op.recase up) (ed b (r ∷ a) p) t h =
+  program-in isWord (Op.recase up) (ed b [] p) t h = byte-comes g c Done Any _ (ed b [] p) t tt tt
+  program-in isWord (Op.recase up) (ed b (r ∷ a) p) t h =
       byte-comes g c Done Any _ (ed b (r ∷ a) p) t tt
       (λ x. write-step b r a p t h (recased up (current r) p) (suc p) (recased-in up (current r) p (leb-false (length (current r)) p x)))
 
 -- THE LAW: every step keeps p within the current line
 pub keeps-point : (g : Given) (op : Op) (e : Ed) (c : Carried) (t : Tape) → GroundedAt (afterOf e) t → PointIn e → PointOut ((step g op (state e c) t) .0)
-unfolding step perform bind
-keeps-point g op e c t k h = finish-in g c ((runs g c (program op) e t) .0) ((runs g c (program op) e t) .1) (program-in g c op e t (point-at e t k h))
+unfolding step wordsIn perform bind
+keeps-point g op e c t k h = finish-in g c ((runs g c (program (wordsOf c) op) e t) .0) ((runs g c (program (wordsOf c) op) e t) .1) (program-in g c (wordsOf c) op e t (point-at e t k h))

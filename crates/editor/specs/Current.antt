@@ -74,7 +74,3 @@ PerformsOf table j st op k r = (e : Ed) (c : Carried) (t : Tape) → ShowsOf tab
 -- it shows some text, and p is within the current line
 abbrev pub IsReady : List ℕ → List ℕ → State → Type 0
 IsReady table j st = (e : Ed) × (t : Tape) × Ready table j st e t
-
--- as `PerformsOf`, where p is within the current line
-abbrev pub PerformsOn : List ℕ → List ℕ → State → Op → List ℕ → Moved → Type 0
-PerformsOn table j st op k r = (e : Ed) (c : Carried) (t : Tape) → Ready table j st e t → Answered k r (step (lent j) op (state e c) t)

@@ -9,6 +9,7 @@ use native.Mathlib.Omega.{arith}
 use lib.ListN.{length, drop, getD, length-drop}
 use lib.Seq.{drop-cons, drop-drop}
 use lib.Dec.{eqb}
+use Rattle.definitions.specs.WordSet.{isWordByte}
 use Rattle.definitions.specs.Matching.{folded, standsFirst, isApart, standsAt, occurrence, located, counted, places, placeFrom, placeIn, window, afterSpaces, qualified, placeOf}
 use Rattle.definitions.specs.Strings.{noQualifiers}
 use Rattle.definitions.specs.Globals.{putForEach}
@@ -32,7 +33,7 @@ stands-length (x ∷ s) (b ∷ l) e =
     let h = stands-length s l (and-right (eqb (folded false x) (folded false b)) (standsFirst false s l) e) in
     omega (arith, h)
 
-stands-plainly : (s l : List ℕ) (i : ℕ) (t : Bool) → standsFirst false s (drop i l) ≡ t → standsAt false false s l i ≡ t
+stands-plainly : (s l : List ℕ) (i : ℕ) (t : Bool) → standsFirst false s (drop i l) ≡ t → standsAt (isWordByte []) false false s l i ≡ t
 unfolding standsAt isApart
 stands-plainly s l i true e = rw e
 stands-plainly s l i false e = rw e
@@ -116,31 +117,31 @@ module _ (s put : List ℕ) where
 
     module _ (p : ℕ) (in-line : p ≤ length l) where
       abbrev from-p : ℕ → ℕ → Option ℕ
-      from-p left j = located (λ j. p + j) (occurrence (λ j. standsAt false false s l (p + j)) (length s) 0 0 left j)
+      from-p left j = located (λ j. p + j) (occurrence (λ j. standsAt (isWordByte []) false false s l (p + j)) (length s) 0 0 left j)
 
       goes : (left j : ℕ) → p + j ≤ length l → left ≡ suc (length l) - (p + j + length s) → Goes (from-p left j) (p + j)
       unfolding located
-      goes zero j k e = rw (no-place (λ j. standsAt false false s l (p + j)) (length s) 0 0 j) (past (p + j) k (omega (arith, e)))
+      goes zero j k e = rw (no-place (λ j. standsAt (isWordByte []) false false s l (p + j)) (length s) 0 0 j) (past (p + j) k (omega (arith, e)))
       goes (suc left) j k e = by (standsFirst false s (drop (p + j) l)) refl (λ h x. goes left (suc j) h x)
         where
           by : (t : Bool) → standsFirst false s (drop (p + j) l) ≡ t
               → (p + suc j ≤ length l → left ≡ suc (length l) - (p + suc j + length s) → Goes (from-p left (suc j)) (p + suc j)) → Goes (from-p (suc left) j) (p + j)
-          by true x go = rw (found-here (λ j. standsAt false false s l (p + j)) (length s) left j (stands-plainly s l (p + j) true x)) (here (p + j) x k)
+          by true x go = rw (found-here (λ j. standsAt (isWordByte []) false false s l (p + j)) (length s) left j (stands-plainly s l (p + j) true x)) (here (p + j) x k)
           by false x go =
-              rw (not-here (λ j. standsAt false false s l (p + j)) (length s) 0 left j (stands-plainly s l (p + j) false x))
+              rw (not-here (λ j. standsAt (isWordByte []) false false s l (p + j)) (length s) 0 left j (stands-plainly s l (p + j) false x))
               (later (from-p left (suc j)) (p + j) (omega (arith, e)) x (subst (Goes (from-p left (suc j))) (add-suc p j) (go (omega (arith, e)) (omega (arith, e)))))
 
-      plain-place : placeOf (qualified noQualifiers s) p l ≡ from-p (suc (length l - p) - length s) 0
+      plain-place : placeOf (isWordByte []) (qualified noQualifiers s) p l ≡ from-p (suc (length l - p) - length s) 0
       unfolding placeOf noQualifiers afterSpaces window placeIn counted places placeFrom located
       plain-place = refl
 
-      next-goes : Goes (placeOf (qualified noQualifiers s) p l) p
+      next-goes : Goes (placeOf (isWordByte []) (qualified noQualifiers s) p l) p
       next-goes = rw plain-place (subst (Goes (from-p (suc (length l - p) - length s) 0)) (add-zero p) (goes (suc (length l - p) - length s) 0 (omega arith) (omega arith)))
 
       -- it occurs, and where; or it does not
       pub occurs : nextPlace s l p < length l → Next l p (nextPlace s l p)
       unfolding Goes placeOr
-      occurs = by (placeOf (qualified noQualifiers s) p l) next-goes
+      occurs = by (placeOf (isWordByte []) (qualified noQualifiers s) p l) next-goes
         where
           by : (o : Option ℕ) → Goes o p → placeOr (length l) o < length l → Next l p (placeOr (length l) o)
           by none g h = absurd (omega (arith, h))
@@ -148,16 +149,21 @@ module _ (s put : List ℕ) where
 
       pub nowhere : (nextPlace s l p < length l → ⊥) → putForEach s put 0 (drop p l) ≡ drop p l
       unfolding Goes placeOr
-      nowhere = by (placeOf (qualified noQualifiers s) p l) next-goes
+      nowhere = by (placeOf (isWordByte []) (qualified noQualifiers s) p l) next-goes
         where
           by : (o : Option ℕ) → Goes o p → (placeOr (length l) o < length l → ⊥) → putForEach s put 0 (drop p l) ≡ drop p l
           by none g h = g
           by (some a) g h = absurd (h (omega (arith, g .fits)))
 
+-- without W it does not matter which bytes count for it
+any-word : (isWord : ℕ → Bool) (s l : List ℕ) (p : ℕ) → placeOf isWord (qualified noQualifiers s) p l ≡ placeOf (isWordByte []) (qualified noQualifiers s) p l
+unfolding placeOf noQualifiers standsAt isApart
+any-word isWord s l p = refl
+
 -- what `find` gives without qualifiers
-module _ (s l : List ℕ) (p : ℕ) (r : Found) (q : Quals) (none : q ≡ plain) (e : foundOf r ≡ placeOf (qualified (qualifiersOf q) s) p l) where
-  plainly : foundOf r ≡ placeOf (qualified noQualifiers s) p l
-  plainly = rw (← plain-none, ← none) e
+module _ (isWord : ℕ → Bool) (s l : List ℕ) (p : ℕ) (r : Found) (q : Quals) (none : q ≡ plain) (e : foundOf r ≡ placeOf isWord (qualified (qualifiersOf q) s) p l) where
+  plainly : foundOf r ≡ placeOf (isWordByte []) (qualified noQualifiers s) p l
+  plainly = rw (← any-word isWord s l p, ← plain-none, ← none) e
 
   pub is-at : (i : ℕ) → r ≡ At i → i ≡ nextPlace s l p
   unfolding foundOf placeOr

@@ -8,6 +8,7 @@ use native.Mathlib.Omega.{arith}
 use lib.ListN.{length, take, getD}
 use lib.Dec.{ltb}
 use Rattle.definitions.specs.Bytes.{Line}
+use Rattle.definitions.specs.WordSet.{Named}
 use Rattle.definitions.specs.Given.{Global, global, Carried, carried}
 use Rattle.definitions.specs.Editor.{n25, Got, got, stop}
 use Rattle.definitions.specs.Globals.{putForEach, passedThrough, leftBy}
@@ -50,22 +51,22 @@ pub record Left (s w l line : List ℕ) (len i end : ℕ) (gs : List Global) : T
 pub record Acted (s w l line : List ℕ) (len i : ℕ) : Type 0 where
   pub few : len ≤ 255
   pub at-most : i ≤ most
-  pub so : (end : ℕ) (gs : List Global) → StandingBelow s w end (carried gs) → Left s w l line len i end gs
+  pub so : (end : ℕ) (gs : List Global) (xs : List Named) → StandingBelow s w end (carried gs xs) → Left s w l line len i end gs
 
 pub none-acted : (s w line : List ℕ) (n : ℕ) → n ≤ 255 → Acted s w (take n line) line n 0
 unfolding StandingBelow
 none-acted s w line n few = record {
   few = few;
   at-most = omega arith;
-  so = λ end gs h. record { rest = gs; stand = subst (λ (i : ℕ). StandingAt s w end i most gs) (sym (add-zero (length w - reserve))) (h .1); same = refl };
+  so = λ end gs xs h. record { rest = gs; stand = subst (λ (i : ℕ). StandingAt s w end i most gs) (sym (add-zero (length w - reserve))) (h .1); same = refl };
 }
 
 module _ (s w l line : List ℕ) (len i : ℕ) (a : Acted s w l line len i) where
   -- no global is left
   ended : ((end : ℕ) (rest : List Global) → StandingAt s w end (length w - reserve + i) (most - i) rest → rest ≡ []) → PassesAll s w l (Text len) line
   unfolding leftBy passedThrough LeftAs
-  ended none (carried gs) h =
-      let x = a .so (h .end) gs (h .below) in
+  ended none (carried gs xs) h =
+      let x = a .so (h .end) gs xs (h .below) in
       subst (LeftAs (Text len) line) (sym (x .same ∙ ap (λ (gs : List Global). passedThrough gs (take len line)) (none (h .end) (x .rest) (x .stand)))) (a .few, refl)
 
   no-word : (end i n : ℕ) (gs : List Global) → getD w i 0 ≡ 0 → StandingAt s w end i n gs → gs ≡ []
@@ -107,15 +108,15 @@ module _ (s w l line : List ℕ) (len i : ℕ) (a : Acted s w l line len i) wher
 
     pub its-global : (c : Carried) → Standing s w c → MakesGlobal s w (getD w (length w - reserve + i) 0 - 1)
     unfolding StandingBelow
-    its-global (carried gs) h =
-        let y = another (h .end) gs (a .so (h .end) gs (h .below)) in
+    its-global (carried gs xs) h =
+        let y = another (h .end) gs (a .so (h .end) gs xs (h .below)) in
         let room = h .below .0 in
         record { end = h .end; x = y .x; at = y .at; inside = omega (arith, room) }
 
     module _ (r : Passed) (line′ : List ℕ) (act : PassesOne s w (getD w (length w - reserve + i) 0 - 1) (take len line) r line′) where
-      left-so : (end : ℕ) (gs : List Global) (h : StandingBelow s w end (carried gs)) (y : Another end gs) → LeftAs r line′ (passedThrough (y .x ∷ []) (take len line))
+      left-so : (end : ℕ) (gs : List Global) (xs : List Named) (h : StandingBelow s w end (carried gs xs)) (y : Another end gs) → LeftAs r line′ (passedThrough (y .x ∷ []) (take len line))
       unfolding StandingBelow
-      left-so end gs h y =
+      left-so end gs xs h y =
           let room = h .0 in
           act end (y .x) (y .at) (omega (arith, room))
 
@@ -123,33 +124,33 @@ module _ (s w l line : List ℕ) (len i : ℕ) (a : Acted s w l line len i) wher
       acts m e few = record {
         few = few;
         at-most = omega (arith, more);
-        so = λ end gs h. on end gs h (another end gs (a .so end gs h));
+        so = λ end gs xs h. on end gs xs h (another end gs (a .so end gs xs h));
       }
         where
-          on : (end : ℕ) (gs : List Global) → StandingBelow s w end (carried gs) → Another end gs → Left s w l line′ m (i + 1) end gs
-          on end gs h y =
+          on : (end : ℕ) (gs : List Global) (xs : List Named) → StandingBelow s w end (carried gs xs) → Another end gs → Left s w l line′ m (i + 1) end gs
+          on end gs xs h y =
               let j : suc (length w - reserve + i) ≡ length w - reserve + (i + 1) = omega arith in
               record {
                 rest = y .rest;
                 stand = subst (λ (j : ℕ). StandingAt s w end j (most - (i + 1)) (y .rest)) j (y .stand);
-                same = y .same ∙ one-then (y .x) (y .rest) (take len line) m line′ (subst (λ (r : Passed). LeftAs r line′ (passedThrough (y .x ∷ []) (take len line))) e (left-so end gs h y));
+                same = y .same ∙ one-then (y .x) (y .rest) (take len line) m line′ (subst (λ (r : Passed). LeftAs r line′ (passedThrough (y .x ∷ []) (take len line))) e (left-so end gs xs h y));
               }
 
       pub act-long : r ≡ Long → PassesAll s w l Long line′
       unfolding leftBy LeftAs
-      act-long e (carried gs) h =
-          let y = another (h .end) gs (a .so (h .end) gs (h .below)) in
-          let z = one-long (y .x) (y .rest) (take len line) line′ (subst (λ (r : Passed). LeftAs r line′ (passedThrough (y .x ∷ []) (take len line))) e (left-so (h .end) gs (h .below) y)) in
+      act-long e (carried gs xs) h =
+          let y = another (h .end) gs (a .so (h .end) gs xs (h .below)) in
+          let z = one-long (y .x) (y .rest) (take len line) line′ (subst (λ (r : Passed). LeftAs r line′ (passedThrough (y .x ∷ []) (take len line))) e (left-so (h .end) gs xs (h .below) y)) in
           subst (LeftAs Long line′) (sym (y .same ∙ z)) refl
 
       pub act-few : (m : ℕ) → r ≡ Text m → ((c : Carried) × Standing s w c) → m ≤ 255
-      act-few m e (carried gs, h) =
-          let y = another (h .end) gs (a .so (h .end) gs (h .below)) in
-          left-few (passedThrough (y .x ∷ []) (take len line)) m line′ (subst (λ (r : Passed). LeftAs r line′ (passedThrough (y .x ∷ []) (take len line))) e (left-so (h .end) gs (h .below) y))
+      act-few m e (carried gs xs, h) =
+          let y = another (h .end) gs (a .so (h .end) gs xs (h .below)) in
+          left-few (passedThrough (y .x ∷ []) (take len line)) m line′ (subst (λ (r : Passed). LeftAs r line′ (passedThrough (y .x ∷ []) (take len line))) e (left-so (h .end) gs xs (h .below) y))
 
 -- the reserve is there
 pub has-reserve : (s w : List ℕ) → ((c : Carried) × Standing s w c) → reserve ≤ length w
 unfolding StandingBelow
-has-reserve s w (carried gs, h) =
+has-reserve s w (carried gs xs, h) =
     let room = h .below .0 in
     omega (arith, room)

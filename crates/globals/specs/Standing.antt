@@ -1,16 +1,19 @@
--- The globals that stand, in the reserve of the work area: a word each, 1 more than the index of the item that made it; 0 ends them (document 02, wish 2;
--- W2.3).
+-- What the run carries from step to step, in the reserve of the work area: the globals that stand, a word each, 1 more than the index of the item that made
+-- it, and 0 ends them (document 02, wish 2; W2.3); then the set of the bytes that count for W, three words (wish 8).
 use mathlib.Core.Path.{_≡_}
 use mathlib.Core.Logic.{_⊎_}
 use mathlib.Core.Bool.{Bool, true, false, cond}
 use mathlib.Core.List.{List, [], _∷_}
 use Prim.Native.Nat.{ℕ, zero, suc, _+_, _-_, _≤_, _<_}
-use lib.ListN.{length, getD, set}
+use lib.ListN.{length, take, drop, getD, set}
+use lib.Seq.{sets}
 use lib.Dec.{eqb, ltb}
 use Rattle.definitions.specs.Bytes.{Line}
 use Rattle.definitions.specs.Given.{Global, Carried, carried}
 use Rattle.definitions.specs.Edit.{Change, addGlobal, globalBy}
 use Rattle.theorems.specs.GoodItems.{goodOp}
+use Rattle.wordset.specs.Sets.{SetAt}
+use Rattle.wordset.specs.Decoding.{firstWords}
 use Rattle.items.specs.Words.{OpAt}
 use Rattle.items.specs.Reserve.{reserve}
 
@@ -37,11 +40,17 @@ StandingAt s w end i (suc n) (x ∷ gs) = (k : ℕ) × (getD w i 0 ≡ suc k) ×
 abbrev pub most : ℕ
 most = 16
 
--- the globals that stand, of items below `end`
-unfoldable pub StandingBelow : List ℕ → List ℕ → ℕ → Carried → Type 0
-StandingBelow s w end (carried gs) = (end + reserve ≤ length w) × StandingAt s w end (length w - reserve) most gs
+-- where the word set stands, after the globals; it has three words
+abbrev pub setPlace : List ℕ → ℕ
+setPlace w = length w - reserve + most
 
--- the globals that stand
+abbrev pub setIn : List ℕ → List ℕ
+setIn w = take 3 (drop (setPlace w) w)
+
+-- what is carried: the globals that stand, of items below `end`, and the word set
+unfoldable pub StandingBelow : List ℕ → List ℕ → ℕ → Carried → Type 0
+StandingBelow s w end (carried gs xs) = (end + reserve ≤ length w) × StandingAt s w end (length w - reserve) most gs × SetAt w (setPlace w) xs
+
 pub record Standing (s w : List ℕ) (c : Carried) : Type 0 where
   pub end : ℕ
   pub below : StandingBelow s w end c
@@ -68,7 +77,15 @@ pub record Keeps (w : List ℕ) (k : ℕ) (w′ : List ℕ) (r : Bool) : Type 0 
   pub does : r ≡ ltb (standing w) most
   pub words : w′ ≡ cond r (keptAt w (standing w) k) w
 
--- all words but those of the globals stay
-pub record OnlyGlobals (w w′ : List ℕ) : Type 0 where
+-- as where a run begins: none stands, and letters and digits count for W
+abbrev pub begun : List ℕ → List ℕ
+begun w = sets (set w (length w - reserve) 0) (setPlace w) firstWords
+
+-- the set of the item at k counts, which stands in the three words after its first
+abbrev pub withSet : List ℕ → ℕ → List ℕ
+withSet w k = sets w (setPlace w) (getD w (k + 1) 0 ∷ getD w (k + 2) 0 ∷ getD w (k + 3) 0 ∷ [])
+
+-- all words stay but those of the globals and of the word set
+pub record OnlyCarried (w w′ : List ℕ) : Type 0 where
   pub as-long : length w′ ≡ length w
-  pub same : (i : ℕ) → (i + reserve < length w) ⊎ (length w + most ≤ i + reserve) → getD w′ i 0 ≡ getD w i 0
+  pub same : (i : ℕ) → (i + reserve < length w) ⊎ (length w + (most + 3) ≤ i + reserve) → getD w′ i 0 ≡ getD w i 0

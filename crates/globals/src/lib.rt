@@ -1,19 +1,22 @@
-// The globals that stand: GE, GA and GB kept for every line that is read. Their words are the first 16 of the work area's reserve.
+// What the run carries from step to step, in the first words of the work area's reserve: the globals that stand, GE, GA and GB kept for every line that is
+// read, in 16 words; then the set of the bytes that count for W, in 3.
 mod one;
 
 ghost use mathlib.Core.Path.{_≡_};
-ghost use Prim.Native.Nat.{_-_, _≤_, _<_};
+ghost use Prim.Native.Nat.{_+_, _-_, _≤_, _<_};
 ghost use lib.ListN.{length, take, set};
 ghost use lib.Dec.{eqb};
 ghost use Rattle.definitions.specs.Given.{Carried};
 ghost use Rattle.items.specs.Reserve.{reserve};
-ghost use Rattle.globals.specs.Standing.{Standing, standing, Keeps};
+ghost use Rattle.globals.specs.Standing.{Standing, setIn, standing, Keeps, begun, withSet};
 ghost use Rattle.globals.specs.Passing.{PassesAll};
 
-// The reserve's words, and how many of them are for globals.
-const RESERVE: usize = 48;
+// The reserve's words, how many of them are for globals, and for the word set after those.
+const RESERVE: usize = 51;
 
 const MOST: usize = 16;
+
+const SET: usize = 3;
 
 // A line's text as globals leave it: the length of it, or more than 255 bytes, which stops with 25.
 pub enum Passed {
@@ -53,6 +56,37 @@ pub fn forget(w: &mut [u32])
 {
     let top = w.len() - RESERVE;
     w[top] = 0;
+}
+
+// As where a run begins: none stands, and letters and digits count for W.
+pub fn begin(w: &mut [u32])
+    requires { ⌜ reserve ≤ length (now w) ⌝ }
+    ensures { λ _. ⌜ now (w .exit) ≡ begun (now (w .entry)) ⌝ }
+{
+    let at = w.len() - RESERVE + MOST;
+    forget(w);
+    wordset::put_letters_and_digits(w, at);
+}
+
+// The set of the bytes that count for W.
+pub fn word_set<'a>(w: &'a [u32]) -> &'a [u32]
+    requires { ⌜ reserve ≤ length (now w) ⌝ }
+    ensures { λ r. ⌜ now r ≡ setIn (now (w .entry)) ⌝ }
+{
+    let at = w.len() - RESERVE + MOST;
+    &w[at..at + SET]
+}
+
+// WORD, the item at k: its set counts for W from now on.
+pub fn name_words(w: &mut [u32], k: usize)
+    requires { ⌜ k + 4 + reserve ≤ length (now w) ⌝ }
+    ensures { λ _. ⌜ now (w .exit) ≡ withSet (now (w .entry)) k ⌝ }
+{
+    let at = w.len() - RESERVE + MOST;
+    let a = w[k + 1];
+    let b = w[k + 2];
+    let c = w[k + 3];
+    wordset::put_three(w, at, a, b, c);
 }
 
 // The item at k stands after the others. False, and nothing is written, where sixteen stand.

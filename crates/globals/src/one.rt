@@ -14,12 +14,12 @@ use matching::search::length_at;
 use matching::search::start_at;
 use text::copies::copy_in;
 
-// The place of the string in the line from `at` on; the line's end where it does not occur.
+// The place of the string in the line from `at` on; the line's end where it does not occur. Globals have no W: no byte counts.
 fn next_place(line: &[u8], at: usize, s: &[u8]) -> usize
     requires { ⌜ at ≤ length (now line) ⌝ }
     ensures { λ r. ⌜ r ≡ nextPlace (now (s .entry)) (now (line .entry)) at ⌝ }
 {
-    let found = matching::find(line, at, matching::no_qualifiers(), s);
+    let found = matching::find(&[0, 0, 0], line, at, matching::no_qualifiers(), s);
     match found {
         Found::At(i) => i,
         Found::Nothing => line.len(),

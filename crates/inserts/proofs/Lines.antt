@@ -1,14 +1,15 @@
 -- The laws of the script's lines from a place on. Assumes nothing.
-use mathlib.Core.Path.{_≡_, refl, sym, ap, _∙_}
+use mathlib.Core.Path.{_≡_, refl, ap, _∙_}
 use mathlib.Core.Bool.{Bool, true, false, cond}
 use mathlib.Core.List.{List, [], _∷_}
-use Prim.Native.Nat.{ℕ, zero, suc, _+_, _-_, _≤_, _<_}
+use Prim.Native.Nat.{ℕ, suc, _+_, _-_, _≤_, _<_}
 use native.Mathlib.Omega.{arith}
 use lib.ListN.{length, take, drop, getD, length-drop}
-use lib.Seq.{drop-cons, length-take-le, take-nil, take-take, drop-drop}
+use lib.Seq.{drop-cons, length-take-le, take-take, drop-drop}
 use lib.Dec.{eqb}
 use borrow.Author.Tests.{eq-eqb, ne-eqb}
 use Rattle.definitions.specs.Bytes.{linesOf, before}
+use Rattle.text.proofs.Parts.{drop-take}
 use Rattle.items.specs.Words.{partOf}
 use Rattle.inserts.specs.Lines.{feedPlace}
 
@@ -65,12 +66,6 @@ part-cons s at end h k =
 pub part-length : (s : List ℕ) (at end : ℕ) → end ≤ length s → length (partOf s at end) ≡ end - at
 unfolding partOf
 part-length s at end h = length-take-le (end - at) (drop at s) (simp length-drop (omega arith))
-
-drop-take : (i n : ℕ) (l : List ℕ) → drop i (take n l) ≡ take (n - i) (drop i l)
-drop-take zero n l = let z : n - 0 ≡ n = omega arith in rw z
-drop-take (suc i) zero l = let z : 0 - suc i ≡ 0 = omega arith in rw z
-drop-take (suc i) (suc n) [] = sym (take-nil (suc n - suc i))
-drop-take (suc i) (suc n) (x ∷ l) = let z : suc n - suc i ≡ n - i = omega arith in rw z (drop-take i n l)
 
 -- the first k bytes, and the bytes after them
 take-part : (s : List ℕ) (at end k : ℕ) → k ≤ end - at → take k (partOf s at end) ≡ partOf s at (at + k)

@@ -9,8 +9,9 @@ use Rattle.definitions.specs.Matching.{Qualified}
 use Rattle.definitions.specs.Bytes.{Line}
 use Rattle.definitions.specs.Search.{Search, one}
 use Rattle.definitions.specs.Editor.{Target, Through}
-use Rattle.definitions.specs.Edit.{is, isNot, isEof, Op, onlyStep, quit, test, begin, beginBack, find, findBack, findDelete, move, nextLine, previousLine, delete, replace, insert, copy, alter, split, join, addGlobal, cancelGlobals, point, pointStart, right, left, cutByte, recase}
+use Rattle.definitions.specs.Edit.{is, isNot, isEof, Op, onlyStep, quit, test, begin, beginBack, find, findBack, findDelete, move, nextLine, previousLine, delete, replace, insert, copy, alter, split, join, addGlobal, cancelGlobals, nameWords, point, pointStart, right, left, cutByte, recase}
 use Rattle.definitions.specs.Control.{Opener, times, forever, bare, branch, loop, Item, simple, seek, opens, bracket, close, otherwise, leave, lineEnd}
+use Rattle.wordset.specs.Laws.{same-set}
 use Rattle.matching.specs.Words.{Encodes}
 use Rattle.matching.proofs.Running.{forward}
 use Rattle.matching.proofs.Keeping.{kept}
@@ -72,6 +73,7 @@ module _ (s w w′ : List ℕ) (n : ℕ) (same : (j : ℕ) → j < n → getD w�
   op-kept k m place (join l) le h = (h .0, same k (omega (arith, h .0)) ∙ h .1, rw (same (k + 1) (omega (arith, h .0))) (h .2))
   op-kept k m place (addGlobal c l new) le h = strings-kept k m _ _ new le h
   op-kept k m place cancelGlobals le h = one-kept k m _ le h
+  op-kept k m place (nameWords xs) le h = (h .0, same k (omega (arith, h .0)) ∙ h .1, same-set w′ w (k + 1) (k + 1) (λ i few. same (k + 1 + i) (omega (arith, few, h .0))) ∙ h .2)
   op-kept k m place (point after q) le h = string-kept k m _ q le h
   op-kept k m place onlyStep le h = h
   op-kept k m place (test c) le h = h

@@ -10,16 +10,18 @@ use lib.ListN.{length, getD}
 use lib.Dec.{eqb}
 use borrow.Author.Tests.{ne-eqb, eqb-true}
 use Rattle.definitions.specs.Bytes.{Line, isLine, allLines}
+use Rattle.definitions.specs.WordSet.{Named}
 use Rattle.definitions.specs.Matching.{Qualified, qualified}
 use Rattle.definitions.specs.Search.{one}
 use Rattle.definitions.specs.Strings.{noQualifiers, isEmpty}
 use Rattle.definitions.specs.Editor.{Target, Through, alone, upTo, toEof}
-use Rattle.definitions.specs.Edit.{Change, afterIt, beforeIt, exchange, Op, onlyStep, quit, test, begin, beginBack, find, findBack, findDelete, move, nextLine, previousLine, delete, replace, insert, copy, alter, split, join, addGlobal, cancelGlobals, point, pointStart, right, left, cutByte, recase}
+use Rattle.definitions.specs.Edit.{Change, afterIt, beforeIt, exchange, Op, onlyStep, quit, test, begin, beginBack, find, findBack, findDelete, move, nextLine, previousLine, delete, replace, insert, copy, alter, split, join, addGlobal, cancelGlobals, nameWords, point, pointStart, right, left, cutByte, recase}
 use Rattle.theorems.specs.Lines.{and-left, and-right}
 use Rattle.theorems.specs.GoodItems.{goodTarget, goodThrough, goodOption, goodQualified, goodOp}
+use Rattle.wordset.specs.Sets.{SetAt}
 use Rattle.matching.specs.Words.{Encodes}
 use Rattle.matching.proofs.Reading.{ReadsAs, one-reads}
-use Rattle.items.specs.Kinds.{wordShape, pairShape, fourShape, stringShape, changeShape, shapeOf, quitKind, nextKind, previousKind, copyKind, pointStartKind, rightKind, leftKind, cutByteKind, cancelKind, moveKind, deleteKind, insertStringKind, joinKind, replaceKind, insertLinesKind, caseKind, pointKind, splitKind, changeKind, globalKind, isGlobal}
+use Rattle.items.specs.Kinds.{wordShape, pairShape, fourShape, stringShape, changeShape, shapeOf, quitKind, nextKind, previousKind, copyKind, pointStartKind, rightKind, leftKind, cutByteKind, cancelKind, moveKind, deleteKind, insertStringKind, joinKind, replaceKind, insertLinesKind, wordSetKind, caseKind, pointKind, splitKind, changeKind, globalKind, isGlobal}
 use Rattle.items.specs.Words.{head, kindAt, numberAt, targetCode, spotCode, endBit, lastCode, StringIn, LinesIn, SpanAt, OpAt}
 use Rattle.items.specs.Ends.{isOneWord}
 use Rattle.items.specs.Arguments.{spanFrom, spanThrough}
@@ -52,7 +54,7 @@ pub record GlobalRead (s w : List ℕ) (k m : ℕ) (l new : Line) : Type 0 where
 -- ---- the forms of simple commands
 
 pub data Form : Type 0 where
-  words moving deleting stringing replacing lining changing adding aiming unknown : Form
+  words moving deleting stringing replacing lining naming changing adding aiming unknown : Form
 
 -- IS and CL
 abbrev pub takesString : ℕ → Bool
@@ -67,7 +69,8 @@ formOf kind =
     (cond (eqb kind deleteKind) deleting
     (cond (takesString kind) stringing
     (cond (eqb kind replaceKind) replacing
-    (cond (eqb kind insertLinesKind) lining unknown)))))))
+    (cond (eqb kind insertLinesKind) lining
+    (cond (eqb kind wordSetKind) naming unknown))))))))
 
 -- what the words from k up to m say of a command of this kind
 unfoldable pub Means : (s w : List ℕ) (k m kind : ℕ) → Form → Op → Type 0
@@ -82,6 +85,7 @@ Means s w k m kind replacing op =
 Means s w k m kind lining op =
     (a : Option Target) × (ls : List Line) × (op ≡ insert a ls) × (m ≡ k + 4) × (getD w (k + 1) 0 ≡ spotCode a) × (goodOption a ≡ true)
     × LinesIn s (getD w (k + 2) 0) (getD w (k + 3) 0) ls × (allLines ls ≡ true)
+Means s w k m kind naming op = (xs : List Named) × (op ≡ nameWords xs) × (m ≡ k + 4) × SetAt w (k + 1) xs
 Means s w k m kind changing op =
     (c : Change) × (pointed : Bool) × (q : Qualified) × (new : Line) × (n : ℕ) × (op ≡ alter c pointed q new) × (kind ≡ changeKind c pointed) × (m ≡ n + 1)
     × ReadsAs s w (k + 1) n q × StringIn s (getD w n 0) new × (isLine new ≡ true)
@@ -220,6 +224,7 @@ module _ (s w : List ℕ) (k m place : ℕ) where
   means (split after q) h good = aimed-at (splitKind after) after q (split after q) (split-shape after .0) (split-shape after .1) (inr (refl, refl)) h
   means (join l) h good = rw (kinds joinKind (omega arith) (h .1)) (l, h .0, h .2, good, inr (refl, refl))
   means (addGlobal c l new) h good = added c l new (global-read c l new h good)
+  means (nameWords xs) h good = rw (kinds wordSetKind (omega arith) (h .1)) (xs, refl, h .0, h .2)
   means cancelGlobals h good = word cancelKind cancelGlobals (omega arith) refl refl h
   means (point after q) h good = aimed-at (pointKind after) after q (point after q) (point-shape after .0) (point-shape after .1) (inl (refl, refl)) h
   means onlyStep h good = absurd h
@@ -247,19 +252,20 @@ module _ (s w : List ℕ) (k m kind : ℕ) (op : Op) where
   -- what is left of two words
   pub pair-left : shapeOf kind ≡ pairShape → (kind ≡ moveKind → ⊥) → (kind ≡ deleteKind → ⊥) → Means s w k m kind (formOf kind) op → Means s w k m kind stringing op
   unfolding formOf Means
-  pair-left shape a b h = go (takesString kind) (eqb kind replaceKind) (eqb kind insertLinesKind) refl refl (rw (shape, ne-eqb kind moveKind a, ne-eqb kind deleteKind b) at h)
+  pair-left shape a b h = go (takesString kind) (eqb kind replaceKind) (eqb kind insertLinesKind) (eqb kind wordSetKind) refl refl refl (rw (shape, ne-eqb kind moveKind a, ne-eqb kind deleteKind b) at h)
     where
-      go : (t u v : Bool) → eqb kind replaceKind ≡ u → eqb kind insertLinesKind ≡ v → Meant (cond t stringing (cond u replacing (cond v lining unknown))) → Meant stringing
-      go true u v e f x = x
-      go false true v e f x = absurd (omega (arith, shape, eqb-true kind replaceKind e))
-      go false false true e f x = absurd (omega (arith, shape, eqb-true kind insertLinesKind f))
-      go false false false e f x = absurd x
+      go : (t u v z : Bool) → eqb kind replaceKind ≡ u → eqb kind insertLinesKind ≡ v → eqb kind wordSetKind ≡ z → Meant (cond t stringing (cond u replacing (cond v lining (cond z naming unknown)))) → Meant stringing
+      go true u v z e f g x = x
+      go false true v z e f g x = absurd (omega (arith, shape, eqb-true kind replaceKind e))
+      go false false true z e f g x = absurd (omega (arith, shape, eqb-true kind insertLinesKind f))
+      go false false false true e f g x = absurd (omega (arith, shape, eqb-true kind wordSetKind g))
+      go false false false false e f g x = absurd x
 
   -- of four
-  pub four-left : shapeOf kind ≡ fourShape → (kind ≡ replaceKind → ⊥) → Means s w k m kind (formOf kind) op → Means s w k m kind lining op
+  pub four-left : shapeOf kind ≡ fourShape → (kind ≡ replaceKind → ⊥) → (kind ≡ wordSetKind → ⊥) → Means s w k m kind (formOf kind) op → Means s w k m kind lining op
   unfolding formOf Means
-  four-left shape a h =
-      go (eqb kind moveKind) (eqb kind deleteKind) (takesString kind) (eqb kind insertLinesKind) refl refl refl (rw (shape, ne-eqb kind replaceKind a) at h)
+  four-left shape a b h =
+      go (eqb kind moveKind) (eqb kind deleteKind) (takesString kind) (eqb kind insertLinesKind) refl refl refl (rw (shape, ne-eqb kind replaceKind a, ne-eqb kind wordSetKind b) at h)
     where
       go : (t u v z : Bool) → eqb kind moveKind ≡ t → eqb kind deleteKind ≡ u → takesString kind ≡ v
           → Meant (cond t moving (cond u deleting (cond v stringing (cond z lining unknown)))) → Meant lining
@@ -289,6 +295,11 @@ module _ (s w : List ℕ) (k m kind : ℕ) (op : Op) where
   unfolding Means wordOp
   is-on-lines other h = h .1 ∙ rw (ne-eqb kind cancelKind other)
 
+  -- WORD
+  pub is-word-set : kind ≡ wordSetKind → Means s w k m kind (formOf kind) op → Means s w k m kind naming op
+  unfolding formOf
+  is-word-set this h = subst (λ (f : Form). Means s w k m kind f op) (ap formOf this) h
+
   -- GE, GA and GB, or a change
   pub is-global : shapeOf kind ≡ changeShape → isGlobal kind ≡ true → Means s w k m kind (formOf kind) op → Means s w k m kind adding op
   unfolding formOf
@@ -303,18 +314,19 @@ module _ (s w : List ℕ) (k m kind : ℕ) (op : Op) where
       → Means s w k m kind (formOf kind) op → shapeOf kind ≡ changeShape
   unfolding formOf Means
   shape-left a b c d h =
-      go (eqb (shapeOf kind) changeShape) (eqb kind moveKind) (eqb kind deleteKind) (takesString kind) (eqb kind replaceKind) (eqb kind insertLinesKind) refl refl refl refl refl refl
+      go (eqb (shapeOf kind) changeShape) (eqb kind moveKind) (eqb kind deleteKind) (takesString kind) (eqb kind replaceKind) (eqb kind insertLinesKind) (eqb kind wordSetKind) refl refl refl refl refl refl refl
       (rw (ne-eqb (shapeOf kind) wordShape a, ne-eqb (shapeOf kind) stringShape d) at h)
     where
-      go : (z t u v x y : Bool) → eqb (shapeOf kind) changeShape ≡ z → eqb kind moveKind ≡ t → eqb kind deleteKind ≡ u → takesString kind ≡ v → eqb kind replaceKind ≡ x → eqb kind insertLinesKind ≡ y
-          → Meant (cond z (cond (isGlobal kind) adding changing) (cond t moving (cond u deleting (cond v stringing (cond x replacing (cond y lining unknown)))))) → shapeOf kind ≡ changeShape
-      go true t u v x y e e₁ e₂ e₃ e₄ e₅ p = eqb-true (shapeOf kind) changeShape e
-      go false true u v x y e e₁ e₂ e₃ e₄ e₅ p = absurd (b (ap shapeOf (eqb-true kind moveKind e₁)))
-      go false false true v x y e e₁ e₂ e₃ e₄ e₅ p = absurd (b (ap shapeOf (eqb-true kind deleteKind e₂)))
-      go false false false true x y e e₁ e₂ e₃ e₄ e₅ p = absurd (b (string-pair kind e₃))
-      go false false false false true y e e₁ e₂ e₃ e₄ e₅ p = absurd (c (ap shapeOf (eqb-true kind replaceKind e₄)))
-      go false false false false false true e e₁ e₂ e₃ e₄ e₅ p = absurd (c (ap shapeOf (eqb-true kind insertLinesKind e₅)))
-      go false false false false false false e e₁ e₂ e₃ e₄ e₅ p = absurd p
+      go : (z t u v x y n : Bool) → eqb (shapeOf kind) changeShape ≡ z → eqb kind moveKind ≡ t → eqb kind deleteKind ≡ u → takesString kind ≡ v → eqb kind replaceKind ≡ x → eqb kind insertLinesKind ≡ y → eqb kind wordSetKind ≡ n
+          → Meant (cond z (cond (isGlobal kind) adding changing) (cond t moving (cond u deleting (cond v stringing (cond x replacing (cond y lining (cond n naming unknown))))))) → shapeOf kind ≡ changeShape
+      go true t u v x y n e e₁ e₂ e₃ e₄ e₅ e₆ p = eqb-true (shapeOf kind) changeShape e
+      go false true u v x y n e e₁ e₂ e₃ e₄ e₅ e₆ p = absurd (b (ap shapeOf (eqb-true kind moveKind e₁)))
+      go false false true v x y n e e₁ e₂ e₃ e₄ e₅ e₆ p = absurd (b (ap shapeOf (eqb-true kind deleteKind e₂)))
+      go false false false true x y n e e₁ e₂ e₃ e₄ e₅ e₆ p = absurd (b (string-pair kind e₃))
+      go false false false false true y n e e₁ e₂ e₃ e₄ e₅ e₆ p = absurd (c (ap shapeOf (eqb-true kind replaceKind e₄)))
+      go false false false false false true n e e₁ e₂ e₃ e₄ e₅ e₆ p = absurd (c (ap shapeOf (eqb-true kind insertLinesKind e₅)))
+      go false false false false false false true e e₁ e₂ e₃ e₄ e₅ e₆ p = absurd (c (ap shapeOf (eqb-true kind wordSetKind e₆)))
+      go false false false false false false false e e₁ e₂ e₃ e₄ e₅ e₆ p = absurd p
 
 -- ---- a command in the work area, whose kind was read
 

@@ -10,12 +10,12 @@ use lib.Dec.{ltb}
 use Rattle.definitions.specs.Bytes.{Line}
 use Rattle.definitions.specs.Matching.{Qualified}
 use Rattle.definitions.specs.Search.{Search, one}
-use Rattle.definitions.specs.Edit.{Change, afterIt, beforeIt, exchange, is, isNot, isEof, Op, onlyStep, quit, test, begin, beginBack, find, findBack, findDelete, move, nextLine, previousLine, delete, replace, insert, copy, alter, split, join, addGlobal, cancelGlobals, point, pointStart, right, left, cutByte, recase}
+use Rattle.definitions.specs.Edit.{Change, afterIt, beforeIt, exchange, is, isNot, isEof, Op, onlyStep, quit, test, begin, beginBack, find, findBack, findDelete, move, nextLine, previousLine, delete, replace, insert, copy, alter, split, join, addGlobal, cancelGlobals, nameWords, point, pointStart, right, left, cutByte, recase}
 use Rattle.definitions.specs.Control.{Seek, forward, backward, deleting, Opener, times, forever, bare, branch, loop, Item, simple, seek, opens, bracket, close, otherwise, leave, lineEnd}
 use Rattle.matching.specs.Words.{endAt, flagsAt, Encodes}
 use Rattle.matching.proofs.Reading.{one-reads}
 use Rattle.matching.proofs.Running.{forward as ahead}
-use Rattle.items.specs.Kinds.{wordShape, pairShape, fourShape, stringShape, changeShape, searchShape, testShape, openerShape, longOpenerShape, shapeOf, lineEndKind, bracketKind, closeKind, elseKind, leaveKind, quitKind, nextKind, previousKind, copyKind, pointStartKind, rightKind, leftKind, cutByteKind, cancelKind, moveKind, deleteKind, insertStringKind, joinKind, replaceKind, insertLinesKind, ifKind, unlessKind, whileKind, untilKind, countKind, repeatKind, bareKind, ifEofKind, longCountKind, caseKind, pointKind, splitKind, changeKind, globalKind, seekKind}
+use Rattle.items.specs.Kinds.{wordShape, pairShape, fourShape, stringShape, changeShape, searchShape, testShape, openerShape, longOpenerShape, shapeOf, lineEndKind, bracketKind, closeKind, elseKind, leaveKind, quitKind, nextKind, previousKind, copyKind, pointStartKind, rightKind, leftKind, cutByteKind, cancelKind, moveKind, deleteKind, insertStringKind, joinKind, replaceKind, insertLinesKind, wordSetKind, ifKind, unlessKind, whileKind, untilKind, countKind, repeatKind, bareKind, ifEofKind, longCountKind, caseKind, pointKind, splitKind, changeKind, globalKind, seekKind}
 use Rattle.items.specs.Words.{head, headWith, kindAt, placeAt, endBit, TwoStringsAt, OpAt, SearchAt, TimesAt, OpenerAt, ItemAt, ItemsAt}
 use Rattle.items.specs.Ends.{classOf, classIn, classBy, placeOf, isOneWord, endIn, endBy, seenAt}
 use Rattle.items.specs.declared.ends.Seen.{Seen}
@@ -146,6 +146,7 @@ module _ (s w : List ℕ) (k m : ℕ) where
     op-reads (join l) h = pair-reads (join l) joinKind 0 (omega arith) refl (h .0) (h .1 ∙ omega arith)
     op-reads (addGlobal c l new) h = strings-read (addGlobal c l new) (globalKind c) _ new (global-shape c .0) (global-shape c .1) h
     op-reads cancelGlobals h = plain-reads cancelGlobals cancelKind (omega arith) refl h
+    op-reads (nameWords xs) h = four-reads (nameWords xs) wordSetKind 0 (omega arith) refl (h .0) (h .1 ∙ omega arith)
     op-reads (point after q) h = string-reads (point after q) (pointKind after) q (point-shape after .0) (point-shape after .1) h
     op-reads onlyStep h = absurd h
     op-reads (test c) h = absurd h

@@ -117,6 +117,9 @@ replaceKind = 16 * fourShape + 0
 abbrev pub insertLinesKind : ℕ
 insertLinesKind = 16 * fourShape + 1
 
+abbrev pub wordSetKind : ℕ
+wordSetKind = 16 * fourShape + 2
+
 abbrev pub pointAfterKind : ℕ
 pointAfterKind = 16 * stringShape + 0
 

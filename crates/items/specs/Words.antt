@@ -1,4 +1,4 @@
--- How decoded items lie in the work area of 32-bit numbers. Strings and inserted lines are parts of the script.
+-- How decoded items lie in the work area of 32-bit numbers. Strings and inserted lines are parts of the script; WORD's string is decoded.
 use mathlib.Core.Path.{_≡_}
 use mathlib.Core.Logic.{_⊎_}
 use mathlib.Core.Option.{Option, none, some}
@@ -10,10 +10,11 @@ use Rattle.definitions.specs.Matching.{Qualified, qualified}
 use Rattle.definitions.specs.Search.{Search, one}
 use Rattle.definitions.specs.Strings.{noQualifiers}
 use Rattle.definitions.specs.Editor.{Target, here, line, eof, Through, alone, upTo, toEof}
-use Rattle.definitions.specs.Edit.{is, isNot, isEof, Op, onlyStep, quit, test, begin, beginBack, find, findBack, findDelete, move, nextLine, previousLine, delete, replace, insert, copy, alter, split, join, addGlobal, cancelGlobals, point, pointStart, right, left, cutByte, recase}
+use Rattle.definitions.specs.Edit.{is, isNot, isEof, Op, onlyStep, quit, test, begin, beginBack, find, findBack, findDelete, move, nextLine, previousLine, delete, replace, insert, copy, alter, split, join, addGlobal, cancelGlobals, nameWords, point, pointStart, right, left, cutByte, recase}
 use Rattle.definitions.specs.Control.{Opener, times, forever, bare, branch, loop, Item, simple, seek, opens, bracket, close, otherwise, leave, lineEnd}
+use Rattle.wordset.specs.Sets.{SetAt}
 use Rattle.matching.specs.Words.{Encodes}
-use Rattle.items.specs.Kinds.{lineEndKind, bracketKind, closeKind, elseKind, leaveKind, quitKind, nextKind, previousKind, copyKind, pointStartKind, rightKind, leftKind, cutByteKind, cancelKind, moveKind, deleteKind, insertStringKind, joinKind, replaceKind, insertLinesKind, ifKind, unlessKind, whileKind, untilKind, countKind, repeatKind, bareKind, ifEofKind, longCountKind, caseKind, pointKind, splitKind, changeKind, globalKind, seekKind}
+use Rattle.items.specs.Kinds.{lineEndKind, bracketKind, closeKind, elseKind, leaveKind, quitKind, nextKind, previousKind, copyKind, pointStartKind, rightKind, leftKind, cutByteKind, cancelKind, moveKind, deleteKind, insertStringKind, joinKind, replaceKind, insertLinesKind, wordSetKind, ifKind, unlessKind, whileKind, untilKind, countKind, repeatKind, bareKind, ifEofKind, longCountKind, caseKind, pointKind, splitKind, changeKind, globalKind, seekKind}
 
 -- ---- an item's first word: its kind, below 256, its place, below 32,768, and a number below 512
 
@@ -122,6 +123,7 @@ module _ (s w : List ℕ) where
   OpAt k m place (join l) = (m ≡ k + 2) × (at k ≡ head joinKind place) × StringIn s (at (k + 1)) l
   OpAt k m place (addGlobal c l new) = TwoStringsAt k m (head (globalKind c) place) (qualified noQualifiers l) new
   OpAt k m place cancelGlobals = Words1 k m (head cancelKind place)
+  OpAt k m place (nameWords xs) = (m ≡ k + 4) × (at k ≡ head wordSetKind place) × SetAt w (k + 1) xs
   OpAt k m place (point after q) = (at k ≡ head (pointKind after) place) × Encodes s w (k + 1) m (one q)
   OpAt k m place onlyStep = ⊥
   OpAt k m place (test c) = ⊥

@@ -74,6 +74,9 @@ pub const REPLACE: u32 = 16 * FOURS;
 
 pub const INSERT_LINES: u32 = 16 * FOURS + 1;
 
+// WORD.
+pub const WORD_SET: u32 = 16 * FOURS + 2;
+
 // PA, PB, SA, SB.
 pub const POINT_AFTER: u32 = 16 * STRINGS;
 

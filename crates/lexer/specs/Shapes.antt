@@ -2,7 +2,7 @@
 use mathlib.Core.Bool.{true, false}
 use Rattle.definitions.specs.Edit.{Change, afterIt, beforeIt, exchange, Op, quit, nextLine, previousLine, copy, cancelGlobals, pointStart, right, left, cutByte, recase}
 use Rattle.definitions.specs.Control.{Seek, forward, backward, deleting}
-use Rattle.definitions.specs.Commands.{Shape, plain, leaves, seeks, moves, deletes, insertsString, insertsLines, replaces, alters, points, splits, joins, globals, repeats, branches, branchesEof, loops, unknown}
+use Rattle.definitions.specs.Commands.{Shape, plain, leaves, seeks, moves, deletes, insertsString, insertsLines, replaces, alters, points, splits, joins, globals, namesWords, repeats, branches, branchesEof, loops, unknown}
 use Rattle.lexer.specs.declared.shapes.Plain.{Plain as PlainHere}
 use Rattle.lexer.specs.declared.shapes.Plain.the-variants.{Next, Previous, Copy, PointStart, Right, Left, CutByte, Lower, Upper, Quit, Cancel}
 use Rattle.lexer.specs.declared.shapes.Seek.{Seek as SeekHere}
@@ -10,7 +10,7 @@ use Rattle.lexer.specs.declared.shapes.Seek.the-variants.{Forward, Backw
 use Rattle.lexer.specs.declared.shapes.Change.{Change as ChangeHere}
 use Rattle.lexer.specs.declared.shapes.Change.the-variants.{After, Before, Exchange}
 use Rattle.lexer.specs.declared.shapes.Shape.{Shape as ShapeHere}
-use Rattle.lexer.specs.declared.shapes.Shape.the-variants.{Plain, Leaves, Seeks, Moves, Deletes, InsertsString, InsertsLines, Replaces, Alters, Points, Splits, Joins, Globals, Repeats, Branches, BranchesEof, Loops, Unknown}
+use Rattle.lexer.specs.declared.shapes.Shape.the-variants.{Plain, Leaves, Seeks, Moves, Deletes, InsertsString, InsertsLines, Replaces, Alters, Points, Splits, Joins, Globals, Names, Repeats, Branches, BranchesEof, Loops, Unknown}
 
 unfoldable pub plainOf : PlainHere → Op
 plainOf Next = nextLine
@@ -49,6 +49,7 @@ shapeIn (Points after) = points after
 shapeIn (Splits after) = splits after
 shapeIn Joins = joins
 shapeIn (Globals c) = globals (changeOf c)
+shapeIn Names = namesWords
 shapeIn Repeats = repeats
 shapeIn (Branches b) = branches b
 shapeIn BranchesEof = branchesEof

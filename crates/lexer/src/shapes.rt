@@ -56,6 +56,8 @@ pub enum Shape {
     Joins,
     // GE, GA, GB: two strings
     Globals(Change),
+    // WORD: a string
+    Names,
     // RPT: a command or group
     Repeats,
     // IF (true), UL: a search expression, a command or group
@@ -126,6 +128,8 @@ pub fn command(letters: u32) -> Shape
         18242 => Shape::Globals(Change::Before),
         // CG
         17223 => Shape::Plain(Plain::Cancel),
+        // WORD
+        1464816196 => Shape::Names,
         // >
         62 => Shape::Plain(Plain::Right),
         // <

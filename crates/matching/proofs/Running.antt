@@ -37,13 +37,13 @@ pub record Tested (script words : List ℕ) (says : ℕ → Bool) (Fits : ℕ �
 
 module _ (script words : List ℕ) where
   -- on a line l, with the window from p
-  abbrev pub lineSays : List ℕ → ℕ → ℕ → Bool
-  lineSays l p k = matches (stringAt script words k) p l
+  abbrev pub lineSays : (ℕ → Bool) → List ℕ → ℕ → ℕ → Bool
+  lineSays isWord l p k = matches isWord (stringAt script words k) p l
 
-  pub line-tested : (l : List ℕ) (p : ℕ) → Tested script words (lineSays l p) (Readable script words) (λ se. holds se p l)
+  pub line-tested : (isWord : ℕ → Bool) (l : List ℕ) (p : ℕ) → Tested script words (lineSays isWord l p) (Readable script words) (λ se. holds isWord se p l)
   unfolding holds
-  line-tested l p = record {
-    string = λ k m q r. (r .fits, ap (λ (x : Qualified). matches x p l) (r .string));
+  line-tested isWord l p = record {
+    string = λ k m q r. (r .fits, ap (λ (x : Qualified). matches isWord x p l) (r .string));
     and = λ a b. refl;
     or = λ a b. refl;
   }

@@ -47,17 +47,17 @@ module _ (s l : List ℕ) (at k : ℕ) (more : k < length s) (fits : at + length
   unfolding folded
   upper-agrees e = agrees true s l at k more fits e
 
-module _ (w u : Bool) (s l : List ℕ) (at : ℕ) where
-  pub not-here : standsFirst u s (drop at l) ≡ false → standsAt w u s l at ≡ false
+module _ (isWord : ℕ → Bool) (w u : Bool) (s l : List ℕ) (at : ℕ) where
+  pub not-here : standsFirst u s (drop at l) ≡ false → standsAt isWord w u s l at ≡ false
   unfolding standsAt
   not-here e = rw e
 
   module _ (first : standsFirst u s (drop at l) ≡ true) where
-    pub here-apart : w ≡ true → standsAt w u s l at ≡ isApart true l at (at + length s)
+    pub here-apart : w ≡ true → standsAt isWord w u s l at ≡ isApart isWord true l at (at + length s)
     unfolding standsAt
     here-apart e = rw (first, e)
 
-    pub here : w ≡ false → standsAt w u s l at ≡ true
+    pub here : w ≡ false → standsAt isWord w u s l at ≡ true
     unfolding standsAt isApart
     here e = rw (first, e)
 

@@ -69,8 +69,8 @@ module _ (words : List ℕ) (k : ℕ) where
         let n : start + len - start ≡ len = omega arith in
         rw (n, is, starts, lengths)
 
-    pub read-matches : (l : List ℕ) (p : ℕ) → matches (qualified (qualifiersOf q) (take (start + len - start) (drop start script))) p l ≡ matches (stringAt script words k) p l
-    read-matches l p = rw read-string
+    pub read-matches : (isWord : ℕ → Bool) (l : List ℕ) (p : ℕ) → matches isWord (qualified (qualifiersOf q) (take (start + len - start) (drop start script))) p l ≡ matches isWord (stringAt script words k) p l
+    read-matches isWord l p = rw read-string
 
 -- ---- what the words of a string are read as
 

@@ -3,18 +3,10 @@ ghost use mathlib.Core.Path.{_≡_};
 ghost use mathlib.Core.Bool.{true, false};
 ghost use Prim.Native.Nat.{_+_, _≤_};
 ghost use lib.ListN.{length, drop, getD};
-ghost use Rattle.definitions.specs.Matching.{standsFirst, isWordByte, byteBefore, isApart, standsAt};
+ghost use Rattle.definitions.specs.Matching.{standsFirst, byteBefore, isApart, standsAt};
+ghost use Rattle.wordset.specs.Sets.{inSet};
 use text::upper;
-
-// A letter or a digit.
-fn is_word(b: u8) -> bool
-    ensures { λ r. ⌜ r ≡ isWordByte b ⌝ }
-{
-    match b {
-        48..=57 | 65..=90 | 97..=122 => true,
-        _ => false,
-    }
-}
+use wordset::is_in;
 
 // The byte before i; 0 at the line's start.
 fn byte_before(line: &[u8], i: usize) -> u8
@@ -34,15 +26,15 @@ fn byte_at(line: &[u8], i: usize) -> u8
     if i < line.len() { line[i] } else { 0 }
 }
 
-// No letter or digit stands before i or at j, in the whole line.
-fn apart(line: &[u8], i: usize, j: usize) -> bool
-    requires { ⌜ i ≤ length (now line) ⌝ }
-    ensures { λ r. ⌜ r ≡ isApart true (now (line .entry)) i j ⌝ }
+// No byte of the set stands before i or at j, in the whole line.
+fn apart(set: &[u32], line: &[u8], i: usize, j: usize) -> bool
+    requires { ⌜ (3 ≤ length (now set)) × (i ≤ length (now line)) ⌝ }
+    ensures { λ r. ⌜ r ≡ isApart (inSet (now (set .entry)) 0) true (now (line .entry)) i j ⌝ }
 {
-    if is_word(byte_before(line, i)) {
+    if is_in(set, byte_before(line, i)) {
         return false;
     }
-    !is_word(byte_at(line, j))
+    !is_in(set, byte_at(line, j))
 }
 
 // The string stands in the line at `at`.
@@ -86,16 +78,16 @@ fn starts(line: &[u8], s: &[u8], at: usize, fold: bool) -> bool
     same(line, s, at)
 }
 
-// The string occurs in the line at `at`, as W and U ask.
-pub fn stands(line: &[u8], s: &[u8], at: usize, word: bool, fold: bool) -> bool
-    requires { ⌜ at + length (now s) ≤ length (now line) ⌝ }
-    ensures { λ r. ⌜ r ≡ standsAt word fold (now (s .entry)) (now (line .entry)) at ⌝ }
+// The string occurs in the line at `at`, as W and U ask, where the bytes of the set count for W.
+pub fn stands(set: &[u32], line: &[u8], s: &[u8], at: usize, word: bool, fold: bool) -> bool
+    requires { ⌜ (3 ≤ length (now set)) × (at + length (now s) ≤ length (now line)) ⌝ }
+    ensures { λ r. ⌜ r ≡ standsAt (inSet (now (set .entry)) 0) word fold (now (s .entry)) (now (line .entry)) at ⌝ }
 {
     if !starts(line, s, at, fold) {
         return false;
     }
     if word {
-        return apart(line, at, at + s.len());
+        return apart(set, line, at, at + s.len());
     }
     true
 }

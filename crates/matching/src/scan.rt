@@ -4,6 +4,7 @@ ghost use mathlib.Core.Bool.{true, false};
 ghost use Prim.Native.Nat.{_+_, _-_, _≤_, max};
 ghost use lib.ListN.{length, drop};
 ghost use Rattle.definitions.specs.Matching.{text, standsAt, counted};
+ghost use Rattle.wordset.specs.Sets.{inSet};
 ghost use Rattle.matching.specs.Quals.{foundOf};
 ghost use Rattle.matching.specs.Scan.{otherPlaces};
 use super::Found;
@@ -35,6 +36,7 @@ fn step_of(s: &[u8]) -> usize
 
 // The counted occurrence in the text from start to end, from the left. A place is first looked at by the string's first byte alone.
 pub fn from_left(
+    set: &[u32],
     line: &[u8],
     s: &[u8],
     start: usize,
@@ -43,8 +45,8 @@ pub fn from_left(
     word: bool,
     fold: bool,
 ) -> Found
-    requires { ⌜ (start + length (now s) ≤ end) × (end ≤ length (now line)) ⌝ }
-    ensures { λ r. ⌜ foundOf r ≡ counted (standsAt word fold (now (s .entry)) (now (line .entry))) (length (now (s .entry))) count false (text start end) ⌝ }
+    requires { ⌜ (3 ≤ length (now set)) × (start + length (now s) ≤ end) × (end ≤ length (now line)) ⌝ }
+    ensures { λ r. ⌜ foundOf r ≡ counted (standsAt (inSet (now (set .entry)) 0) word fold (now (s .entry)) (now (line .entry))) (length (now (s .entry))) count false (text start end) ⌝ }
 {
     let top = end - s.len();
     let step = step_of(s);
@@ -52,7 +54,7 @@ pub fn from_left(
     let mut i = start;
     loop {
         i = next_place(line, s, i, top, fold);
-        if stands(line, s, i, word, fold) {
+        if stands(set, line, s, i, word, fold) {
             if k <= 1 {
                 return Found::At(i);
             }
@@ -72,6 +74,7 @@ pub fn from_left(
 
 // The counted occurrence in the text from start to end, from the right.
 pub fn from_right(
+    set: &[u32],
     line: &[u8],
     s: &[u8],
     start: usize,
@@ -80,14 +83,14 @@ pub fn from_right(
     word: bool,
     fold: bool,
 ) -> Found
-    requires { ⌜ (start + length (now s) ≤ end) × (end ≤ length (now line)) ⌝ }
-    ensures { λ r. ⌜ foundOf r ≡ counted (standsAt word fold (now (s .entry)) (now (line .entry))) (length (now (s .entry))) count true (text start end) ⌝ }
+    requires { ⌜ (3 ≤ length (now set)) × (start + length (now s) ≤ end) × (end ≤ length (now line)) ⌝ }
+    ensures { λ r. ⌜ foundOf r ≡ counted (standsAt (inSet (now (set .entry)) 0) word fold (now (s .entry)) (now (line .entry))) (length (now (s .entry))) count true (text start end) ⌝ }
 {
     let step = step_of(s);
     let mut k = count;
     let mut i = end - s.len();
     loop {
-        if stands(line, s, i, word, fold) {
+        if stands(set, line, s, i, word, fold) {
             if k <= 1 {
                 return Found::At(i);
             }

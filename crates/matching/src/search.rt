@@ -6,6 +6,7 @@ ghost use lib.ListN.{length};
 ghost use lib.Seq.{sets};
 ghost use Rattle.definitions.specs.Matching.{matches};
 ghost use Rattle.definitions.specs.Search.{Search, holds as «holds-of», holdsAtEof};
+ghost use Rattle.wordset.specs.Sets.{inSet};
 ghost use Rattle.matching.specs.Quals.{qualifiersOf};
 ghost use Rattle.matching.specs.Words.{bitOf, flagsOf, firstWord, secondWord, stringWords, Writable, Encodes, HasQuals, Readable, flagsAt, startAt, lengthAt, columnsAt, qualsAt, stringAt, endAt, onward};
 use super::Quals;
@@ -70,14 +71,14 @@ pub fn length_at(words: &[u32], k: usize) -> usize
 }
 
 // Does the string at k match the line, with the window from p.
-fn string_holds(script: &[u8], words: &[u32], k: usize, line: &[u8], p: usize) -> bool
-    requires { ⌜ Readable (now script) (now words) k × (p ≤ length (now line)) ⌝ }
-    ensures { λ r. ⌜ r ≡ matches (stringAt (now (script .entry)) (now (words .entry)) k) p (now (line .entry)) ⌝ }
+fn string_holds(script: &[u8], words: &[u32], k: usize, set: &[u32], line: &[u8], p: usize) -> bool
+    requires { ⌜ Readable (now script) (now words) k × (3 ≤ length (now set)) × (p ≤ length (now line)) ⌝ }
+    ensures { λ r. ⌜ r ≡ matches (inSet (now (set .entry)) 0) (stringAt (now (script .entry)) (now (words .entry)) k) p (now (line .entry)) ⌝ }
 {
     let q = quals_at(words, k);
     let start = start_at(words, k);
     let end = start + length_at(words, k);
-    matches_line(line, p, q, &script[start..end])
+    matches_line(set, line, p, q, &script[start..end])
 }
 
 // Where the test goes on after the word at k, which joins two parts.
@@ -98,16 +99,25 @@ fn after_joint(words: &[u32], k: usize, truth: bool) -> usize
     k + 1
 }
 
-// Does the search in the words from k to m hold on the line, with the window from p. A part that cannot change the result is not tested.
-pub fn holds(script: &[u8], words: &[u32], k: usize, m: usize, line: &[u8], p: usize) -> bool
-    requires { ⌜ ((se : Search) × Encodes (now script) (now words) k m se) × (p ≤ length (now line)) ⌝ }
-    ensures { λ r. ⌜ ((se : Search) → Encodes (now (script .entry)) (now (words .entry)) k m se → r ≡ «holds-of» se p (now (line .entry))) ⌝ }
+// Does the search in the words from k to m hold on the line, with the window from p, where the bytes of the set count for W. A part that cannot change
+// the result is not tested.
+pub fn holds(
+    script: &[u8],
+    words: &[u32],
+    k: usize,
+    m: usize,
+    set: &[u32],
+    line: &[u8],
+    p: usize,
+) -> bool
+    requires { ⌜ ((se : Search) × Encodes (now script) (now words) k m se) × (3 ≤ length (now set)) × (p ≤ length (now line)) ⌝ }
+    ensures { λ r. ⌜ ((se : Search) → Encodes (now (script .entry)) (now (words .entry)) k m se → r ≡ «holds-of» (inSet (now (set .entry)) 0) se p (now (line .entry))) ⌝ }
 {
     let mut at = k;
     let mut truth = true;
     while at < m {
         if words[at] % 4 == 0 {
-            truth = string_holds(script, words, at, line, p);
+            truth = string_holds(script, words, at, set, line, p);
             at = end_at(words, at);
         } else {
             at = after_joint(words, at, truth);

@@ -21,7 +21,7 @@ all-good s w end i (suc n) (x ∷ gs) h = (global-is-good s w end (h .0) x (h .2
 
 below-good : (s w : List ℕ) (end : ℕ) (c : Carried) → StandingBelow s w end c → GoodCarried c
 unfolding StandingBelow
-below-good s w end (carried gs) h = all-good s w end (length w - reserve) 16 gs (h .1)
+below-good s w end (carried gs xs) h = all-good s w end (length w - reserve) 16 gs (h .1)
 
 -- their strings are text
 pub stand-good : (s w : List ℕ) (c : Carried) → Standing s w c → GoodCarried c
@@ -29,7 +29,7 @@ stand-good s w c h = below-good s w (h .end) c (h .below)
 
 below-room : (s w : List ℕ) (end : ℕ) (c : Carried) → StandingBelow s w end c → reserve ≤ length w
 unfolding StandingBelow
-below-room s w end (carried gs) h = omega (arith, h .0)
+below-room s w end (carried gs xs) h = omega (arith, h .0)
 
 -- the work area has the reserve
 pub stand-room : (s w : List ℕ) (c : Carried) → Standing s w c → reserve ≤ length w

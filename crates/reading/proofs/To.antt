@@ -9,12 +9,13 @@ use lib.ListN.{length}
 use Rattle.definitions.specs.Bytes.{Line}
 use Rattle.definitions.specs.Journal.{Record, kept, changed, deleted, inserted, oldOf, oldSide, upToLine, afterLine}
 use Rattle.definitions.specs.Tape.{Tape, unread, ended, restLines, bind}
-use Rattle.definitions.specs.Given.{Given, Carried, noGlobals}
+use Rattle.definitions.specs.Given.{Given, Carried}
 use Rattle.definitions.specs.Editor.{Ed, ed, beforeOf, afterOf, records, sources, furthest, stopNumber, line, eof}
 use Rattle.definitions.specs.Editor.{Stop as StopNumber}
 use Rattle.definitions.specs.Reading.{Ran, gave, stopped, onceRead, seen, readLine, readLines, readTo}
 use Rattle.definitions.specs.StepProgram.{runs}
 use Rattle.definitions.specs.Edit.{readUpTo}
+use Rattle.theorems.specs.Words.{NoGlobal, none-runs}
 use Rattle.theorems.specs.RecordLaws.{reverse-append, reverse-twice, sources-append, sources-reverse, sources-kept}
 use Rattle.theorems.specs.ReadLines.{runs-read, lines-ended}
 use Rattle.editor.specs.Shows.{Holds, Shows, GroundedAt, lent, Came, Walks, onTo, toSource, raised}
@@ -357,8 +358,8 @@ module _ {script w j j₁ j₂ : List ℕ} {st first : State} {q last : ℕ} {x 
       came-stopped m is far e c ended stands h = absurd (none-left e h)
 
 -- where none stands, the plain function
-pub plain-read : {j : List ℕ} {st s : State} (a : ℕ) (e : Ed) (c : Carried) (t : Tape) → c ≡ noGlobals → s ≡ raised st a → Shows j st e t → Came j (On s) (runs (lent j) c (readUpTo (line a)) e t)
-plain-read {j} a e c t none is h = rw (none, is) (reads-line (lent j) e t h a)
+pub plain-read : {j : List ℕ} {st s : State} (a : ℕ) (e : Ed) (c : Carried) (t : Tape) → NoGlobal c → s ≡ raised st a → Shows j st e t → Came j (On s) (runs (lent j) c (readUpTo (line a)) e t)
+plain-read {j} a e c t none is h = rw (none-runs (lent j) c none (readUpTo (line a)) e, is) (reads-line (lent j) e t h a)
 
 -- ---- EOF
 

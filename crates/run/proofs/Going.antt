@@ -15,7 +15,7 @@ use Rattle.definitions.specs.Edit.{Op, step}
 use Rattle.definitions.specs.Control.{Item, Ctl, running, Pull, finished, want, lost, pull}
 use Rattle.definitions.specs.Run.{End, end, endPlace, spent, stepping, run}
 use Rattle.items.specs.Reserve.{reserve}
-use Rattle.globals.specs.Standing.{StandingBelow, OnlyGlobals}
+use Rattle.globals.specs.Standing.{StandingBelow, OnlyCarried}
 use Rattle.globals.proofs.Standing.{standing-kept}
 use Rattle.control.specs.declared.Control.{Control}
 use Rattle.control.specs.declared.Wanted.{Wanted}
@@ -79,7 +79,7 @@ none-wanted s w last n (want place op c₁ c₀) h = absurd h
 -- there is a reserve where globals stand
 stands-room : (s v : List ℕ) (last : ℕ) (c : Carried) → StandingBelow s v last c → (k : List ℕ) → length v ≡ length k → reserve ≤ length k
 unfolding StandingBelow
-stands-room s v last (carried gs) h k long = omega (arith, h .0, long)
+stands-room s v last (carried gs xs) h k long = omega (arith, h .0, long)
 
 module _ {s table : List ℕ} {lends : Given} {budget last : ℕ} {w j : List ℕ} {c : Control} {st : State} {made : ℕ} {x : End × Tape} (g : Going s table lends budget last w j c st made x) where
   -- the state that it stands in
@@ -125,7 +125,7 @@ module _ {s table : List ℕ} {lends : Given} {budget last : ℕ} {w j : List �
 
   -- ---- after a step, or the steps of a search; `left` is what was left of the budget, and the words are v then
 
-  module _ (left : ℕ) (rest-of : left ≡ budget - made) (k v m : List ℕ) (n : ℕ) (y : Wanted) (h : Wanting s k last n y (g .from)) (r : Sought) (only : OnlyGlobals k v)
+  module _ (left : ℕ) (rest-of : left ≡ budget - made) (k v m : List ℕ) (n : ℕ) (y : Wanted) (h : Wanting s k last n y (g .from)) (r : Sought) (only : OnlyCarried k v)
       (comes : Comes lends left made (g .from) at-state (g .rest) s v last table m (y .place) (h .c₁) (h .c₀) r) where
     -- the run stands where it stood in the words before
     still : (d : Control) (to : Ctl) → reserve ≤ length k → ShowsCtl s k last d to → ShowsCtl s v last d to

@@ -5,7 +5,7 @@ use mathlib.Core.Bool.{Bool, true, false, not}
 use mathlib.Core.List.{List, [], _∷_, _++_, map, reverseAux}
 use Prim.Native.Nat.{ℕ, zero, suc, _+_, _-_, _*_, _≤_, _<_}
 use native.Mathlib.Omega.{arith}
-use lib.ListN.{length, set, replicate, length-append}
+use lib.ListN.{length, replicate, length-append}
 use lib.Dec.{leb}
 use borrow.Author.Tests.{le-leb, lt-leb, leb-true}
 use Rattle.definitions.specs.Bytes.{Line, linesOf, lineBytes, linesBytes}
@@ -28,8 +28,9 @@ use Rattle.answers.proofs.Taking.{Refusal, refusal-values, is-done}
 use Rattle.script.specs.Reading.{ScriptRead}
 use Rattle.items.specs.Reserve.{reserve}
 use Rattle.items.proofs.Keeping.{items-kept}
-use Rattle.globals.specs.Standing.{OnlyGlobals}
-use Rattle.globals.proofs.Standing.{forgotten, forgets-only}
+use Rattle.globals.specs.Standing.{begun, OnlyCarried}
+use Rattle.globals.proofs.Standing.{begins-only}
+use Rattle.globals.proofs.Standing.{begins as begins-carrying}
 use Rattle.control.proofs.Scripts.{startable}
 use Rattle.editor.specs.declared.State.{State}
 use Rattle.editor.specs.declared.Moved.{Moved}
@@ -82,9 +83,9 @@ pub opened-ready : {j : List ℕ} {st : State} (table : List ℕ) → isTable ta
     → Ready table j st ((opening (unread (linesOf table))) .0) ((opening (unread (linesOf table))) .1)
 opened-ready table good h = record { shows = h; point = opening-point (linesOf table); old = opens-table table good }
 
--- the words of items stay where none stands from now on
-forgotten-runnable : (s w v : List ℕ) (n : ℕ) (is : List Item) → OnlyGlobals w v → Runnable s w n is → Runnable s v n is
-forgotten-runnable s w v n is only h =
+-- the words of items stay where only what is carried is written
+still-runnable : (s w v : List ℕ) (n : ℕ) (is : List Item) → OnlyCarried w v → Runnable s w n is → Runnable s v n is
+still-runnable s w v n is only h =
     let room : n + reserve ≤ length w = omega (arith, h .start .ready .room) in
     record {
       form = h .form;
@@ -102,11 +103,12 @@ forgotten-runnable s w v n is only h =
 pub runnable-room : (s w : List ℕ) (n : ℕ) (is : List Item) → Runnable s w n is → n + reserve ≤ length w
 runnable-room s w n is h = omega (arith, h .start .ready .room)
 
--- no global stands as the run begins
-pub begins : (s w v : List ℕ) (n : ℕ) (is : List Item) → v ≡ set w (length w - reserve) 0 → Runnable s w n is → Runnable s v n is × NoneStands s v n
+-- no global stands as the run begins, and letters and digits count for W
+pub begins : (s w v : List ℕ) (n : ℕ) (is : List Item) → v ≡ begun w → Runnable s w n is → Runnable s v n is × NoneStands s v n
 begins s w v n is q h =
     let room = runnable-room s w n is h in
-    rw q (forgotten-runnable s w (set w (length w - reserve) 0) n is (forgets-only w (omega (arith, room))) h, forgotten s w n room)
+    let enough : reserve ≤ length w = omega (arith, room) in
+    rw q (still-runnable s w (begun w) n is (begins-only w enough) h, begins-carrying w enough s n room)
 
 pub opened-ends : (s v k : List ℕ) (r : Ended) (buffer j table : List ℕ) (budget : ℕ) (is : List Item) → length j ≡ length buffer
     → EndsAs s v k r (run (step (lent j)) budget 0 (running is []) (state ((opening (unread (linesOf table))) .0) noGlobals) ((opening (unread (linesOf table))) .1))

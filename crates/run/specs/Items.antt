@@ -34,7 +34,7 @@ pub record Runnable (s w : List ℕ) (end : ℕ) (items : List Item) : Type 0 wh
 
 -- ---- the items
 
--- the end r, and what the run comes to: number, steps, place, a text that the buffer shows, and globals that stand in the words
+-- the end r, and what the run comes to: number, steps, place, a text that the buffer shows, and what is carried, in the words
 unfoldable pub Ends : List ℕ → List ℕ → List ℕ → Ended → End → Tape → Type 0
 Ends script w j r (end number steps place (state e c)) t =
     (r .number ≡ number) × (r .steps ≡ steps) × (r .place ≡ place) × Shows j (r .st) e t × Standing script w c
@@ -58,7 +58,7 @@ RunsTable script w last budget table buffer v k r =
 abbrev pub CanRun : List ℕ → List ℕ → ℕ → ℕ → Type 0
 CanRun script w last budget = ((items : List Item) × Runnable script w last items) × (budget ≤ 4294967295)
 
--- no global stands in the words, of items below `last`
+-- as where a run begins: no global stands in the words, of items below `last`, and letters and digits count for W
 abbrev pub NoneStands : List ℕ → List ℕ → ℕ → Type 0
 NoneStands script w last = StandingBelow script w last noGlobals
 

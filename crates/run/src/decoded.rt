@@ -38,7 +38,7 @@ fn stopped(number: usize, steps: usize, place: usize, st: State) -> Ended
     }
 }
 
-// Runs the items in the words below `end`, at most `budget` steps. The words above them hold the bodies that run, the reserve's the globals that stand.
+// Runs the items in the words below `end`, at most `budget` steps. The words above them hold the bodies that run, the reserve's what is carried.
 pub fn run_items(
     script: &[u8],
     table: &[u8],

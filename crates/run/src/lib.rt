@@ -66,7 +66,7 @@ fn run_opened(
     ensures { λ r. ⌜ RunsTable (now (script .entry)) (now (work .entry)) end budget (now (table .entry)) (now (journal .entry)) (now (work .exit)) (now (journal .exit)) r ⌝ }
 {
     let st = editor::start::open_journal(table, journal);
-    globals::forget(work);
+    globals::begin(work);
     run_items(script, table, work, end, budget, journal, st)
 }
 

@@ -10,7 +10,7 @@ use borrow.Author.Tests.{ne-eqb}
 use Rattle.definitions.specs.Edit.{isEof}
 use Rattle.definitions.specs.Control.{Item, simple, opens, leave, forever, branch}
 use Rattle.definitions.specs.Reader.{Cursor, got, refused, Token, token}
-use Rattle.definitions.specs.Commands.{prefix, moves, deletes, seeks, insertsString, insertsLines, replaces, alters, points, splits, joins, globals, branches, loops, skipThen, shapeOf, decode}
+use Rattle.definitions.specs.Commands.{prefix, moves, deletes, seeks, insertsString, insertsLines, replaces, alters, points, splits, joins, globals, namesWords, branches, loops, skipThen, shapeOf, decode}
 use Rattle.definitions.specs.Script.{Due, Group, isInGroup, decoded, named, countRead}
 use Rattle.answers.specs.declared.Answer.{Answer}
 use Rattle.answers.specs.declared.Follow.{Follow}
@@ -21,7 +21,7 @@ use Rattle.lexer.specs.declared.shapes.Plain.{Plain as PlainHere}
 use Rattle.lexer.specs.declared.shapes.Seek.{Seek as SeekHere}
 use Rattle.lexer.specs.declared.shapes.Change.{Change as ChangeHere}
 use Rattle.lexer.specs.declared.shapes.Shape.{Shape as ShapeHere}
-use Rattle.lexer.specs.declared.shapes.Shape.the-variants.{Plain, Leaves, Seeks, Moves, Deletes, InsertsString, InsertsLines, Replaces, Alters, Points, Splits, Joins, Globals, Repeats, Branches, BranchesEof, Loops, Unknown}
+use Rattle.lexer.specs.declared.shapes.Shape.the-variants.{Plain, Leaves, Seeks, Moves, Deletes, InsertsString, InsertsLines, Replaces, Alters, Points, Splits, Joins, Globals, Names, Repeats, Branches, BranchesEof, Loops, Unknown}
 use Rattle.items.specs.Kinds.{leaveKind, repeatKind, ifEofKind}
 use Rattle.items.specs.Words.{head, OpenerAt, ItemAt}
 use Rattle.items.specs.Depth.{openAfter}
@@ -79,6 +79,10 @@ module _ (g : Bool) (place : ℕ) (c : Cursor) (shape : ShapeHere) where
   pub is-globals : (change : ChangeHere) → shape ≡ Globals change → decode g place (shapeIn shape) c ≡ decode false place (globals (changeOf change)) c
   unfolding decode shapeIn
   is-globals change e = rw e
+
+  pub is-names : shape ≡ Names → decode g place (shapeIn shape) c ≡ decode false place namesWords c
+  unfolding decode shapeIn
+  is-names e = rw e
 
   pub is-branches : (b : Bool) → shape ≡ Branches b → decode g place (shapeIn shape) c ≡ decode false place (branches b) c
   unfolding decode shapeIn

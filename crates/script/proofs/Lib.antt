@@ -7,6 +7,7 @@ pub mod Distances
 pub mod Items
 pub mod LineSpans
 pub mod Inserting
+pub mod Naming
 pub mod Qualifying
 pub mod Searched
 pub mod NameLengths

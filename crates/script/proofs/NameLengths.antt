@@ -7,11 +7,11 @@ use native.Mathlib.Omega.{arith}
 use lib.Dec.{eqb, leb}
 use borrow.Author.Tests.{eqb-true, leb-true}
 use Rattle.definitions.specs.Reader.{packed, packedFrom}
-use Rattle.definitions.specs.Commands.{Shape, plain, leaves, seeks, moves, deletes, insertsString, insertsLines, replaces, alters, points, splits, joins, globals, repeats, branches, branchesEof, loops, unknown, Row, row, commandTable, lookUp, shapeOf}
+use Rattle.definitions.specs.Commands.{Shape, plain, leaves, seeks, moves, deletes, insertsString, insertsLines, replaces, alters, points, splits, joins, globals, namesWords, repeats, branches, branchesEof, loops, unknown, Row, row, commandTable, lookUp, shapeOf}
 use Rattle.theorems.specs.Lines.{and-left, and-right}
 use Rattle.lexer.specs.Shapes.{shapeIn}
 use Rattle.lexer.specs.declared.shapes.Shape.{Shape as ShapeHere}
-use Rattle.lexer.specs.declared.shapes.Shape.the-variants.{Plain, Leaves, Seeks, Moves, Deletes, InsertsString, InsertsLines, Replaces, Alters, Points, Splits, Joins, Globals, Repeats, Branches, BranchesEof, Loops, Unknown}
+use Rattle.lexer.specs.declared.shapes.Shape.the-variants.{Plain, Leaves, Seeks, Moves, Deletes, InsertsString, InsertsLines, Replaces, Alters, Points, Splits, Joins, Globals, Names, Repeats, Branches, BranchesEof, Loops, Unknown}
 use Rattle.script.specs.Searches.{NameOf}
 
 -- what opens a body
@@ -29,6 +29,7 @@ isPrefix (points a) = false
 isPrefix (splits a) = false
 isPrefix joins = false
 isPrefix (globals c) = false
+isPrefix namesWords = false
 isPrefix repeats = true
 isPrefix (branches b) = true
 isPrefix branchesEof = true
@@ -79,6 +80,7 @@ prefix-name w (Points a) place at e h = tt
 prefix-name w (Splits a) place at e h = tt
 prefix-name w Joins place at e h = tt
 prefix-name w (Globals c) place at e h = tt
+prefix-name w Names place at e h = tt
 prefix-name w Repeats place at e h = h (prefix-long w repeats e refl)
 prefix-name w (Branches b) place at e h = h (prefix-long w (branches b) e refl)
 prefix-name w BranchesEof place at e h = h (prefix-long w branchesEof e refl)

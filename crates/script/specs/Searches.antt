@@ -12,7 +12,7 @@ use Rattle.answers.specs.Answers.{SearchOr}
 use Rattle.lexer.specs.Places.{cursorAt}
 use Rattle.lexer.specs.Answers.{Refuses}
 use Rattle.lexer.specs.declared.shapes.Shape.{Shape}
-use Rattle.lexer.specs.declared.shapes.Shape.the-variants.{Plain, Leaves, Seeks, Moves, Deletes, InsertsString, InsertsLines, Replaces, Alters, Points, Splits, Joins, Globals, Repeats, Branches, BranchesEof, Loops, Unknown}
+use Rattle.lexer.specs.declared.shapes.Shape.the-variants.{Plain, Leaves, Seeks, Moves, Deletes, InsertsString, InsertsLines, Replaces, Alters, Points, Splits, Joins, Globals, Names, Repeats, Branches, BranchesEof, Loops, Unknown}
 use Rattle.items.specs.Words.{SearchAt}
 use Rattle.script.specs.Reading.{Unwritten}
 
@@ -31,6 +31,7 @@ NameOf (Points after) place at = Unit {0}
 NameOf (Splits after) place at = Unit {0}
 NameOf Joins place at = Unit {0}
 NameOf (Globals change) place at = Unit {0}
+NameOf Names place at = Unit {0}
 NameOf Repeats place at = place + 2 ≤ at
 NameOf (Branches b) place at = place + 2 ≤ at
 NameOf BranchesEof place at = place + 2 ≤ at

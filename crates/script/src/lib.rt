@@ -1,12 +1,13 @@
 // The reader of whole scripts: bytes to decoded items in the work area, or a number and a place.
 pub mod commands; // commands.rt: counts, commands of one or two words
 pub mod groups; // groups.rt: brackets and ELSE
-pub mod inserts; // inserts.rt: IS, I and R
+pub mod inserts; // inserts.rt: IS, CL, I and R
 pub mod named; // named.rt: the command that a name selects
 pub mod qualified; // qualified.rt: commands with qualified strings
 pub mod reading; // reading.rt: the reader that carries its place
 pub mod rounds; // rounds.rt: separators, the end, and what a command comes to
 pub mod searching; // searching.rt: commands with a search expression
+pub mod words; // words.rt: WORD
 
 ghost use mathlib.Core.Path.{_≡_};
 ghost use mathlib.Core.Bool.{true};

@@ -25,6 +25,7 @@ use crate::rounds::finish;
 use crate::searching::branches;
 use crate::searching::loops;
 use crate::searching::seeks;
+use crate::words::names;
 use answers::Answer;
 use answers::State;
 use items::kinds::AGP;
@@ -63,6 +64,7 @@ fn decode(
         Shape::Splits(after) => aims(s, w, k, place, at, split_kind(after)),
         Shape::Joins => quotes(s, w, k, place, at, JOIN),
         Shape::Globals(change) => globals(s, w, k, place, at, change),
+        Shape::Names => names(s, w, k, place, at),
         Shape::Repeats => prefix_word(w, k, REPEAT, place, at, false),
         Shape::Branches(holds) => branches(s, w, k, place, at, holds),
         Shape::BranchesEof => prefix_word(w, k, IF_EOF, place, skip_then(s, at), true),

@@ -9,12 +9,13 @@ use lib.Dec.{eqb}
 use Rattle.definitions.specs.Bytes.{Line}
 use Rattle.definitions.specs.Journal.{Record}
 use Rattle.definitions.specs.Tape.{Tape}
-use Rattle.definitions.specs.Given.{Given, Carried, carried, noGlobals}
+use Rattle.definitions.specs.Given.{Given, Carried, carried, noGlobals, wordsOf}
 use Rattle.definitions.specs.Editor.{Ed, n21, stopNumber, Move, struckBack, strikeBack, edits}
-use Rattle.definitions.specs.StepProgram.{Program, gives, _>>=_, _>>_, runs, state, Did, answers, changes, perform}
+use Rattle.definitions.specs.StepProgram.{Program, gives, _>>=_, _>>_, runs, state, wordsIn, Did, answers, changes, perform}
 use Rattle.definitions.specs.Search.{Search, holds}
 use Rattle.definitions.specs.Edit.{program, step, either, go, goAhead, goesOn, lineOr, lookOn, lookBack, searchHolds}
 use Rattle.definitions.specs.Control.{Seek, forward, backward, deleting, lookOp}
+use Rattle.theorems.specs.Words.{none-runs}
 use Rattle.editor.specs.Shows.{Holds, Stays, Shows, lent, Came, DoesPart}
 use Rattle.editor.specs.declared.State.{State}
 use Rattle.editor.specs.declared.Moved.{Moved}
@@ -59,12 +60,12 @@ module _ (g : Given) (c : Carried) (e : Ed) (t : Tape) (k : List ℕ) (s : State
 -- the reserve is there
 pub reserve-in : (s w : List ℕ) → SomeStand s w → reserve ≤ length w
 unfolding StandingBelow
-reserve-in s w (carried gs, h) = omega (arith, h .below .0)
+reserve-in s w (carried gs xs, h) = omega (arith, h .below .0)
 
 module _ (s w j : List ℕ) (st : State) (i : List ℕ) (q : Moved) {k : List ℕ} {r : Moved} (same : k ≡ i) (moved : r ≡ q) where
   -- none stands
   pub none-goes : (v : Bool) → v ≡ eqb (standing w) 0 → v ≡ true → DoesPart noGlobals j st goAhead i q → DoesPartBy s w j st goAhead k r
-  none-goes v is yes-none f e c t stands h = rw (same, moved, none-stand s w c (sym is ∙ yes-none) stands) (f e t h)
+  none-goes v is yes-none f e c t stands h = rw (same, moved, none-runs (lent j) c (none-stand s w c (sym is ∙ yes-none) stands) goAhead e) (f e t h)
 
   -- some do
   pub some-goes : DoesPartBy s w j st goAhead i q → DoesPartBy s w j st goAhead k r
@@ -144,30 +145,30 @@ module _ (j : List ℕ) (st : State) (w : Way) (n : ℕ) where
 
 -- ---- one line
 
-look-program : (f : Seek) (se : Search) (n : ℕ)
-    → program (lookOp f se n) ≡ _>>=_ (lineOr (eofStop f)) (λ x. either (holds se (x .1) (x .0)) (whereFound f n) (whereNot f))
+look-program : (isWord : ℕ → Bool) (f : Seek) (se : Search) (n : ℕ)
+    → program isWord (lookOp f se n) ≡ _>>=_ (lineOr (eofStop f)) (λ x. either (holds isWord se (x .1) (x .0)) (whereFound f n) (whereNot f))
 unfolding program lookOp eofStop whereFound whereNot
-look-program forward se n = refl
-look-program backward se n = refl
-look-program deleting se n = refl
+look-program isWord forward se n = refl
+look-program isWord backward se n = refl
+look-program isWord deleting se n = refl
 
 module _ {j : List ℕ} {st : State} (g : Given) (f : Seek) (se : Search) (n : ℕ) (e : Ed) (c : Carried) (t : Tape) (h : Shows j st e t) where
   abbrev after-line : Line × ℕ → Program Did
-  after-line x = either (holds se (x .1) (x .0)) (whereFound f n) (whereNot f)
+  after-line x = either (holds (wordsOf c) se (x .1) (x .0)) (whereFound f n) (whereNot f)
 
   pub look-eof : length j ≤ st .back → (i : ℕ) → i ≡ stopNumber (eofStop f) → LooksAs j (Stop i st) (step g (lookOp f se n) (state e c) t)
-  unfolding step
+  unfolding step wordsIn
   look-eof end i q =
-      says-stop g c (program (lookOp f se n)) e t i (rw (look-program f se n) (line-stop g c (eofStop f) after-line e t h end)) q h
+      says-stop g c (program (wordsOf c) (lookOp f se n)) e t i (rw (look-program (wordsOf c) f se n) (line-stop g c (eofStop f) after-line e t h end)) q h
 
-  module _ (more : st .back < length j) (v : Bool) (is : v ≡ searchHolds se e) where
+  module _ (more : st .back < length j) (v : Bool) (is : v ≡ searchHolds (wordsOf c) se e) where
     look-step : step g (lookOp f se n) (state e c) t ≡ perform g (either v (whereFound f n) (whereNot f)) (state e c) t
-    unfolding step
+    unfolding step wordsIn
     look-step =
-        perform-as g c (program (lookOp f se n)) (either v (whereFound f n) (whereNot f)) e e t t
-        (rw (look-program f se n)
+        perform-as g c (program (wordsOf c) (lookOp f se n)) (either v (whereFound f n) (whereNot f)) e e t t
+        (rw (look-program (wordsOf c) f se n)
         (line-on g c (eofStop f) after-line e t h more
-        ∙ ap (λ (b : Bool). runs g c (either b (whereFound f n) (whereNot f)) e t) (line-holds more se e t h ∙ sym is)))
+        ∙ ap (λ (b : Bool). runs g c (either b (whereFound f n) (whereNot f)) e t) (line-holds (wordsOf c) more se e t h ∙ sym is)))
 
     pub look-found : v ≡ true → (k : List ℕ) (r : Looked) → LooksAs k r (perform g (whereFound f n) (state e c) t) → LooksAs k r (step g (lookOp f se n) (state e c) t)
     unfolding either

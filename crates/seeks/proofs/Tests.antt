@@ -6,10 +6,10 @@ use mathlib.Core.List.{List, [], _∷_}
 use lib.ListN.{length}
 use Rattle.definitions.specs.Journal.{Record}
 use Rattle.definitions.specs.Tape.{Tape}
-use Rattle.definitions.specs.Given.{Given, Carried}
+use Rattle.definitions.specs.Given.{Given, Carried, wordsOf}
 use Rattle.definitions.specs.Editor.{Ed, ed, n21, stopNumber, Move}
 use Rattle.definitions.specs.Reading.{gave}
-use Rattle.definitions.specs.StepProgram.{_>>=_, _>>_, runs, state, answers}
+use Rattle.definitions.specs.StepProgram.{_>>=_, _>>_, runs, state, wordsIn, answers}
 use Rattle.definitions.specs.Search.{Search}
 use Rattle.definitions.specs.Edit.{Op, Test, program, step, see, either, go, goesOn, passes, isAtEof, searchHolds}
 use Rattle.editor.specs.Shows.{Shows, Came}
@@ -23,30 +23,30 @@ use Rattle.seeks.proofs.Looking.{says-yes, says-no, says-stop, then-loo
 
 -- ---- BF begins
 
-line-begins : (g : Given) (c : Carried) (b : List Record) (r : Record) (a : List Record) (p : ℕ) (t : Tape)
-    → runs g c (program Op.beginBack) (ed b (r ∷ a) p) t ≡ (gave (answers true) (ed b (r ∷ a) p), t)
+line-begins : (isWord : ℕ → Bool) (g : Given) (c : Carried) (b : List Record) (r : Record) (a : List Record) (p : ℕ) (t : Tape)
+    → runs g c (program isWord Op.beginBack) (ed b (r ∷ a) p) t ≡ (gave (answers true) (ed b (r ∷ a) p), t)
 unfolding program see either goesOn isAtEof _>>_ _>>=_ runs
-line-begins g c b r a p t = refl
+line-begins isWord g c b r a p t = refl
 
-eof-begins : (g : Given) (c : Carried) (b : List Record) (p : ℕ) (t : Tape)
-    → runs g c (program Op.beginBack) (ed b [] p) t ≡ runs g c (_>>=_ (go Move.back) (λ a. goesOn)) (ed b [] p) t
+eof-begins : (isWord : ℕ → Bool) (g : Given) (c : Carried) (b : List Record) (p : ℕ) (t : Tape)
+    → runs g c (program isWord Op.beginBack) (ed b [] p) t ≡ runs g c (_>>=_ (go Move.back) (λ a. goesOn)) (ed b [] p) t
 unfolding program see either isAtEof _>>_ _>>=_ runs
-eof-begins g c b p t = refl
+eof-begins isWord g c b p t = refl
 
 -- ---- tests
 
-test-runs : (g : Given) (c : Carried) (x : Test) (e : Ed) (t : Tape) → runs g c (program (Op.test x)) e t ≡ (gave (answers (passes x e)) e, t)
+test-runs : (isWord : ℕ → Bool) (g : Given) (c : Carried) (x : Test) (e : Ed) (t : Tape) → runs g c (program isWord (Op.test x)) e t ≡ (gave (answers (passes isWord x e)) e, t)
 unfolding program see _>>=_ runs
-test-runs g c x e t = refl
+test-runs isWord g c x e t = refl
 
 module _ {j : List ℕ} {st : State} (g : Given) (c : Carried) (x : Test) (e : Ed) (t : Tape) (h : Shows j st e t) where
-  test-yes : passes x e ≡ true → LooksAs j (Yes st) (step g (Op.test x) (state e c) t)
-  unfolding step
-  test-yes q = says-yes g c (program (Op.test x)) e t (test-runs g c x e t ∙ rw q) h
+  test-yes : passes (wordsOf c) x e ≡ true → LooksAs j (Yes st) (step g (Op.test x) (state e c) t)
+  unfolding step wordsIn
+  test-yes q = says-yes g c (program (wordsOf c) (Op.test x)) e t (test-runs (wordsOf c) g c x e t ∙ rw q) h
 
-  test-no : passes x e ≡ false → LooksAs j (No st) (step g (Op.test x) (state e c) t)
-  unfolding step
-  test-no q = says-no g c (program (Op.test x)) e t (test-runs g c x e t ∙ rw q) h
+  test-no : passes (wordsOf c) x e ≡ false → LooksAs j (No st) (step g (Op.test x) (state e c) t)
+  unfolding step wordsIn
+  test-no q = says-no g c (program (wordsOf c) (Op.test x)) e t (test-runs (wordsOf c) g c x e t ∙ rw q) h
 
 as-true : (v : Bool) → v ≡ Bool·beq v true
 as-true true = refl
@@ -57,11 +57,11 @@ as-false true = refl
 as-false false = refl
 
 -- v says whether the search holds, and w whether it is to
-module _ {j : List ℕ} {st : State} (g : Given) (c : Carried) (v w : Bool) (se : Search) (e : Ed) (t : Tape) (h : Shows j st e t) (is : v ≡ searchHolds se e) where
-  passes-as : passes (testOf w se) e ≡ Bool·beq v w
+module _ {j : List ℕ} {st : State} (g : Given) (c : Carried) (v w : Bool) (se : Search) (e : Ed) (t : Tape) (h : Shows j st e t) (is : v ≡ searchHolds (wordsOf c) se e) where
+  passes-as : passes (wordsOf c) (testOf w se) e ≡ Bool·beq v w
   passes-as = by w
     where
-      by : (w : Bool) → passes (testOf w se) e ≡ Bool·beq v w
+      by : (w : Bool) → passes (wordsOf c) (testOf w se) e ≡ Bool·beq v w
       by true = unfold passes testOf in (sym is ∙ as-true v)
       by false = unfold passes testOf in (ap not (sym is) ∙ as-false v)
 
@@ -85,33 +85,33 @@ module _ {j : List ℕ} {st : State} (g : Given) where
   -- ---- F and DF begin
 
   pub begin-stop : length j ≤ st .back → (e : Ed) (c : Carried) (t : Tape) → Shows j st e t → LooksAs j (Stop 21 st) (step g Op.begin (state e c) t)
-  unfolding step program _>>_ stopNumber
-  begin-stop end e c t h = says-stop g c (program Op.begin) e t 21 (line-stop g c n21 (λ x. goesOn) e t h end) refl h
+  unfolding step wordsIn program _>>_ stopNumber
+  begin-stop end e c t h = says-stop g c (program (wordsOf c) Op.begin) e t 21 (line-stop g c n21 (λ x. goesOn) e t h end) refl h
 
   pub begin-yes : st .back < length j → (e : Ed) (c : Carried) (t : Tape) → Shows j st e t → LooksAs j (Yes st) (step g Op.begin (state e c) t)
-  unfolding step program _>>_ goesOn runs
-  begin-yes more e c t h = says-yes g c (program Op.begin) e t (line-on g c n21 (λ x. goesOn) e t h more) h
+  unfolding step wordsIn program _>>_ goesOn runs
+  begin-yes more e c t h = says-yes g c (program (wordsOf c) Op.begin) e t (line-on g c n21 (λ x. goesOn) e t h more) h
 
   -- ---- BF begins
 
   pub begin-back-line : st .back < length j → (e : Ed) (c : Carried) (t : Tape) → Shows j st e t → LooksAs j (Yes st) (step g Op.beginBack (state e c) t)
-  unfolding step
+  unfolding step wordsIn
   begin-back-line more (ed b [] p) c t h = absurd (shown-record b p t h more)
-  begin-back-line more (ed b (r ∷ a) p) c t h = says-yes g c (program Op.beginBack) (ed b (r ∷ a) p) t (line-begins g c b r a p t) h
+  begin-back-line more (ed b (r ∷ a) p) c t h = says-yes g c (program (wordsOf c) Op.beginBack) (ed b (r ∷ a) p) t (line-begins (wordsOf c) g c b r a p t) h
 
   module _ (k : List ℕ) (s : State) (end : length j ≤ st .back) (r : Moved) where
     pub begin-back-on : r ≡ On s → (e : Ed) (c : Carried) (t : Tape) → Shows j st e t → Came k r (runs g c (go Move.back) e t)
         → LooksAs k (Yes s) (step g Op.beginBack (state e c) t)
-    unfolding step goesOn runs
+    unfolding step wordsIn goesOn runs
     begin-back-on q (ed b [] p) c t h w =
-        rw (perform-as g c (program Op.beginBack) (_>>=_ (go Move.back) (λ a. goesOn)) (ed b [] p) (ed b [] p) t t (eof-begins g c b p t))
+        rw (perform-as g c (program (wordsOf c) Op.beginBack) (_>>=_ (go Move.back) (λ a. goesOn)) (ed b [] p) (ed b [] p) t t (eof-begins (wordsOf c) g c b p t))
         (then-looks g c (go Move.back) (λ a. goesOn) (ed b [] p) t k (Yes s) (rw q at w) (λ a x u z. says-yes g c goesOn x u refl z))
     begin-back-on q (ed b (r′ ∷ a) p) c t h w = absurd (shown-eof b r′ a p t h end)
 
     pub begin-back-stop : (n : ℕ) → r ≡ Stopped n s → (e : Ed) (c : Carried) (t : Tape) → Shows j st e t → Came k r (runs g c (go Move.back) e t)
         → LooksAs k (Stop n s) (step g Op.beginBack (state e c) t)
-    unfolding step
+    unfolding step wordsIn
     begin-back-stop n q (ed b [] p) c t h w =
-        rw (perform-as g c (program Op.beginBack) (_>>=_ (go Move.back) (λ a. goesOn)) (ed b [] p) (ed b [] p) t t (eof-begins g c b p t))
+        rw (perform-as g c (program (wordsOf c) Op.beginBack) (_>>=_ (go Move.back) (λ a. goesOn)) (ed b [] p) (ed b [] p) t t (eof-begins (wordsOf c) g c b p t))
         (then-stops g c (go Move.back) (λ a. goesOn) (ed b [] p) t k n s (rw q at w))
     begin-back-stop n q (ed b (r′ ∷ a) p) c t h w = absurd (shown-eof b r′ a p t h end)

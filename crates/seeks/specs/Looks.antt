@@ -5,7 +5,7 @@ use mathlib.Core.List.{List, [], _∷_}
 use Prim.Native.Nat.{ℕ, zero, suc}
 use Rattle.definitions.specs.Tape.{Tape}
 use Rattle.definitions.specs.Search.{Search}
-use Rattle.definitions.specs.Given.{Given, Carried}
+use Rattle.definitions.specs.Given.{Given, Carried, wordsOf}
 use Rattle.definitions.specs.Editor.{Ed, Stop as StopNumber, n21, n22, strikeBack}
 use Rattle.definitions.specs.StepProgram.{Program, gives, RunState, state, Did, changes, Out, on, edited, halt, perform}
 use Rattle.definitions.specs.Edit.{Op, Test, is, isNot, goesOn, lookOn, lookBack, searchHolds, step}
@@ -44,7 +44,7 @@ LooksAs j r x = Looks j r (x .0) (x .1)
 abbrev pub LooksBy : List ℕ → State → Program Did → List ℕ → Looked → Type 0
 LooksBy j st m k r = (e : Ed) (c : Carried) (t : Tape) → Shows j st e t → LooksAs k r (perform (lent j) m (state e c) t)
 
--- the same of one that is told the standing globals: script and work area hold them (document 02, wish 2)
+-- the same of one that is told what is carried: script and work area hold it (document 02, wishes 2 and 8)
 abbrev pub LooksCarrying : List ℕ → List ℕ → List ℕ → State → Program Did → List ℕ → Looked → Type 0
 LooksCarrying s w j st m k r = (e : Ed) (c : Carried) (t : Tape) → Standing s w c → Shows j st e t → LooksAs k r (perform (lent j) m (state e c) t)
 
@@ -52,7 +52,7 @@ LooksCarrying s w j st m k r = (e : Ed) (c : Carried) (t : Tape) → Standing s 
 abbrev pub LooksOnce : List ℕ → State → Op → List ℕ → Looked → Type 0
 LooksOnce j st op k r = (e : Ed) (c : Carried) (t : Tape) → Shows j st e t → LooksAs k r (step (lent j) op (state e c) t)
 
--- the globals that stand after a step
+-- what is carried after a step
 unfoldable pub carriedOf : Out → Carried
 carriedOf (on b (state e c)) = c
 carriedOf (edited (state e c)) = c
@@ -65,15 +65,11 @@ abbrev pub Searchable : List ℕ → List ℕ → ℕ → ℕ → List ℕ → L
 Searchable script words k m table j st = ((se : Search) × Encodes script words k m se) × ((e : Ed) × (t : Tape) × Ready table j st e t)
 
 module _ (script words : List ℕ) (k m : ℕ) (table j : List ℕ) (st : State) where
-  -- v says whether it holds on the current line, or at EOF
+  -- v says whether it holds on the current line, or at EOF, where script and work area hold what is carried
   abbrev pub Tells : Bool → Type 0
-  Tells v = (se : Search) (e : Ed) (t : Tape) → Encodes script words k m se → Ready table j st e t → v ≡ searchHolds se e
+  Tells v = (se : Search) (e : Ed) (c : Carried) (t : Tape) → Encodes script words k m se → Standing script words c → Ready table j st e t → v ≡ searchHolds (wordsOf c) se e
 
   -- what a function answers that made the step `op` with it, the buffer being i then
-  abbrev pub LooksFor : (Search → Op) → List ℕ → Looked → Type 0
-  LooksFor op i r = (se : Search) (e : Ed) (c : Carried) (t : Tape) → Encodes script words k m se → Ready table j st e t → LooksAs i r (step (lent j) (op se) (state e c) t)
-
-  -- the same of one that is told the standing globals
   abbrev pub LooksForCarrying : (Search → Op) → List ℕ → Looked → Type 0
   LooksForCarrying op i r =
       (se : Search) (e : Ed) (c : Carried) (t : Tape) → Encodes script words k m se → Standing script words c → Ready table j st e t
@@ -131,7 +127,7 @@ stepsOf g op i (suc n) s t = further (stepsOf g op (suc i) n) ((step g (op i) s 
 abbrev pub Seeks : List ℕ → Sought → Steps → Type 0
 Seeks j r x = LooksAs j (r .looked) (x .0) × PointOut (x .0 .0) × (r .made ≡ x .1)
 
--- what a function answers that made the steps of `f` with the search in the words from k up to m, told the standing globals
+-- what a function answers that made the steps of `f` with the search in the words from k up to m, told what is carried
 abbrev pub SeeksFor : List ℕ → List ℕ → ℕ → ℕ → List ℕ → List ℕ → State → Seek → ℕ → ℕ → List ℕ → Sought → Type 0
 SeeksFor script words k m table j st f passed left i r =
     (se : Search) (e : Ed) (c : Carried) (t : Tape) → Encodes script words k m se → Standing script words c → Ready table j st e t

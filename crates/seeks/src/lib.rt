@@ -7,7 +7,7 @@ ghost use Rattle.definitions.specs.Edit.{Op, Test, lookOn, lookBack};
 ghost use Rattle.definitions.specs.Control.{lookOp};
 ghost use Rattle.editor.specs.Shows.{ShowsText};
 ghost use Rattle.reading.specs.Carrying.{SomeStand};
-ghost use Rattle.seeks.specs.Looks.{LooksBy, LooksCarrying, LooksOnce, Searchable, Tells, LooksFor, LooksForCarrying};
+ghost use Rattle.seeks.specs.Looks.{LooksBy, LooksCarrying, LooksOnce, Searchable, Tells, LooksForCarrying};
 ghost use Rattle.seeks.specs.Looks.{testOf, seekOf, eofStop, whereFound, whereNot, SeeksFor};
 use editor::Moved;
 use editor::State;
@@ -32,7 +32,7 @@ pub enum Way {
     Deleting,
 }
 
-// Does the search in the words from k to m hold on the current line, with the window from p, or at EOF.
+// Does the search in the words from k to m hold on the current line, with the window from p, or at EOF. The bytes of the word set count for W.
 pub fn holds_here<'a>(
     script: &[u8],
     words: &[u32],
@@ -42,7 +42,7 @@ pub fn holds_here<'a>(
     j: &'a [u8],
     st: State,
 ) -> bool
-    requires { ⌜ Searchable (now script) (now words) k m (now table) (now j) st ⌝ }
+    requires { ⌜ SomeStand (now script) (now words) × Searchable (now script) (now words) k m (now table) (now j) st ⌝ }
     ensures { λ r. ⌜ Tells (now (script .entry)) (now (words .entry)) k m (now (table .entry)) (now (j .entry)) st r ⌝ }
 {
     let at = st.back;
@@ -50,7 +50,7 @@ pub fn holds_here<'a>(
         return matching::search::holds_at_eof(words, k, m);
     }
     let line = editor::current::current_line(table, j, st);
-    matching::search::holds(script, words, k, m, line, st.p)
+    matching::search::holds(script, words, k, m, globals::word_set(words), line, st.p)
 }
 
 // IF and WH, with `holds` true; UL and UT, with `holds` false.
@@ -64,8 +64,8 @@ pub fn test<'a>(
     st: State,
     holds: bool,
 ) -> Looked
-    requires { ⌜ Searchable (now script) (now words) k m (now table) (now j) st ⌝ }
-    ensures { λ r. ⌜ LooksFor (now (script .entry)) (now (words .entry)) k m (now (table .entry)) (now (j .entry)) st (λ se. Op.test (testOf holds se)) (now (j .entry)) r ⌝ }
+    requires { ⌜ SomeStand (now script) (now words) × Searchable (now script) (now words) k m (now table) (now j) st ⌝ }
+    ensures { λ r. ⌜ LooksForCarrying (now (script .entry)) (now (words .entry)) k m (now (table .entry)) (now (j .entry)) st (λ se. Op.test (testOf holds se)) (now (j .entry)) r ⌝ }
 {
     if holds_here(script, words, k, m, table, j, st) == holds {
         return Looked::Yes(st);

@@ -8,18 +8,20 @@ use Rattle.definitions.specs.Tape.{Tape, bind}
 use Rattle.definitions.specs.Given.{Given, Carried, noGlobals}
 use Rattle.definitions.specs.Editor.{Ed, journal, n26, stopNumber, Got, got, stop, moved, edits}
 use Rattle.definitions.specs.Reading.{Ran, gave, stopped, onceRead, hasRoom, readTo}
-use Rattle.definitions.specs.StepProgram.{Program, gives, stops, looks, reads, moves, _>>=_, onceMoved, runs, state, textOf, Did, answers, changes, quits, adds, cancels, Out, on, edited, halt, within, finish, perform}
+use Rattle.definitions.specs.StepProgram.{Program, gives, stops, looks, reads, moves, _>>=_, onceMoved, runs, state, Did, answers, changes, quits, adds, cancels, names, Out, on, edited, halt, within, finish, perform}
+use Rattle.theorems.specs.Words.{carrying}
 use Rattle.editor.specs.Shows.{Answers, Answered}
 use Rattle.editor.specs.declared.Moved.{Moved}
 use Rattle.editor.specs.declared.Moved.the-variants.{On, Stop}
 
--- a program that ends a step neither with one global more nor with none
+-- a program that ends a step neither with one global more nor with none, nor with another word set
 unfoldable pub Calm : Program Did → Type 0
 Calm (gives (answers b)) = Unit {0}
 Calm (gives (changes xs)) = Unit {0}
 Calm (gives quits) = Unit {0}
 Calm (gives (adds x)) = ⊥
 Calm (gives cancels) = ⊥
+Calm (gives (names xs)) = ⊥
 Calm (stops n) = Unit {0}
 Calm (looks f) = (e : Ed) → Calm (f e)
 Calm (reads a m) = Calm m
@@ -54,27 +56,22 @@ calm-runs g c (moves x m) h e t = by (moved x e) (λ e′. calm-runs g c m h e�
     by (got e′) f = unfold onceMoved in (f e′)
     by (stop n) f = unfold onceMoved in tt
 
--- the same outcome with `c` for what is carried on
-unfoldable pub carrying : Carried → Out → Out
-carrying c (on b s) = on b (state (textOf s) c)
-carrying c (edited s) = edited (state (textOf s) c)
-carrying c (halt n s) = halt n (state (textOf s) c)
-
 -- such a program ends alike whatever stands
 finish-carrying : (g : Given) (c : Carried) (x : Ran Did) (t : Tape) → CalmRan x
     → finish g c x t ≡ (carrying c ((finish g noGlobals x t) .0), (finish g noGlobals x t) .1)
-unfolding Calm finish within carrying textOf
+unfolding Calm finish within carrying
 finish-carrying g c (gave (answers b) e) t h = refl
 finish-carrying g c (gave (changes xs) e) t h = by (hasRoom g (journal (edits xs e) t))
   where
     by : (b : Bool)
         → let y = cond {A = Out × Tape} b (edited (state (edits xs e) noGlobals), t) (halt (stopNumber n26) (state e noGlobals), t) in
         cond {A = Out × Tape} b (edited (state (edits xs e) c), t) (halt (stopNumber n26) (state e c), t) ≡ (carrying c (y .0), y .1)
-    by true = unfold carrying textOf in refl
-    by false = unfold carrying textOf in refl
+    by true = unfold carrying in refl
+    by false = unfold carrying in refl
 finish-carrying g c (gave quits e) t h = refl
 finish-carrying g c (gave (adds x) e) t h = absurd h
 finish-carrying g c (gave cancels e) t h = absurd h
+finish-carrying g c (gave (names xs) e) t h = absurd h
 finish-carrying g c (stopped n e) t h = refl
 
 -- THE LAW: a step whose readings are done comes to what it comes to where none stands
@@ -85,8 +82,8 @@ unfolding perform bind
 perform-first g c m calm e t x u q =
     ap (λ (y : Ran Did × Tape). finish g c (y .0) (y .1)) q ∙ finish-carrying g c ((runs g noGlobals m x u) .0) ((runs g noGlobals m x u) .1) (calm-runs g noGlobals m calm x u)
 
-answers-carrying : (c : Carried) (k : List ℕ) (r : Moved) (o : Out) (t : Tape) → Answers k r o t → Answers k r (carrying c o) t
-unfolding Answers carrying textOf
+pub answers-carrying : (c : Carried) (k : List ℕ) (r : Moved) (o : Out) (t : Tape) → Answers k r o t → Answers k r (carrying c o) t
+unfolding Answers carrying
 answers-carrying c k (On s) (on true (state e c′)) t h = h
 answers-carrying c k (On s) (on false (state e c′)) t h = h
 answers-carrying c k (On s) (edited (state e c′)) t h = h

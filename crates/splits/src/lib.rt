@@ -7,8 +7,9 @@ ghost use Rattle.definitions.specs.Bytes.{isLine};
 ghost use Rattle.definitions.specs.Given.{Carried};
 ghost use Rattle.definitions.specs.Edit.{Op, cutAfter};
 ghost use Rattle.editor.specs.Shows.{ShowsText, Completes};
-ghost use Rattle.editor.specs.Current.{IsReady, PerformsOn};
-ghost use Rattle.changes.specs.Current.{sought, HasLine, CompletesAt};
+ghost use Rattle.wordset.specs.Sets.{inSet};
+ghost use Rattle.editor.specs.Current.{IsReady};
+ghost use Rattle.changes.specs.Current.{sought, PerformsTold, HasLine, CompletesAt};
 use changes::look::Place;
 use editor::Moved;
 use editor::State;
@@ -44,8 +45,9 @@ fn cut_here(table: &[u8], j: &mut [u8], st: State, k: usize) -> Moved
     cut_line(j, st, &line[0..n], k)
 }
 
-// SA (after), SB: the line is cut after or before the string.
+// SA (after), SB: the line is cut after or before the string. The bytes of the set count for W.
 pub fn split(
+    set: &[u32],
     table: &[u8],
     j: &mut [u8],
     st: State,
@@ -55,10 +57,10 @@ pub fn split(
     from: usize,
     to: usize,
 ) -> Moved
-    requires { ⌜ IsReady (now table) (now j) st × (from ≤ to) × (to ≤ length (now script)) ⌝ }
-    ensures { λ r. ⌜ PerformsOn (now (table .entry)) (now (j .entry)) st (Op.split after (sought q (now (script .entry)) from to)) (now (j .exit)) r ⌝ }
+    requires { ⌜ (3 ≤ length (now set)) × IsReady (now table) (now j) st × (from ≤ to) × (to ≤ length (now script)) ⌝ }
+    ensures { λ r. ⌜ PerformsTold (inSet (now (set .entry)) 0) (now (table .entry)) (now (j .entry)) st (Op.split after (sought q (now (script .entry)) from to)) (now (j .exit)) r ⌝ }
 {
-    let place = changes::look::place_here(table, j, st, q, script, from, to);
+    let place = changes::look::place_here(set, table, j, st, q, script, from, to);
     match place {
         Place::Nowhere(n) => Moved::Stop(n, st),
         Place::At(i) => cut_here(table, j, st, changes::point_by(after, i, to - from)),

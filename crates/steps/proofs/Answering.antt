@@ -7,7 +7,7 @@ use native.Mathlib.Omega.{arith}
 use Rattle.definitions.specs.Tape.{Tape}
 use Rattle.definitions.specs.Given.{Carried}
 use Rattle.definitions.specs.Editor.{Ed}
-use Rattle.definitions.specs.StepProgram.{runs, state}
+use Rattle.definitions.specs.StepProgram.{runs, state, wordsIn}
 use Rattle.definitions.specs.Edit.{Op, onlyStep, test, isEof, begin, beginBack, goesOn, program, step}
 use Rattle.definitions.specs.Control.{Ctl}
 use Rattle.items.specs.Words.{OpAt}
@@ -23,7 +23,7 @@ use Rattle.seeks.specs.declared.Looked.the-variants.{Yes}
 use Rattle.seeks.specs.declared.Sought.{Sought}
 use Rattle.seeks.specs.declared.Way.{Way}
 use Rattle.seeks.specs.declared.Way.the-variants.{Forward, Backward, Deleting}
-use Rattle.globals.specs.Standing.{StandingBelow}
+use Rattle.globals.specs.Standing.{StandingBelow, Standing}
 use Rattle.seeks.specs.Looks.{LooksAs, LooksOnce, testOf, seekOf}
 use Rattle.seeks.proofs.Looking.{says-yes}
 use Rattle.seeks.proofs.Carrying.{LeavesOp, step-leaves, round-leaves, test-leaves, begin-leaves, begin-back-leaves}
@@ -31,7 +31,7 @@ use Rattle.steps.specs.Steps.{askTest, askLook, LooksAsked, AsksSome, Co
 use Rattle.steps.proofs.Asked.{wanted-asked}
 use Rattle.steps.proofs.OneStep.{Comes, one-comes}
 use Rattle.steps.proofs.Searches.{search-comes}
-use Rattle.steps.proofs.Globals.{room-below}
+use Rattle.steps.proofs.Globals.{stands-below, room-below}
 use Rattle.steps.proofs.Views.{Means, asks-as, asks-test, as-asked}
 
 -- a simple command that is wanted is good, and its words are in the work area
@@ -55,7 +55,7 @@ command-at s w end x from op c₁ c₀ c q h stand = by (asks-as s w end x op (h
 
 -- a round changes nothing
 round-looks : (j : List ℕ) (st : State) → LooksOnce j st onlyStep j (Yes st)
-unfolding step program goesOn runs
+unfolding step wordsIn program goesOn runs
 round-looks j st e c t h = says-yes (lent j) c goesOn e t refl h
 
 module _ (s w : List ℕ) (x : Wanted) (table j w′ k : List ℕ) (st : State) (left : ℕ) (r : Looked) (z : Sought) (once : z ≡ record { looked = r; made = 1 }) where
@@ -65,22 +65,22 @@ module _ (s w : List ℕ) (x : Wanted) (table j w′ k : List ℕ) (st : State) 
   -- one that leaves the globals, and no word is written
   module _ (stays : w′ ≡ w) where
     made-once : ((end : ℕ) (op : Op) → Asks s w end x op → LeavesOp op)
-        → ((end : ℕ) (op : Op) (e : Ed) (c : Carried) (t : Tape) → Asks s w end x op → Ready table j st e t → LooksAs k r (step (lent j) op (state e c) t))
+        → ((end : ℕ) (op : Op) (e : Ed) (c : Carried) (t : Tape) → Asks s w end x op → Standing s w c → Ready table j st e t → LooksAs k r (step (lent j) op (state e c) t))
         → MadeOnce s w x table j st left w′ k z
     made-once leaves f end from op c₁ c₀ e c t h stand ready =
-        rw once (f end op e c t (h .asks) ready, refl, rw (stays, step-leaves (lent j) op e c t (leaves end op (h .asks))) stand)
+        rw once (f end op e c t (h .asks) (stands-below s w end c stand) ready, refl, rw (stays, step-leaves (lent j) op e c t (leaves end op (h .asks))) stand)
 
     -- one that is known
     made-known : (ask : Ask) → x .what ≡ ask → (op : Op) → LeavesOp op → ((end : ℕ) (a : Op) → Means s w end x ask a → a ≡ op) → LooksOnce j st op k r → MadeOnce s w x table j st left w′ k z
     made-known ask q op leaves meant f =
         made-once (λ end a i. rw (meant end a (asks-as s w end x a i ask q)) leaves)
-        (λ end a e c t i ready. rw (meant end a (asks-as s w end x a i ask q)) (f e c t (ready .shows)))
+        (λ end a e c t i stands ready. rw (meant end a (asks-as s w end x a i ask q)) (f e c t (ready .shows)))
 
-    test-once : (v : Bool) → x .what ≡ askTest v → LooksAsked (AsksSome s w x) table j st k r → MadeOnce s w x table j st left w′ k z
+    test-once : (v : Bool) → x .what ≡ askTest v → LooksAsked s w (AsksSome s w x) table j st k r → MadeOnce s w x table j st left w′ k z
     test-once v q f =
         made-once (λ end op i. let y = asks-test s w end x op i v q in rw (y .2) (test-leaves (testOf v (y .0)))) (λ end op e c t i. f op e c t (end, i))
 
-    pub after-test : (v : Bool) → x .what ≡ askTest v → LooksAsked (AsksSome s w x) table j st k r → AnswersStep s w x table j st left w′ k z
+    pub after-test : (v : Bool) → x .what ≡ askTest v → LooksAsked s w (AsksSome s w x) table j st k r → AnswersStep s w x table j st left w′ k z
     unfolding Made askTest
     after-test true q f = asked Holds q (test-once true q f)
     after-test false q f = asked HoldsNot q (test-once false q f)

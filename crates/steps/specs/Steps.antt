@@ -47,21 +47,22 @@ askLook Deleting = FindDelete
 abbrev pub Asking : (Op → Type 0) → List ℕ → List ℕ → State → Type 0
 Asking P table j st = ((op : Op) × P op) × IsReady table j st
 
--- what a function answers that made the step which is asked, the buffer being k then
-abbrev pub LooksAsked : (Op → Type 0) → List ℕ → List ℕ → State → List ℕ → Looked → Type 0
-LooksAsked P table j st k r = (op : Op) (e : Ed) (c : Carried) (t : Tape) → P op → Ready table j st e t → LooksAs k r (step (lent j) op (state e c) t)
+-- what a function answers that made the step which is asked, the buffer being k then, where script and work area hold what is carried
+abbrev pub LooksAsked : List ℕ → List ℕ → (Op → Type 0) → List ℕ → List ℕ → State → List ℕ → Looked → Type 0
+LooksAsked s w P table j st k r =
+    (op : Op) (e : Ed) (c : Carried) (t : Tape) → P op → Standing s w c → Ready table j st e t → LooksAs k r (step (lent j) op (state e c) t)
 
 -- the step x asks it, of items below some place
 abbrev pub AsksSome : List ℕ → List ℕ → Wanted → Op → Type 0
 AsksSome s w x op = (end : ℕ) × Asks s w end x op
 
--- ---- the globals that stand, of items below `end` (document 02, wish 2)
+-- ---- what is carried: the globals that stand, of items below `end`, and the word set (document 02, wishes 2 and 8)
 
--- some do, or none
+-- something is
 abbrev pub SomeBelow : List ℕ → List ℕ → ℕ → Type 0
 SomeBelow s w end = (c : Carried) × StandingBelow s w end c
 
--- the words w hold those that stand after a step
+-- the words w hold what is carried after a step
 abbrev pub Carries : List ℕ → List ℕ → ℕ → Out → Type 0
 Carries s w end out = StandingBelow s w end (carriedOf out)
 

@@ -2,7 +2,8 @@
 ghost use mathlib.Core.Path.{_≡_};
 ghost use Prim.Native.Nat.{_+_, _≤_, _<_};
 ghost use lib.ListN.{length, getD};
-ghost use Rattle.globals.specs.Standing.{OnlyGlobals};
+ghost use Rattle.globals.specs.Standing.{OnlyCarried};
+ghost use Rattle.reading.specs.Carrying.{SomeStand};
 ghost use Rattle.steps.specs.Steps.{askTest, askLook, Asking, LooksAsked, AsksSome, Commanding, Commanded, Wanting, AnswersStep};
 use control::Ask;
 use control::Wanted;
@@ -11,6 +12,7 @@ use editor::State;
 use items::heads::is_global;
 use items::heads::kind_of;
 use items::kinds::CANCEL;
+use items::kinds::WORD_SET;
 use seeks::Looked;
 use seeks::Sought;
 use seeks::Way;
@@ -40,8 +42,8 @@ fn test<'a>(
     st: State,
     holds: bool,
 ) -> Looked
-    requires { ⌜ Asking (AsksSome (now script) (now w) x) (now table) (now j) st × (x .what ≡ askTest holds) ⌝ }
-    ensures { λ r. ⌜ LooksAsked (AsksSome (now (script .entry)) (now (w .entry)) x) (now (table .entry)) (now (j .entry)) st (now (j .entry)) r ⌝ }
+    requires { ⌜ SomeStand (now script) (now w) × Asking (AsksSome (now script) (now w) x) (now table) (now j) st × (x .what ≡ askTest holds) ⌝ }
+    ensures { λ r. ⌜ LooksAsked (now (script .entry)) (now (w .entry)) (AsksSome (now (script .entry)) (now (w .entry)) x) (now (table .entry)) (now (j .entry)) st (now (j .entry)) r ⌝ }
 {
     let item = x.item;
     let k = item + 2;
@@ -89,7 +91,7 @@ fn search(
     }
 }
 
-// A simple command. GE, GA, GB and CG change the globals that stand, and nothing else; a seventeenth stops with 31.
+// A simple command. GE, GA, GB and CG change the globals that stand, WORD the word set, and nothing else; a seventeenth global stops with 31.
 fn command(
     script: &[u8],
     table: &[u8],
@@ -100,7 +102,7 @@ fn command(
 ) -> Looked
     requires { ⌜ Commanding (now script) (now w) item (now table) (now j) st ⌝ }
     ensures { λ r. ⌜ Commanded (now (script .entry)) (now (w .entry)) item (now (table .entry)) (now (j .entry)) st (now (w .exit)) (now (j .exit)) r ⌝ }
-    ensures { λ r. ⌜ OnlyGlobals (now (w .entry)) (now (w .exit)) ⌝ }
+    ensures { λ r. ⌜ OnlyCarried (now (w .entry)) (now (w .exit)) ⌝ }
 {
     let kind = kind_of(w, item);
     if is_global(kind) {
@@ -111,6 +113,10 @@ fn command(
     }
     if kind == CANCEL {
         globals::forget(w);
+        return Looked::Yes(st);
+    }
+    if kind == WORD_SET {
+        globals::name_words(w, item);
         return Looked::Yes(st);
     }
     let r = commands::perform(script, table, w, item, j, st);
@@ -132,7 +138,7 @@ pub fn answer_step(
 ) -> Sought
     requires { ⌜ Wanting (now script) (now w) x (now table) (now j) st × (1 ≤ left) × (x .lines + left ≤ 18446744073709551615) ⌝ }
     ensures { λ r. ⌜ AnswersStep (now (script .entry)) (now (w .entry)) x (now (table .entry)) (now (j .entry)) st left (now (w .exit)) (now (j .exit)) r ⌝ }
-    ensures { λ r. ⌜ OnlyGlobals (now (w .entry)) (now (w .exit)) ⌝ }
+    ensures { λ r. ⌜ OnlyCarried (now (w .entry)) (now (w .exit)) ⌝ }
 {
     let what = x.what;
     match what {

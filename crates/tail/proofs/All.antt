@@ -6,11 +6,12 @@ use mathlib.Core.List.{List, [], _∷_, _++_, map, append-nil}
 use lib.ListN.{length}
 use Rattle.definitions.specs.Bytes.{Line}
 use Rattle.definitions.specs.Journal.{Record, kept}
-use Rattle.definitions.specs.Tape.{Tape, unread, ended, restLines}
+use Rattle.definitions.specs.Tape.{Tape, unread, ended, restLines, Reads}
 use Rattle.definitions.specs.Given.{Given, Carried, noGlobals}
 use Rattle.definitions.specs.Editor.{Ed, ed, beforeOf, afterOf, records, journal, sources, n20, n21, n22, n23, n24, n25, n26, n27, n28, n30, n31, stopNumber, eof}
 use Rattle.definitions.specs.Editor.{Stop as StopNumber}
 use Rattle.definitions.specs.Reading.{Ran, gave, stopped, readLines, readTo}
+use Rattle.theorems.specs.Words.{NoGlobal, none-reads}
 use Rattle.theorems.specs.ReadLines.{seenAll, read-eof, runs-read, lines-ended}
 use Rattle.theorems.specs.RecordLaws.{sources-reverse}
 use Rattle.editor.specs.Shows.{Shows, lent, Walks, toSource}
@@ -46,10 +47,10 @@ unfolding seenAll records
 seen-journal (ed b a p) t = journal-is b a p t
 
 -- no global stands
-pub none-passed : {j : List ℕ} {st : State} (g : Given) (e : Ed) (c : Carried) (t : Tape) → c ≡ noGlobals → Shows j st e t → RestLeft j (On st) (journal e t) ((readTo g c eof e t) .0)
+pub none-passed : {j : List ℕ} {st : State} (g : Given) (e : Ed) (c : Carried) (t : Tape) → NoGlobal c → Shows j st e t → RestLeft j (On st) (journal e t) ((readTo g c eof e t) .0)
 none-passed {j} {st} g e c t none h =
     let all : readTo g c eof e t ≡ (gave tt (seenAll (restLines t) e), ended) =
-    ap (λ (x : Carried). readTo g x eof e t) none ∙ sym (runs-read g noGlobals eof e t) ∙ read-eof g e t in
+    ap (λ (r : Reads (Ran (Unit {0}))). r t) (none-reads g c none eof e) ∙ sym (runs-read g noGlobals eof e t) ∙ read-eof g e t in
     left-on j st (journal e t) ((readTo g c eof e t) .0) (seenAll (restLines t) e) (ap (λ (x : Ran (Unit {0}) × Tape). x .0) all) (rw (seen-journal e t) (holds-journal e t h))
 
 -- EOF is read

@@ -1,12 +1,19 @@
 -- Laws of parts, `part a e s`: the bytes of s from a up to e. Assumes nothing.
 use mathlib.Core.Path.{_≡_, sym, ap, _∙_}
 use mathlib.Core.List.{List, [], _∷_, _++_}
-use Prim.Native.Nat.{ℕ, suc, _+_, _-_, _≤_, _<_}
+use Prim.Native.Nat.{ℕ, zero, suc, _+_, _-_, _≤_, _<_}
 use native.Mathlib.Numerals.{add-one}
 use native.Mathlib.Omega.{arith}
 use lib.ListN.{length, take, drop, getD, length-take, length-drop, take-append-drop}
-use lib.Seq.{drop-cons, drop-drop, take-add, take-at, drop-at}
+use lib.Seq.{take-nil, drop-cons, drop-drop, take-add, take-at, drop-at}
 use Rattle.text.specs.Lines.{part}
+
+-- what is left of the first n bytes
+pub drop-take : (i n : ℕ) (l : List ℕ) → drop i (take n l) ≡ take (n - i) (drop i l)
+drop-take zero n l = let z : n - 0 ≡ n = omega arith in rw z
+drop-take (suc i) zero l = let z : 0 - suc i ≡ 0 = omega arith in rw z
+drop-take (suc i) (suc n) [] = sym (take-nil (suc n - suc i))
+drop-take (suc i) (suc n) (x ∷ l) = let z : suc n - suc i ≡ n - i = omega arith in rw z (drop-take i n l)
 
 pub part-length : (s : List ℕ) (a e : ℕ) → e ≤ length s → length (part a e s) ≡ e - a
 part-length s a e h = simp (length-take, length-drop) (omega arith)

@@ -1,7 +1,7 @@
 -- Demand 3 of the function `zed_run`: its contract, and demand 3 of the values that a caller sees. Assumes nothing.
 use mathlib.Core.Path.{_≡_, sym, _∙_}
 use mathlib.Core.Logic.{_⊎_, inl, inr}
-use Prim.Native.Nat.{ℕ, _≤_}
+use Prim.Native.Nat.{ℕ}
 use native.Mathlib.Omega.{arith}
 use lib.ListN.{length}
 use Rattle.definitions.specs.Run.{Answer, answer, refusal, answerNumber, answerSteps, answerFurthest, answerLength, answerPlace, answerRecords, bufferAfter, outcomeFrom}
@@ -39,12 +39,14 @@ pub number-is : (c : Call) → Returned c → number c ≡ answerNumber (ran c)
 unfolding values
 number-is c h = rw (h .answers)
 
--- an accepted answer's number is 0 or at least 20, and a refusal's is neither
-end-number : (a : Answer) → Numbered a → (n : ℕ) → n ≡ answerNumber a → (n ≡ 0) ⊎ (20 ≤ n) → EndNumber (answerNumber a)
+-- an accepted answer's number is 0 or 20 to 31, and a refusal's is neither
+end-number : (a : Answer) → Numbered a → (n : ℕ) → n ≡ answerNumber a → EndNumber n → EndNumber (answerNumber a)
 unfolding Numbered answerNumber
 end-number (answer m steps f at j) h n q k = h
-end-number (refusal m at) h n q (inl z) = absurd (omega (arith, q, z, h .0))
-end-number (refusal m at) h n q (inr z) = absurd (omega (arith, q, z, h .1))
+end-number (refusal m at) (inl h) n q (inl z) = absurd (omega (arith, q, z, h .0))
+end-number (refusal m at) (inl h) n q (inr z) = absurd (omega (arith, q, z .0, h .1))
+end-number (refusal m at) (inr h) n q (inl z) = absurd (omega (arith, q, z, h))
+end-number (refusal m at) (inr h) n q (inr z) = absurd (omega (arith, q, z .1, h))
 
 pub is-accepted : (c : Call) → Returned c → Accepted c → IsAccepted (defined (valued c))
 unfolding runOf
@@ -84,8 +86,8 @@ zed-demand3 c h k =
 told : (c : Call) (a : Answer) → Numbered a → c .answer ≡ values a → c .journal ≡ bufferAfter (c .buffer) a → Accepted c ⊎ Refused c
 unfolding Numbered values answerNumber answerSteps answerFurthest answerLength answerPlace bufferAfter
 told c (answer n steps f at j) (inl z) q b = inl (inl (rw q z))
-told c (answer n steps f at j) (inr z) q b = inl (inr (rw q (z .0)))
-told c (refusal n at) h q b = inr (record { least = rw q (h .0); most = rw q (h .1); no-steps = rw q; nothing-read = rw q; no-journal = rw q; untouched = b })
+told c (answer n steps f at j) (inr z) q b = inl (inr (rw q z))
+told c (refusal n at) h q b = inr (record { refusal = rw q h; no-steps = rw q; nothing-read = rw q; no-journal = rw q; untouched = b })
 
 pub number-tells : NumberTells
 number-tells c h = told c (ran c) (numbered c h) (h .answers) (h .journals)

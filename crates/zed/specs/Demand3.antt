@@ -1,5 +1,5 @@
 -- Demand 3 of `zed_run`, which C programs call: its result, the five numbers in `answer`, and the bytes of the journal buffer. One statement, with the terms
--- of document 01 ("Tables and the journal", from "In demand 3") and of document 02, wishes 2 and 6.
+-- of document 01 ("Tables and the journal", from "In demand 3") and of document 02, wishes 2, 6 and 8.
 use mathlib.Core.Path.{_≡_}
 use mathlib.Core.Logic.{_⊎_}
 use mathlib.Core.Option.{some}
@@ -56,14 +56,13 @@ long c = getD (c .answer) 3 0
 abbrev pub place : Call → ℕ
 place c = getD (c .answer) 4 0
 
--- "a table, script, budget, work area and journal buffer together" are accepted "if their run is not refused": the number is 0 or at least 20
+-- "a table, script, budget, work area and journal buffer together" are accepted "if their run is not refused": the number is 0, or 20 to 31
 abbrev pub Accepted : Call → Type 0
-Accepted c = (number c ≡ 0) ⊎ (20 ≤ number c)
+Accepted c = (number c ≡ 0) ⊎ ((20 ≤ number c) × (number c ≤ 31))
 
--- "Refused: the journal buffer is untouched; steps, furthest and length are 0": the number is 1 to 9
+-- "Refused: the journal buffer is untouched; steps, furthest and length are 0": the number is 1 to 9, or 33 (document 02, wish 8)
 pub record Refused (c : Call) : Type 0 where
-  pub least : 1 ≤ number c
-  pub most : number c ≤ 9
+  pub refusal : ((1 ≤ number c) × (number c ≤ 9)) ⊎ (number c ≡ 33)
   pub no-steps : steps c ≡ 0
   pub nothing-read : furthest c ≡ 0
   pub no-journal : long c ≡ 0

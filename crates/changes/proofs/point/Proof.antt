@@ -1,3 +1,4 @@
+use Rattle.wordset.specs.Sets.{inSet}
 use Rattle.changes.proofs.Commands.{has-place, has-short, point-stop, point-found}
 use borrow.Author.Needs.{needs}
 use Rattle.changes.proofs.point.Statement.{statement}
@@ -16,19 +17,19 @@ sub-point-by : tie.Need-sub-point-by
 sub-point-by c = search needs
 
 point-by-requires : tie.Need-point-by-requires
-point-by-requires c κs = let s = c .before .before .before .before .before .before .before in
-    has-short (has-place _ (s .args .script .now) (s .args .from) (s .args .to) (s .pre .2) _ (c .before .before .before .place-here .ensures) _ (c .before .place2 .given .1) (s .pre .0))
+point-by-requires c κs = let s = c .before .before .before .before .before .before .before .before in
+    has-short (has-place (inSet (s .args .set .now) 0) _ (s .args .script .now) (s .args .from) (s .args .to) (s .pre .3) _ (c .before .before .before .place-here .ensures) _ (c .before .place2 .given .1) (s .pre .1))
 
 point-to-requires : tie.Need-point-to-requires
 point-to-requires c κs = search needs
 
 returns : tie.Need-returns
-returns c = let s = c .before .before .before .before .before .before .before in
-    point-stop _ (s .args .script .now) (s .args .from) (s .args .to) (s .pre .2) _ (c .before .before .before .place-here .ensures) _ _ (c .before .place .given .1)
+returns c = let s = c .before .before .before .before .before .before .before .before in
+    point-stop (inSet (s .args .set .now) 0) _ (s .args .script .now) (s .args .from) (s .args .to) (s .pre .3) _ (c .before .before .before .place-here .ensures) _ _ (c .before .place .given .1)
 
 returns-2 : tie.Need-returns-2
-returns-2 c = let s = c .before .before .before .before .before .before .before .before .before in
-    point-found _ (s .args .script .now) (s .args .from) (s .args .to) (s .pre .2) _ (c .before .before .before .before .before .place-here .ensures) _ (c .before .before .before .place2 .given .1) _ _ _ (c .before .point-by .ensures) (c .point-to .ensures)
+returns-2 c = let s = c .before .before .before .before .before .before .before .before .before .before in
+    point-found (inSet (s .args .set .now) 0) _ (s .args .script .now) (s .args .from) (s .args .to) (s .pre .3) _ (c .before .before .before .before .before .place-here .ensures) _ (c .before .before .before .place2 .given .1) _ _ _ (c .before .point-by .ensures) (c .point-to .ensures)
 
 pub point-spec : {M : Type 1} → statement M
 point-spec =

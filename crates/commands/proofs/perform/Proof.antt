@@ -19,13 +19,13 @@ of-two-words-requires : tie.Need-of-two-words-requires
 of-two-words-requires c κs = ((c .before .before .before .before .before .before .before .before .pre .0), (c .before .before .before .before .before .before .before .before .pre .1), (c .before .before .before .before .before .before .before .before .pre .3), (c .before .before .before .kind-of .ensures), (sym (c .before .before .shape-of .ensures) ∙ c .before .match .keys2))
 
 of-four-words-requires : tie.Need-of-four-words-requires
-of-four-words-requires c κs = ((c .before .before .before .before .before .before .before .before .pre .0), (c .before .before .before .before .before .before .before .before .pre .1), ready-text (c .before .before .before .before .before .before .before .before .pre .3), (c .before .before .before .kind-of .ensures), (sym (c .before .before .shape-of .ensures) ∙ c .before .match .keys3))
+of-four-words-requires c κs = ((c .before .before .before .before .before .before .before .before .pre .0), (c .before .before .before .before .before .before .before .before .pre .1), ready-text (c .before .before .before .before .before .before .before .before .pre .3), (c .before .before .before .kind-of .ensures), (sym (c .before .before .shape-of .ensures) ∙ c .before .match .keys3), (λ q. c .before .before .before .before .before .before .before .before .pre .2 .2 (sym (c .before .before .before .kind-of .ensures) ∙ q)))
 
 aims-requires : tie.Need-aims-requires
-aims-requires c κs = ((c .before .before .before .before .before .before .before .before .pre .0), (c .before .before .before .before .before .before .before .before .pre .3), (c .before .before .before .kind-of .ensures), (sym (c .before .before .shape-of .ensures) ∙ c .before .match .keys4))
+aims-requires c κs = ((c .before .before .before .before .before .before .before .before .pre .0), (c .before .before .before .before .before .before .before .before .pre .1), (c .before .before .before .before .before .before .before .before .pre .3), (c .before .before .before .kind-of .ensures), (sym (c .before .before .shape-of .ensures) ∙ c .before .match .keys4))
 
 alters-requires : tie.Need-alters-requires
-alters-requires c κs = ((c .before .before .before .before .before .before .before .before .pre .0), (c .before .before .before .before .before .before .before .before .pre .3), (c .before .before .before .kind-of .ensures), (let n = c .before .match .rest in changes-left _ _ _ _ (c .before .before .before .kind-of .ensures) _ (c .before .before .shape-of .ensures) (n .0 .0 .0 .1) (n .0 .0 .1) (n .0 .1) (n .1) (c .before .before .before .before .before .before .before .before .pre .0)), ap isGlobal (c .before .before .before .kind-of .ensures) ∙ (c .before .before .before .before .before .before .before .before .pre .2 .0))
+alters-requires c κs = ((c .before .before .before .before .before .before .before .before .pre .0), (c .before .before .before .before .before .before .before .before .pre .1), (c .before .before .before .before .before .before .before .before .pre .3), (c .before .before .before .kind-of .ensures), (let n = c .before .match .rest in changes-left _ _ _ _ (c .before .before .before .kind-of .ensures) _ (c .before .before .shape-of .ensures) (n .0 .0 .0 .1) (n .0 .0 .1) (n .0 .1) (n .1) (c .before .before .before .before .before .before .before .before .pre .0)), ap isGlobal (c .before .before .before .kind-of .ensures) ∙ (c .before .before .before .before .before .before .before .before .pre .2 .0))
 
 same-length : tie.Need-same-length
 same-length c = search needs

@@ -3,6 +3,7 @@ use Prim.Native.Nat.{_+_, _-_}
 use native.Mathlib.Omega.{arith}
 use lib.ListN.{length, take}
 use borrow.Author.Needs.{needs}
+use Rattle.items.specs.Reserve.{reserve}
 use Rattle.globals.proofs.Through.{Acted, none-acted, ended-word, ended-all, its-global, acts, act-long, act-few, has-reserve}
 use Rattle.globals.proofs.pass.Statement.{statement}
 use Rattle.globals.proofs.pass.Tie as tie
@@ -48,7 +49,7 @@ sub-apply c =
 cast-apply : tie.Need-cast-apply Inv-loop μ-loop
 cast-apply c =
     let l = c .before .before .before in
-    omega (arith, c .before .shared-slice-known3 .given (length (l .before .before .before .before .args .w .now) - 48 + l .loop .i))
+    omega (arith, c .before .shared-slice-known3 .given (length (l .before .before .before .before .args .w .now) - reserve + l .loop .i))
 
 apply-requires : tie.Need-apply-requires Inv-loop μ-loop
 apply-requires c κs =

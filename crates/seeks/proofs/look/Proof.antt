@@ -21,7 +21,7 @@ same-length c = search needs
 returns-2 : tie.Need-returns-2
 returns-2 c =
     λ se e x t w g h.
-    look-found _ _ se _ e x t (h .shows) (c .before .before .before .before .before .before .before .if1 .left) _ (c .before .before .before .before .before .holds-here .ensures se e t w h) (c .before .before .before .before .if2 .taken) _ _
+    look-found _ _ se _ e x t (h .shows) (c .before .before .before .before .before .before .before .if1 .left) _ (c .before .before .before .before .before .holds-here .ensures se e x t w g h) (c .before .before .before .before .if2 .taken) _ _
     (c .before .before .found .ensures e x t (h .shows))
 
 look-further-requires : tie.Need-look-further-requires
@@ -36,7 +36,7 @@ same-length-2 c = search needs
 returns-3 : tie.Need-returns-3
 returns-3 c =
     λ se e x t w g h.
-    look-not _ _ se _ e x t (h .shows) (c .before .before .before .before .before .before .before .if1 .left) _ (c .before .before .before .before .before .holds-here .ensures se e t w h) (c .before .before .before .before .if2 .left) _ _
+    look-not _ _ se _ e x t (h .shows) (c .before .before .before .before .before .before .before .if1 .left) _ (c .before .before .before .before .before .holds-here .ensures se e x t w g h) (c .before .before .before .before .if2 .left) _ _
     (c .before .before .look-further .ensures e x t g (h .shows))
 
 pub look-spec : {M : Type 1} → statement M

@@ -7,10 +7,10 @@ holds-here-requires : tie.Need-holds-here-requires
 holds-here-requires c κs = search needs
 
 returns : tie.Need-returns
-returns c = λ se e x t w h. holds-yes _ x _ _ se e t (h .shows) (c .before .holds-here .ensures se e t w h) (c .if1 .taken)
+returns c = λ se e x t w g h. holds-yes _ x _ _ se e t (h .shows) (c .before .holds-here .ensures se e x t w g h) (c .if1 .taken)
 
 returns-2 : tie.Need-returns-2
-returns-2 c = λ se e x t w h. holds-no _ x _ _ se e t (h .shows) (c .before .holds-here .ensures se e t w h) (c .if1 .left)
+returns-2 c = λ se e x t w g h. holds-no _ x _ _ se e t (h .shows) (c .before .holds-here .ensures se e x t w g h) (c .if1 .left)
 
 pub test-spec : {M : Type 1} → statement M
 test-spec = tie.close (tie.spec holds-here-requires returns returns-2)

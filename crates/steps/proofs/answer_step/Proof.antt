@@ -5,7 +5,7 @@ use mathlib.Core.List.{List, [], _∷_}
 use Prim.Native.Nat.{ℕ}
 use types.Run.{miss}
 use Rattle.steps.specs.Steps.{askTest}
-use Rattle.steps.proofs.Globals.{same-only}
+use Rattle.steps.proofs.Globals.{below-stands, same-only}
 use Rattle.steps.proofs.Views.{look-asked}
 use Rattle.steps.proofs.Answering.{command-at, after-test, after-command, after-eof, after-begin, after-begin-back, after-round}
 use borrow.Author.Needs.{needs}
@@ -23,7 +23,7 @@ enum-told-2 c = search needs
 
 test-requires : tie.Need-test-requires
 unfolding askTest
-test-requires c κs = let p = c .before .before .before .before .before .before .before .before .pre .0 in (((p .0 .2, (p .0 .0, p .0 .5 .asks)), p .1), c .before .before .enum-told2 .given .1)
+test-requires c κs = let p = c .before .before .before .before .before .before .before .before .pre .0 in (below-stands _ _ _ (p .0 .6), ((p .0 .2, (p .0 .0, p .0 .5 .asks)), p .1), c .before .before .enum-told2 .given .1)
 
 once-requires-2 : tie.Need-once-requires-2
 once-requires-2 c κs = search needs
@@ -33,7 +33,7 @@ enum-told-3 c = search needs
 
 test-requires-2 : tie.Need-test-requires-2
 unfolding askTest
-test-requires-2 c κs = let p = c .before .before .before .before .before .before .before .before .pre .0 in (((p .0 .2, (p .0 .0, p .0 .5 .asks)), p .1), c .before .before .enum-told3 .given .1)
+test-requires-2 c κs = let p = c .before .before .before .before .before .before .before .before .pre .0 in (below-stands _ _ _ (p .0 .6), ((p .0 .2, (p .0 .0, p .0 .5 .asks)), p .1), c .before .before .enum-told3 .given .1)
 
 once-requires-3 : tie.Need-once-requires-3
 once-requires-3 c κs = search needs

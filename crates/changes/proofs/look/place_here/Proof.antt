@@ -5,10 +5,10 @@ use Rattle.changes.proofs.look.place_here.Statement.{statement}
 use Rattle.changes.proofs.look.place_here.Tie as tie
 
 returns : tie.Need-returns
-returns c = finds-eof _ _ _ _ (c .if1 .taken)
+returns c = finds-eof _ _ _ _ _ (c .if1 .taken)
 
 current-line-requires : tie.Need-current-line-requires
-current-line-requires c κs = let w = c .before .before .before .before .pre .0 in
+current-line-requires c κs = let w = c .before .before .before .before .before .pre .1 in
     ((w .0, w .1, w .2 .shows, w .2 .old), c .if1 .left)
 
 sub-find : tie.Need-sub-find
@@ -21,8 +21,10 @@ part-find-end : tie.Need-part-find-end
 part-find-end c = search needs
 
 find-requires : tie.Need-find-requires
-find-requires c κs = let w = c .before .before .before .before .before .before .pre .0 in
-    line-window (c .before .before .if1 .left) (w .0) (w .1) (w .2 .shows) (w .2 .point) _ (c .before .current-line .ensures (w .0) (w .1) (w .2 .shows) (w .2 .old))
+find-requires c κs = let w = c .before .before .before .before .before .before .before .pre .1 in (
+  c .before .before .before .before .before .before .before .pre .0,
+  line-window (c .before .before .if1 .left) (w .0) (w .1) (w .2 .shows) (w .2 .point) _ (c .before .current-line .ensures (w .0) (w .1) (w .2 .shows) (w .2 .old)),
+)
 
 enum-known-found : tie.Need-enum-known-found
 enum-known-found c = search needs
@@ -31,10 +33,10 @@ enum-told : tie.Need-enum-told
 enum-told c = search needs
 
 returns-2 : tie.Need-returns-2
-returns-2 c = finds-on _ _ _ _ (c .before .before .before .before .before .before .if1 .left) _ (c .before .before .before .before .before .current-line .ensures) _ (c .before .before .before .find .ensures) _ (c .before .found .given .1)
+returns-2 c = finds-on _ _ _ _ _ (c .before .before .before .before .before .before .if1 .left) _ (c .before .before .before .before .before .current-line .ensures) _ (c .before .before .before .find .ensures) _ (c .before .found .given .1)
 
 returns-3 : tie.Need-returns-3
-returns-3 c = finds-none _ _ _ _ (c .before .before .before .before .before .if1 .left) _ (c .before .before .before .before .current-line .ensures) _ (c .before .before .find .ensures) (c .enum-told .given .1)
+returns-3 c = finds-none _ _ _ _ _ (c .before .before .before .before .before .if1 .left) _ (c .before .before .before .before .current-line .ensures) _ (c .before .before .find .ensures) (c .enum-told .given .1)
 
 pub place-here-spec : {M : Type 1} → statement M
 place-here-spec =

@@ -3,7 +3,7 @@ use mathlib.Core.Path.{refl, sym, _∙_}
 use native.Mathlib.Omega.{arith}
 use Rattle.items.specs.Ends.{isOneWord}
 use Rattle.items.proofs.Meaning.{first-in, second-in}
-use Rattle.commands.proofs.Performed.{anyhow, plainly, plainly-joins, words-room, without-table, ready-shown, ready-text}
+use Rattle.commands.proofs.Performed.{anyhow, plain-move, plain-delete, plainly, plainly-joins, words-room, without-table, ready-shown, ready-text}
 use Rattle.commands.proofs.Lined.{string-in, moves-as, string-as, joins-as, deletes-as}
 use borrow.Author.Needs.{needs}
 use Rattle.commands.proofs.lines.of_two_words.Statement.{statement}
@@ -34,7 +34,7 @@ same-length : tie.Need-same-length
 same-length c = search needs
 
 returns : tie.Need-returns
-returns c = without-table _ _ (moves-as _ _ _ _ (c .before .before .before .before .before .before .before .before .before .before .before .before .pre .3) _ _ _ _ (c .before .before .before .before .before .before .if1 .taken) (plainly _ _ _ (sym (c .before .before .before .before .before .none-stands .ensures) ∙ c .before .before .before .before .if2 .taken) (c .before .before .move-to .ensures)))
+returns c = without-table _ _ (moves-as _ _ _ _ (c .before .before .before .before .before .before .before .before .before .before .before .before .pre .3) _ _ _ _ (c .before .before .before .before .before .before .if1 .taken) (plainly _ _ _ (plain-move _) (sym (c .before .before .before .before .before .none-stands .ensures) ∙ c .before .before .before .before .if2 .taken) (c .before .before .move-to .ensures)))
 
 cast-move-to-2 : tie.Need-cast-move-to-2
 cast-move-to-2 c = omega (arith, c .before .before .before .before .shared-slice-known4 .given (c .before .before .before .before .before .before .before .before .before .args .k + 1))
@@ -67,7 +67,7 @@ same-length-3 : tie.Need-same-length-3
 same-length-3 c = search needs
 
 returns-3 : tie.Need-returns-3
-returns-3 c = without-table _ _ (deletes-as _ _ _ _ (c .before .before .before .before .before .before .before .before .before .before .before .before .before .before .before .before .pre .3) _ _ _ _ _ _ _ (c .before .before .before .span-from .ensures) (c .before .before .before .before .before .before .before .before .number-of .ensures) (c .before .before .before .before .before .before .before .span-through .ensures) (c .before .before .before .before .before .before .before .before .before .if3 .taken) (plainly _ _ _ (sym (c .before .before .before .before .before .before .none-stands2 .ensures) ∙ c .before .before .before .before .before .if4 .taken) (c .before .before .delete-span .ensures)))
+returns-3 c = without-table _ _ (deletes-as _ _ _ _ (c .before .before .before .before .before .before .before .before .before .before .before .before .before .before .before .before .pre .3) _ _ _ _ _ _ _ (c .before .before .before .span-from .ensures) (c .before .before .before .before .before .before .before .before .number-of .ensures) (c .before .before .before .before .before .before .before .span-through .ensures) (c .before .before .before .before .before .before .before .before .before .if3 .taken) (plainly _ _ _ (plain-delete _ _) (sym (c .before .before .before .before .before .before .none-stands2 .ensures) ∙ c .before .before .before .before .before .if4 .taken) (c .before .before .delete-span .ensures)))
 
 span-from-requires-2 : tie.Need-span-from-requires-2
 span-from-requires-2 c κs = search needs

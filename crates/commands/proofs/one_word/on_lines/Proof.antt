@@ -1,7 +1,7 @@
 use mathlib.Core.Path.{sym, _∙_}
 use Rattle.items.specs.Simple.{lineOp}
 use borrow.Author.Tests.{ne-eqb}
-use Rattle.commands.proofs.Performed.{quits, anyhow, anyhow-with, plainly, handed, words-room, shown-text}
+use Rattle.commands.proofs.Performed.{quits, anyhow, anyhow-with, plain-next, plainly, handed, words-room, shown-text}
 use borrow.Author.Needs.{needs}
 use Rattle.commands.proofs.one_word.on_lines.Statement.{statement}
 use Rattle.commands.proofs.one_word.on_lines.Tie as tie
@@ -17,7 +17,7 @@ same-length c = search needs
 
 returns : tie.Need-returns
 unfolding lineOp
-returns c = handed _ _ (rw (c .before .before .before .before .before .before .match .keys2)) (plainly _ _ _ (sym (c .before .before .before .before .before .none-stands .ensures) ∙ c .before .before .before .before .if1 .taken) (c .before .before .next-line .ensures))
+returns c = handed _ _ (rw (c .before .before .before .before .before .before .match .keys2)) (plainly _ _ _ plain-next (sym (c .before .before .before .before .before .none-stands .ensures) ∙ c .before .before .before .before .if1 .taken) (c .before .before .next-line .ensures))
 
 next-line-requires-2 : tie.Need-next-line-requires-2
 next-line-requires-2 c κs = ((c .before .before .before .before .before .before .before .before .pre .0), shown-text (c .before .before .before .before .before .before .before .before .pre .1))

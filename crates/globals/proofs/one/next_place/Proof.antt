@@ -3,6 +3,9 @@ use borrow.Author.Needs.{needs}
 use Rattle.globals.proofs.one.next_place.Statement.{statement}
 use Rattle.globals.proofs.one.next_place.Tie as tie
 
+slice-aggregate-find : tie.Need-slice-aggregate-find
+slice-aggregate-find c = search needs
+
 no-qualifiers-requires : tie.Need-no-qualifiers-requires
 no-qualifiers-requires c κs = search needs
 
@@ -16,10 +19,10 @@ enum-told : tie.Need-enum-told
 enum-told c = search needs
 
 returns : tie.Need-returns
-returns c = is-at _ _ _ _ _ (c .before .before .before .before .no-qualifiers .ensures) (c .before .before .before .find .ensures) _ (c .before .found .given .1)
+returns c = is-at _ _ _ _ _ _ (c .before .before .before .before .no-qualifiers .ensures) (c .before .before .before .find .ensures) _ (c .before .found .given .1)
 
 returns-2 : tie.Need-returns-2
-returns-2 c = is-nowhere _ _ _ _ _ (c .before .before .before .no-qualifiers .ensures) (c .before .before .find .ensures) (c .enum-told .given .1)
+returns-2 c = is-nowhere _ _ _ _ _ _ (c .before .before .before .no-qualifiers .ensures) (c .before .before .find .ensures) (c .enum-told .given .1)
 
 pub next-place-spec : {M : Type 1} → statement M
-next-place-spec = tie.close (tie.spec no-qualifiers-requires find-requires enum-known-found enum-told returns returns-2)
+next-place-spec = tie.close (tie.spec slice-aggregate-find no-qualifiers-requires find-requires enum-known-found enum-told returns returns-2)

@@ -166,8 +166,12 @@ unfolding shapeOf lookUp commandTable packed packedFrom shapeIn plainOf seekOf c
 returns-40 c = rw (c .match .keys40)
 
 returns-41 : tie.Need-returns-41
+unfolding shapeOf lookUp commandTable packed packedFrom shapeIn plainOf seekOf changeOf
+returns-41 c = rw (c .match .keys41)
+
+returns-42 : tie.Need-returns-42
 unfolding shapeOf commandTable packed packedFrom shapeIn
-returns-41 c = in-no-row (Unit {0}) commandTable (c .before .args .letters) (c .match .rest)
+returns-42 c = in-no-row (Unit {0}) commandTable (c .before .args .letters) (c .match .rest)
 
 pub command-spec : {M : Type 1} → statement M
 command-spec =
@@ -213,4 +217,5 @@ command-spec =
     returns-38
     returns-39
     returns-40
-    returns-41)
+    returns-41
+    returns-42)

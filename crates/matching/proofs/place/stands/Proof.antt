@@ -9,7 +9,7 @@ starts-requires : tie.Need-starts-requires
 starts-requires c κs = search needs
 
 returns : tie.Need-returns
-returns c = sym (not-here _ _ _ _ _ (sym (c .before .starts .ensures) ∙ not-true _ (c .if1 .taken)))
+returns c = sym (not-here _ _ _ _ _ _ (sym (c .before .starts .ensures) ∙ not-true _ (c .if1 .taken)))
 
 add-apart : tie.Need-add-apart
 add-apart c = search needs
@@ -20,10 +20,10 @@ apart-requires c κs = search needs
 returns-2 : tie.Need-returns-2
 returns-2 c =
     c .apart .ensures
-    ∙ sym (here-apart _ _ _ _ _ (sym (c .before .before .before .starts .ensures) ∙ not-false _ (c .before .before .if1 .left)) (c .before .if2 .taken))
+    ∙ sym (here-apart _ _ _ _ _ _ (sym (c .before .before .before .starts .ensures) ∙ not-false _ (c .before .before .if1 .left)) (c .before .if2 .taken))
 
 returns-3 : tie.Need-returns-3
-returns-3 c = sym (here _ _ _ _ _ (sym (c .before .before .starts .ensures) ∙ not-false _ (c .before .if1 .left)) (c .if2 .left))
+returns-3 c = sym (here _ _ _ _ _ _ (sym (c .before .before .starts .ensures) ∙ not-false _ (c .before .if1 .left)) (c .if2 .left))
 
 pub stands-spec : {M : Type 1} → statement M
 stands-spec =

@@ -1,6 +1,7 @@
 -- At each turn the test goes on to what the search says (`Turn`). Assumes nothing.
 use Prim.Native.Nat.{_-_}
 use native.Mathlib.Omega.{arith}
+use Rattle.wordset.specs.Sets.{inSet}
 use Rattle.matching.specs.Words.{Readable}
 use Rattle.matching.proofs.Running.{lineSays, line-tested}
 use Rattle.matching.proofs.Turns.{Turn, begins, finds, reads, tested, steps, joined}
@@ -8,13 +9,13 @@ use Rattle.matching.proofs.search.holds.Statement.{statement}
 use Rattle.matching.proofs.search.holds.Tie as tie
 
 abbrev Inv-loop : tie.InvT-loop
-Inv-loop script words k m line p at₀ truth₀ at truth = Turn words (lineSays script words line p) (Readable script words) m k at truth
+Inv-loop script words k m set line p at₀ truth₀ at truth = Turn words (lineSays script words (inSet set 0) line p) (Readable script words) m k at truth
 
 abbrev μ-loop : tie.MeasureT-loop
-μ-loop script words k m line p at₀ truth₀ at truth = m - at
+μ-loop script words k m set line p at₀ truth₀ at truth = m - at
 
 loop-holds : tie.Need-loop-holds Inv-loop μ-loop
-loop-holds c = begins (line-tested _ _ _ _) (c .before .before .before .pre .0 .0) (c .before .before .before .pre .0 .1)
+loop-holds c = begins (line-tested _ _ _ _ _) (c .before .before .before .before .pre .0 .0) (c .before .before .before .before .pre .0 .1)
 
 mul-if1 : tie.Need-mul-if1 Inv-loop μ-loop
 mul-if1 c = omega arith
@@ -23,7 +24,7 @@ shared-slice-read-if1 : tie.Need-shared-slice-read-if1 Inv-loop μ-loop
 shared-slice-read-if1 c = omega arith
 
 string-holds-requires : tie.Need-string-holds-requires Inv-loop μ-loop
-string-holds-requires c κs = (reads (c .before .before .before .loop .inv) (c .before .before .loop-test .taken) (c .if1 .taken) .0, c .before .before .before .before .before .before .before .pre .1)
+string-holds-requires c κs = (reads (c .before .before .before .loop .inv) (c .before .before .loop-test .taken) (c .if1 .taken) .0, c .before .before .before .before .before .before .before .before .pre .1, c .before .before .before .before .before .before .before .before .pre .2)
 
 end-at-requires : tie.Need-end-at-requires Inv-loop μ-loop
 end-at-requires c κs =
@@ -50,7 +51,7 @@ loop-again-2 : tie.Need-loop-again-2 Inv-loop μ-loop
 loop-again-2 c = joined (c .before .before .before .before .loop .inv) (c .before .before .before .loop-test .taken) (c .before .if1 .left) (c .after-joint .ensures)
 
 returns : tie.Need-returns Inv-loop μ-loop
-returns c = λ se enc. finds (line-tested _ _ _ _) se enc (c .before .loop .inv) (c .loop-test .left)
+returns c = λ se enc. finds (line-tested _ _ _ _ _) se enc (c .before .loop .inv) (c .loop-test .left)
 
 pub holds-spec : {M : Type 1} → statement M
 holds-spec =

@@ -31,7 +31,7 @@ matches-line-requires c κs = search needs
 returns : tie.Need-returns
 returns c =
     c .matches-line .ensures
-    ∙ read-matches _ _ _ _ _ _ (c .before .before .before .before .quals-at .ensures) (c .before .before .before .start-at .ensures) (c .before .before .length-at .ensures) _ _
+    ∙ read-matches _ _ _ _ _ _ (c .before .before .before .before .quals-at .ensures) (c .before .before .before .start-at .ensures) (c .before .before .length-at .ensures) _ _ _
 
 pub string-holds-spec : {M : Type 1} → statement M
 string-holds-spec =

@@ -1,7 +1,7 @@
 -- `script::named::decode` meets its contract. Assumes nothing.
 use mathlib.Core.Path.{refl}
 use Rattle.script.specs.Commands.{of-points, of-splits, of-inserts, of-joins}
-use Rattle.script.proofs.Choosing.{is-seeks, is-moves, is-deletes, is-string, is-lines, is-replaces, is-alters, is-points, is-splits, is-joins, is-globals, is-branches, is-loops, is-unknown, long-branch, long-loop, plain-written, leaves-written, repeats-written, eof-written}
+use Rattle.script.proofs.Choosing.{is-seeks, is-moves, is-deletes, is-string, is-lines, is-replaces, is-alters, is-points, is-splits, is-joins, is-globals, is-names, is-branches, is-loops, is-unknown, long-branch, long-loop, plain-written, leaves-written, repeats-written, eof-written}
 use borrow.Author.Needs.{needs}
 use Rattle.answers.specs.Answers.{CommandOr}
 use Rattle.script.proofs.named.decode.Statement.{statement}
@@ -97,6 +97,12 @@ globals-requires c κs = search needs
 enum-told-8 : tie.Need-enum-told-8
 enum-told-8 c = search needs
 
+names-requires : tie.Need-names-requires
+names-requires c κs = search needs
+
+enum-told-9 : tie.Need-enum-told-9
+enum-told-9 c = search needs
+
 prefix-word-requires : tie.Need-prefix-word-requires
 prefix-word-requires c κs = search needs
 
@@ -106,8 +112,8 @@ enum-known-shape-7 c = search needs
 branches-requires : tie.Need-branches-requires
 branches-requires c κs = (c .before .before .before .before .before .before .pre .0, long-branch _ _ _ _ (c .before .before .shape7 .given .1) (c .before .before .before .before .before .before .pre .1))
 
-enum-told-9 : tie.Need-enum-told-9
-enum-told-9 c = search needs
+enum-told-10 : tie.Need-enum-told-10
+enum-told-10 c = search needs
 
 skip-then-requires : tie.Need-skip-then-requires
 skip-then-requires c κs = search needs
@@ -121,8 +127,8 @@ enum-known-shape-8 c = search needs
 loops-requires : tie.Need-loops-requires
 loops-requires c κs = (c .before .before .before .before .before .before .pre .0, long-loop _ _ _ _ (c .before .before .shape8 .given .1) (c .before .before .before .before .before .before .pre .1))
 
-enum-told-10 : tie.Need-enum-told-10
-enum-told-10 c = search needs
+enum-told-11 : tie.Need-enum-told-11
+enum-told-11 c = search needs
 
 same-length : tie.Need-same-length
 same-length c = search needs
@@ -206,28 +212,34 @@ same-length-14 : tie.Need-same-length-14
 same-length-14 c = search needs
 
 returns-14 : tie.Need-returns-14
-returns-14 c = repeats-written _ _ _ _ _ _ (c .before .before .before .before .before .before .before .before .pre .0) _ _ _ (c .before .before .before .before .enum-told8 .given .1) (c .before .before .before .before .before .before .before .before .pre .1) (c .before .before .prefix-word .ensures)
+returns-14 c = rw (is-names _ _ _ _ (c .before .before .before .before .enum-told8 .given .1)) (c .before .before .names .ensures)
 
 same-length-15 : tie.Need-same-length-15
 same-length-15 c = search needs
 
 returns-15 : tie.Need-returns-15
-returns-15 c = rw (is-branches _ _ _ _ _ (c .before .before .before .before .before .shape7 .given .1)) (c .before .before .branches .ensures)
+returns-15 c = repeats-written _ _ _ _ _ _ (c .before .before .before .before .before .before .before .before .pre .0) _ _ _ (c .before .before .before .before .enum-told9 .given .1) (c .before .before .before .before .before .before .before .before .pre .1) (c .before .before .prefix-word .ensures)
 
 same-length-16 : tie.Need-same-length-16
 same-length-16 c = search needs
 
 returns-16 : tie.Need-returns-16
-returns-16 c = eof-written _ _ _ _ _ _ (c .before .before .before .before .before .before .before .before .before .pre .0) _ _ _ _ (c .before .before .before .before .before .enum-told9 .given .1) (c .before .before .before .before .before .before .before .before .before .pre .1) (c .before .before .before .skip-then .ensures .0) (c .before .before .before .skip-then .ensures .1 .0) (c .before .before .before .skip-then .ensures .1 .1) (c .before .before .prefix-word2 .ensures)
+returns-16 c = rw (is-branches _ _ _ _ _ (c .before .before .before .before .before .shape7 .given .1)) (c .before .before .branches .ensures)
 
 same-length-17 : tie.Need-same-length-17
 same-length-17 c = search needs
 
 returns-17 : tie.Need-returns-17
-returns-17 c = rw (is-loops _ _ _ _ _ (c .before .before .before .before .before .shape8 .given .1)) (c .before .before .loops .ensures)
+returns-17 c = eof-written _ _ _ _ _ _ (c .before .before .before .before .before .before .before .before .before .pre .0) _ _ _ _ (c .before .before .before .before .before .enum-told10 .given .1) (c .before .before .before .before .before .before .before .before .before .pre .1) (c .before .before .before .skip-then .ensures .0) (c .before .before .before .skip-then .ensures .1 .0) (c .before .before .before .skip-then .ensures .1 .1) (c .before .before .prefix-word2 .ensures)
+
+same-length-18 : tie.Need-same-length-18
+same-length-18 c = search needs
 
 returns-18 : tie.Need-returns-18
-returns-18 c = CommandOr.refused _ _ (is-unknown _ _ _ _ (c .enum-told10 .given .1))
+returns-18 c = rw (is-loops _ _ _ _ _ (c .before .before .before .before .before .shape8 .given .1)) (c .before .before .loops .ensures)
+
+returns-19 : tie.Need-returns-19
+returns-19 c = CommandOr.refused _ _ (is-unknown _ _ _ _ (c .enum-told11 .given .1))
 
 pub decode-spec : {M : Type 1} → statement M
 decode-spec =
@@ -263,15 +275,17 @@ decode-spec =
     enum-known-shape-6
     globals-requires
     enum-told-8
+    names-requires
+    enum-told-9
     prefix-word-requires
     enum-known-shape-7
     branches-requires
-    enum-told-9
+    enum-told-10
     skip-then-requires
     prefix-word-requires-2
     enum-known-shape-8
     loops-requires
-    enum-told-10
+    enum-told-11
     same-length
     returns
     same-length-2
@@ -306,4 +320,6 @@ decode-spec =
     returns-16
     same-length-17
     returns-17
-    returns-18)
+    same-length-18
+    returns-18
+    returns-19)
