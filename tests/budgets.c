@@ -34,6 +34,8 @@ static const struct job {
     {timings, "RPT (IFEOF AGP; UL/60/ E/90/120/; F/0/; 2(%;<); N)\nM 1; 2N; D 1 2; IS/x/; P; SA/x/; CL/-/\n", 999, 0, 51, 4, 0,
      "0 5 16 23 34 34 40 42 44 40 42 44 48 0 5 16 23 34 34 40 42 44 40 42 44 48 0 5 16 34 34 40 42 44 40 42 44 48 0 5 11 51 56 57 56 57 60 67 74 77 84"},
     {"", "", 0, 0, 0, 1, 0, ""},
+    /* with sets of word characters that change in each round */
+    {"A-12\nA-12 A\nA\n-12\n12\n", "2(WORD/A-Z0-9\"-/; F W/A/; E W/A/B/; WORD//; N)\nWORD/\"-/; UT W/12/ N; E W/12/13/\n", 999, 0, 20, 5, 0, "0 2 18 18 18 26 36 44 0 2 18 18 26 36 44 47 57 66 57 69"},
     /* done, and the unread lines go through the globals: this takes no step */
     {"a\na\na\n", "GE/a/b/; 2GA/b/c/; N\n", 999, 0, 6, 2, 0, "0 9 10 9 10 19"},
     {timings, "2(GE/90/95/; GA/open/-/; CG); 3GB/R/Q/; F B/Q/; F/07:/; P; CL/-/; GE/Q/R/\n", 999, 0, 23, 3, 0,
@@ -44,6 +46,7 @@ static const struct job {
     /* stopped at a command, with each number */
     {"a\nb\nc\n", "4N\n", 999, 20, 8, 4, 1, "0 1 0 1 0 1 0 1"},
     {"a\nx\n", "WH N/x/ (N); RPT N\n", 999, 20, 7, 3, 17, "0 9 0 13 17 13 17"},
+    {"A-12\nA-12\n", "RPT (IF W/12/ E W/12/7/; N; WORD/\"-/)\n", 999, 20, 12, 3, 25, "0 5 14 25 28 0 5 25 28 0 5 25"},
     {"a\nb\nc\n", "N; F/z/\n", 999, 21, 4, 4, 3, "0 3 3 3"},
     {"a\nb\nc\n", "M *; BF/z/\n", 999, 22, 5, 4, 5, "0 5 5 5 5"},
     {"a\nb\nc\nd\n", "DF /c/; M 2\n", 999, 23, 5, 3, 8, "0 0 0 0 8"},
@@ -63,7 +66,7 @@ static const struct refusal {
     uint64_t number, place;
 } refusals[] = {
     {"a\n", "N", 0, 9, 1, 0}, {"a\n", "N; Q\n", 0, 9, 2, 3}, {"a\n", "N; F\n", 0, 9, 3, 4},    {"a\n", "E N/a/b/\n", 0, 9, 4, 2}, {"a\n", "N; (N\n", 0, 9, 5, 6},
-    {"a\n", "I\nx\n", 0, 9, 6, 4}, {"a", "N\n", 0, 9, 7, 0}, {"a\n", "N\n", 1, 9, 8, 0}, {"a\n", "N\n", 0, 3, 9, 0},
+    {"a\n", "N; WORD/a-/\n", 0, 9, 33, 9}, {"a\n", "I\nx\n", 0, 9, 6, 4}, {"a", "N\n", 0, 9, 7, 0}, {"a\n", "N\n", 1, 9, 8, 0}, {"a\n", "N\n", 0, 3, 9, 0},
 };
 
 /* Scripts that never end, and the place of the step that they want in every round. */

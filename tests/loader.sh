@@ -192,6 +192,32 @@ check "refused: never says updated" silent "is updated"
 check "refused: the table stays" same table table.first
 check "refused: no journal" only table season
 
+fresh words
+printf 'A-12 open\nA open\nR12 open\n' >table
+printf 'WORD/A-Z0-9"-/\nF W/A/; E W/A/B/; E/open/shut/\n' >season
+load table season
+check "word characters: status" status 0
+check "word characters: says so" says "Done: table is updated. Steps 6, furthest line read 2"
+printf 'A-12 open\nB shut\nR12 open\n' >want
+check "word characters: the new table" same table want
+
+fresh misused
+printf 'N\nM 1;  WORD/A-Z0-9-/\n' >season
+load table season
+check "a - misused: status" status 2
+check "a - misused: says so" says "Refused: nothing was run, and no file is changed."
+check "a - misused: in words" says "This - or \" cannot stand here in the string of WORD"
+check "a - misused: whose matter" says "(33) This is for the script's author to mend."
+check "a - misused: where" test "$(tail -n 3 err)" = "$(printf 'season, line 2, column 18:\n  M 1;  WORD/A-Z0-9-/\n                   ^')"
+check "a - misused: never says updated" silent "is updated"
+check "a - misused: the table stays" same table table.first
+check "a - misused: no journal" only table season
+printf 'WORD/A-Z"' >season
+printf '\n' >>season
+load table season
+check "a quote misused: status" status 2
+check "a quote misused: where" test "$(tail -n 3 err)" = "$(printf 'season, line 1, column 9:\n  WORD/A-Z"\n          ^')"
+
 fresh malformed
 printf 'no line end' >table
 cp table table.first

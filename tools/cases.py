@@ -1,6 +1,6 @@
 #!/usr/bin/env python3
-"""Makes cases by chance: tables and scripts of the commands of document 01 and of wishes 1 to 6 of document 02, and journals to join and to turn round (wish 7), some
-of them damaged.
+"""Makes cases by chance: tables and scripts of the commands of document 01 and of wishes 1 to 6 and 8 of document 02, and journals to join and to turn round (wish 7),
+some of them damaged.
 
     tools/cases.py SEED COUNT [KIND] | tools/oracle.py outcome [KIND] > FILE
     tools/vectors.py KIND FILE
@@ -19,6 +19,9 @@ def line():
     if r < .16: return w(R.randint(240, 250), 'b ') + w(R.randint(1, 5), 'ab')
     if r < .28: return w(R.randint(8, 60), R.choice(['abAB', 'bbbbbbbbaA', 'bbbbbbbz', 'bqzZ@[`{']))
     return w(R.randint(1, 9), R.choice(['ab', 'aab ', 'abAB1 -', 'a', ' a']))
+def codes():
+    """A line of stop codes."""
+    return R.choice([' ', ' ', ' ', '.', '-', '']).join(R.choice(['A-12', 'A-12', 'A-1', 'B-12', 'A', 'A', '12', 'a-12', 'A.12', '12-A', 'A"1', 'AB', 'A 12', '']) for _ in range(R.randint(1, 6)))
 def string(): return w(R.choice([0,1,1,1,2,2,3]), R.choice(['ab', 'a', 'abAB1 ', 'aAzZ@[`{']))
 def num(): return str(R.choice([0,1,1,2,2,3,4,5,6,9,65535,65536,'007']) )
 def n1(): return str(R.choice([1,1,2,2,3,4,5,6,9,65535]))
@@ -75,6 +78,35 @@ def changing():
 def many():
     """Up to 16 globals and more, in one count."""
     return '%d(%s)' % (R.choice([3, 8, 15, 16, 17]), ';'.join(changing() for _ in range(R.randint(1, 2))))
+def names():
+    """WORD's string: bytes, quoted bytes and ranges, or a few signs by chance, so that often a `-` or a `"` is misused."""
+    if R.random() < .06: return w(R.randint(1, 7), 'aB1--""' + R.choice(['', ' .', 'zZ09', '~_']))
+    one = lambda: R.choice([w(1, 'ab AB12.x@[`{~'), '"' + w(1, '--""aA1. '), 'A-Z', 'a-z', '0-9', 'A-A', '1-2', 'A-B', 'a-b', 'b-y'])
+    return ''.join(one() for _ in range(R.choice([0, 1, 1, 2, 2, 3, 5])))
+def naming():
+    """WORD; some without its string, some with a qualifier."""
+    said = R.choice(['WORD', 'WORD', 'WORD', 'word', 'Words', 'WORDING'])
+    if R.random() < .01: return said + sp()
+    if R.random() < .01: return said + ' ' + R.choice('WNU2(') + '/a/'
+    d = R.choice("/////////!'*+,-.:?")
+    return said + sp() + d + names().replace(d, '') + (d if R.random() < .93 else '\n')
+def whole_words():
+    """A command or a test with W, on strings that stop codes have."""
+    with_w = R.choice(['W', 'W', 'W', 'w', 'UW', 'W U', 'WL', '2W', 'W3', 'W2L', 'WB', 'WE', 'WEL', 'WP', 'WS', 'W_2,9_']) + sp()
+    s = R.choice(['A', 'A', 'A', 'a', '12', '1', '2', '-', 'B', 'A-12', '-1', ' ', '.', '"'])
+    r = R.random()
+    if r < .4: return '%s %s/%s/%s/' % (R.choice(['A', 'B', 'E', 'E', 'AP', 'BP', 'EP']), with_w, s, R.choice(['x', 'B', '-', 'A', '']))
+    if r < .55: return '%s %s/%s/' % (R.choice(['PA', 'PB', 'SA', 'SB']), with_w, s)
+    said = R.choice([with_w, with_w, 'N' + with_w]) + '/' + s + '/'
+    if R.random() < .3: said = '(%s%s%s)' % (said, R.choice('&|'), qs(True))
+    if r < .75: return R.choice(['F ', 'F ', 'BF ', 'DF ']) + said
+    return R.choice(['IF ', 'UL ', 'WH ', 'UT ']) + said + ' ' + R.choice(['E/%s/+/' % s, 'EP W/%s/x/' % s, 'N', '(%s; N)' % naming(), '(AGP)'])
+def word_set():
+    """Sets that stand for a while, some changed in each round of a loop."""
+    one = lambda: R.choice([naming, whole_words, whole_words])()
+    part = R.choice([';', '; ', '\n'])
+    body = part.join(one() for _ in range(R.randint(1, 4)))
+    return R.choice(['%s', '%s', '2(%s)', '3(%s; N)', 'RPT (%s; N)', 'RPT (IFEOF AGP; %s; N)', 'WH W/A/ (%s)', 'UT EW/12/ (%s; N)', 'IF W/A/ (%s) ELSE (N)']) % body + '\n'
 def replacing():
     """Lines that go and lines that come, mixed: stretches to arrange at the run's end. Few of these commands stop."""
     one = lambda: R.choice(['D', 'D', 'D', 'IC', 'IC', 'IS/%s/' % string().replace('/', 'a'), 'IS/%s/; P; CL//' % w(2, 'xy'), 'R\n%s\nZ' % w(3, 'ab-+='), 'SA//; D', 'IS/z/; P', 'N', 'DF //'])
@@ -84,6 +116,8 @@ def simple():
     if r < .11: return cutting()
     if r < .23: return changing()
     if r < .24: return many()
+    if r < .27: return naming()
+    if r < .3: return whole_words()
     r = R.random()
     if r < .1: return 'N'
     if r < .15: return 'P'
@@ -130,6 +164,10 @@ def table_and_script():
     if r < .4: s = ''.join(changing() + R.choice(['; ', '\n']) for _ in range(R.choice([1, 1, 1, 2, 3, 4]))) + s
     elif r < .6: s = ''.join(changing() + R.choice(['; ', '\n']) for _ in range(R.choice([1, 1, 2, 3, 4]))) + R.choice(['', 'N', 'M 3', 'D', 'F/b/', 'W']) + '\n'
     if R.random() < .1: s = 'M *\n' + s
+    if R.random() < .25:
+        # stop codes, and the bytes that count for W named before all else
+        t = ''.join(codes() + '\n' for _ in range(R.choice([1, 2, 3, 6]))) + t
+        s = R.choice(['', naming() + '\n', naming() + '; ']) + ''.join(word_set() for _ in range(R.randint(1, 3))) + R.choice([s, '', ''])
     if R.random() < .12: s, t = replacing() + s, t + ''.join(line()[:12] + '\n' for _ in range(R.choice([2, 5, 9])))
     return t, s
 def run_case():

@@ -1,5 +1,5 @@
 #!/usr/bin/env python3
-"""Document 01 and wishes 1 to 7 of document 02 once more, written apart from the definitions: a plain interpreter for making and checking cases.
+"""Document 01 and wishes 1 to 8 of document 02 once more, written apart from the definitions: a plain interpreter for making and checking cases.
 
     tools/oracle.py check FILE [KIND]      compares each line of a file of cases (see tools/vectors.py) with what it finds
     tools/oracle.py outcome [KIND] < FILE  completes lines of what is given in a case
@@ -94,6 +94,23 @@ class Reader:
         first = self.plain()
         if not first: raise Refused(4, at)
         return first, self.string(d)
+
+    def words(self):
+        """WORD's string: the set of the bytes that it names; 33 at a `-` or `"` that is no part of a name."""
+        self.spaces()
+        i = self.at + 1
+        s = self.plain()
+        end, named = i + len(s), set()
+        while i < end:
+            b, left = self.s[i], end - i
+            if b == 34 and left > 1: named.add(self.s[i + 1]); i += 2
+            elif b in b'-"': raise Refused(33, i)
+            elif left > 1 and self.s[i + 1] == 45:
+                last = self.s[i + 2] if left > 2 else 0
+                if not (kind(b) and kind(b) == kind(last) and b <= last): raise Refused(33, i + 1)
+                named.update(range(b, last + 1)); i += 3
+            else: named.add(b); i += 1
+        return named
 
     def qualified(self, search, two=False):
         q = dict(anchor='', count=0, cols=None)
@@ -268,6 +285,7 @@ class Reader:
             elif name == 'IS': node.update(name='I', a=None, lines=[self.plain()])
             elif name == 'CL': node['s'] = self.plain()
             elif name in ('GE', 'GA', 'GB'): node['s'], node['new'] = self.two_plain()
+            elif name == 'WORD': node['named'] = self.words()
             elif name in ('A', 'B', 'E', 'AP', 'BP', 'EP'): node['q'], node['new'] = self.qualified(False, True)
             elif name in ('PA', 'PB', 'SA', 'SB'): node['q'] = self.qualified(False)
             else: raise Refused(2, at)
@@ -277,9 +295,12 @@ class Reader:
             node = p
         return node
 
-def word(b): return 48 <= b <= 57 or 65 <= b <= 90 or 97 <= b <= 122
+def kind(b):
+    """Digits, capitals and small letters are the kinds of bytes that ranges go between; any other byte has none."""
+    return next((k for k, (first, last) in enumerate([(48, 57), (65, 90), (97, 122)], 1) if first <= b <= last), None)
 
-def place(q, line, p):
+def place(q, line, p, words):
+    """Where the string matches; `words` are the bytes that count for W."""
     start, end = p, len(line)
     if q['cols']:
         n, m = q['cols']
@@ -292,7 +313,7 @@ def place(q, line, p):
     k = len(s)
     def at(i):
         if text[i:i + k] != s: return False
-        if q.get('W'): return not (i > 0 and word(line[i - 1])) and not (i + k < len(line) and word(line[i + k]))
+        if q.get('W'): return not (i > 0 and line[i - 1] in words) and not (i + k < len(line) and line[i + k] in words)
         return True
     if end - start < k: return None
     if q['anchor'] == 'B': return start if at(start) else None
@@ -309,10 +330,10 @@ def place(q, line, p):
         else: i += step
     return None
 
-def holds(se, line, p):
+def holds(se, line, p, words):
     """Without a line, at EOF, no string is found: one with N is true, one without is false."""
-    if se[0] == 'q': return (line is not None and place(se[1], line, p) is not None) != bool(se[1].get('N'))
-    return (all if se[0] == 'and' else any)([holds(x, line, p) for x in se[1]])
+    if se[0] == 'q': return (line is not None and place(se[1], line, p, words) is not None) != bool(se[1].get('N'))
+    return (all if se[0] == 'and' else any)([holds(x, line, p, words) for x in se[1]])
 
 class Editor:
     """Records are lists [mark, old, new]; `cur` is the index of the current one, len(recs) at EOF."""
@@ -321,6 +342,7 @@ class Editor:
         self.lines, self.size, self.budget = len(lines), size, budget
         self.cur, self.p, self.steps, self.furthest = 0, 0, 0, 1
         self.globals = []
+        self.words = {b for b in range(256) if kind(b)}
 
     def step(self, at):
         self.place = at
@@ -460,6 +482,7 @@ class Editor:
         if name == 'W': raise Done()
         if name == 'AGP': raise Leave(c['group'])
         if name == 'CG': self.globals = []; return
+        if name == 'WORD': self.words = c['named']; return
         if name in ('GE', 'GA', 'GB'):
             if len(self.globals) == 16: raise Stop(31)
             s, new = c['s'], c['new']
@@ -480,7 +503,7 @@ class Editor:
                 if i >= n: self.see(n); raise Stop(21)
                 self.see(i)
                 self.step(c['at'])
-                if holds(c['se'], self.recs[i][2], p): break
+                if holds(c['se'], self.recs[i][2], p, self.words): break
                 i, p = self.next_live(i), 0
             if i == start: return
             if name == 'F': self.go(i); return
@@ -493,7 +516,7 @@ class Editor:
             while True:
                 if i < 0: raise Stop(22)
                 self.step(c['at'])
-                if holds(c['se'], self.recs[i][2], p): break
+                if holds(c['se'], self.recs[i][2], p, self.words): break
                 i, p = self.previous_live(i), 0
             self.cur, self.p = i, p
         elif name == 'D':
@@ -523,7 +546,7 @@ class Editor:
                 elif name == '#': self.retext(l[:p] + l[p + 1:], p)
                 else: self.retext(l[:p] + (l[p:p + 1].lower() if name == '$' else l[p:p + 1].upper()) + l[p + 1:], p + 1)
             else:
-                i = place(c['q'], l, p)
+                i = place(c['q'], l, p, self.words)
                 if i is None: raise Stop(24)
                 k = len(c['q']['s'])
                 if name == 'PA': self.p = i + k
@@ -542,7 +565,7 @@ class Editor:
     def test(self, c):
         self.step(c['at'])
         if c['test'] is None: return self.cur >= len(self.recs)
-        return holds(c['test'], self.text(), self.p) == c['want']
+        return holds(c['test'], self.text(), self.p, self.words) == c['want']
 
     def body(self, node):
         """Runs a body; AGP of a group that is this body itself ends it and what it is the body of (returns False)."""

@@ -1,8 +1,8 @@
 -- What a case calls.
-use mathlib.Core.Bool.{cond, _&&_}
+use mathlib.Core.Bool.{cond, _&&_, _||_}
 use mathlib.Core.List.{List}
 use Prim.Native.Nat.{ℕ}
-use lib.Dec.{ltb}
+use lib.Dec.{eqb, ltb}
 use Rattle.definitions.specs.Listing.{Written, oldSideTo, newSideTo, listingTo}
 use Rattle.definitions.specs.Joining.{joinTo, turnTo}
 use Rattle.vectors.specs.declared.sides.Side.{Side}
@@ -21,6 +21,6 @@ unfoldable pub madeTo : Work → List ℕ → List ℕ → List ℕ → Written
 madeTo Join j k dest = joinTo j k dest
 madeTo Turn j k dest = turnTo j dest
 
--- the bytes past the journal: 7, as before, where the run was refused (1 to 9); else 0
+-- the bytes past the journal: 7, as before, where the run was refused (1 to 9, and 33 by document 02, wish 8); else 0
 unfoldable pub restAfter : ℕ → ℕ
-restAfter number = cond (ltb 0 number && ltb number 10) 7 0
+restAfter number = cond (eqb number 33 || (ltb 0 number && ltb number 10)) 7 0

@@ -3,10 +3,10 @@
 use libc::STDERR_FILENO;
 use libc::STDOUT_FILENO;
 ghost use mathlib.Core.Path.{_≡_};
-ghost use mathlib.Core.Bool.{_&&_};
+ghost use mathlib.Core.Bool.{_&&_, _||_};
 ghost use Prim.Native.Nat.{_≤_};
 ghost use lib.ListN.{length};
-ghost use lib.Dec.{ltb};
+ghost use lib.Dec.{eqb, ltb};
 
 // A byte more than the longest table and the longest script: a file that fills it is too long.
 const TABLE_READ: usize = 16385;
@@ -71,12 +71,15 @@ fn run(table: &[u8], script: &[u8]) {
     print_end(answer[0], answer[1], answer[2], answer[4]);
 }
 
-// 1 to 9: no journal was written.
+// 1 to 9, and 33 by document 02, wish 8: no journal was written.
 fn refused(number: u64) -> bool
-    ensures { λ r. ⌜ r ≡ (ltb 0 number && ltb number 10) ⌝ }
+    ensures { λ r. ⌜ r ≡ (eqb number 33 || (ltb 0 number && ltb number 10)) ⌝ }
 {
     if number == 0 {
         return false;
+    }
+    if number == 33 {
+        return true;
     }
     number < 10
 }

@@ -1,5 +1,5 @@
 use native.Mathlib.Omega.{arith}
-use borrow.Author.Tests.{lt-ltb}
+use borrow.Author.Tests.{lt-ltb, ne-eqb}
 use Rattle.zed_test.proofs.refused.Statement.{statement}
 use Rattle.zed_test.proofs.refused.Tie as tie
 
@@ -7,7 +7,10 @@ returns : tie.Need-returns
 returns c = rw (c .if1 .taken)
 
 returns-2 : tie.Need-returns-2
-returns-2 c = rw (lt-ltb 0 (c .before .args .number) (omega arith))
+returns-2 c = rw (c .if2 .taken)
+
+returns-3 : tie.Need-returns-3
+returns-3 c = let n = c .before .before .args .number in rw (lt-ltb 0 n (omega arith), ne-eqb n 33 (c .if2 .left))
 
 pub refused-spec : {M : Type 1} → statement M
-refused-spec = tie.close (tie.spec returns returns-2)
+refused-spec = tie.close (tie.spec returns returns-2 returns-3)
