@@ -386,3 +386,44 @@ wishEightCases =
 pub wish-eight : map computed wishEightCases ≡ map stated wishEightCases
 unfolding everything printed programPrints computed stated largest same came to wishEightCases
 wish-eight = refl
+
+-- ---- document 02, wish 9: regular expressions
+
+unfoldable pub wishNineCases : List Case
+wishNineCases =
+    -- a time, by its form; the width found is exchanged, and p set by it (W9.8)
+    case largest "at 06:10 x\n" "E R/0-9#0-9:0-9#0-9/T/\n" (answer 0 1 1 0 (to "at 06:10 x" "at T x" ∷ []))
+    ∷ case largest "at 06:10 x\n" "PA R/0-9#0-9:/; E /1/2/\n" (answer 0 2 1 0 (to "at 06:10 x" "at 06:20 x" ∷ []))
+    ∷ case largest "at 06:10 x\n" "SA r/#~ :/\n" (answer 0 1 1 0 (came "at 06:" ∷ to "at 06:10 x" "10 x" ∷ []))
+    -- an empty match changes its empty place (W9.10); with L the last one
+    ∷ case largest "baa\n" "E R/#a/x/\n" (answer 0 1 1 0 (to "baa" "xbaa" ∷ []))
+    ∷ case largest "baab\n" "E LR/#a/x/\n" (answer 0 1 1 0 (to "baab" "baabx" ∷ []))
+    ∷ case largest "abab\n" "E LR/b|bab/x/\n" (answer 0 1 1 0 (to "abab" "ax" ∷ []))
+    -- only parts that pass W are looked at, by the set then standing (W9.9)
+    ∷ case largest "a-ab\n" "E WR/a#(a|\"-)/x/\n" (answer 0 1 1 0 (to "a-ab" "x-ab" ∷ []))
+    ∷ case largest "a-ab\n" "WORD/\"-/; E WR/#(a|\"-)b/x/\n" (answer 0 2 1 0 (to "a-ab" "x" ∷ []))
+    -- p, columns and S cut T first; B, E, P
+    ∷ case largest "ab ab\n" ">; E R/a#b/x/\n" (answer 0 2 1 0 (to "ab ab" "ab x" ∷ []))
+    ∷ case largest "ababab\n" "E _2,4_R/#(a|b)/x/\n" (answer 0 1 1 0 (to "ababab" "axab" ∷ []))
+    ∷ case largest "  ab\n" "E SBR/a#b/x/\n" (answer 0 1 1 0 (to "  ab" "  x" ∷ []))
+    ∷ case largest "baab\n" "E ER/b|ab|aab/x/\n" (answer 0 1 1 0 (to "baab" "bx" ∷ []))
+    ∷ case largest "ab\nabc\n" "F PR/a#~a/\n" (answer 0 2 1 0 (same "ab" ∷ same "abc" ∷ []))
+    -- N turns the result round; only the qualified string is a pattern (W9.11)
+    ∷ case largest "b\nc\n" "F NR/b|x/\n" (answer 0 3 2 0 (same "b" ∷ same "c" ∷ []))
+    ∷ case largest "#a\n" "E R/\"#a/#b/\n" (answer 0 1 1 0 (to "#a" "#b" ∷ []))
+    -- 34 by its place; 4 for the empty pattern with W, for a second R, and for the later one of R and U or a count (W9.1, W9.5, W9.7)
+    ∷ case largest "a\n" "E R/a-Z/x/\n" (refusal 34 6)
+    ∷ case largest "a\n" "F R//\n" (refusal 34 4)
+    ∷ case largest "a\n" "F R/(a\n" (refusal 34 6)
+    ∷ case largest "a\n" "F WR//\n" (refusal 4 4)
+    ∷ case largest "a\n" "F RR/a/\n" (refusal 4 3)
+    ∷ case largest "a\n" "F RU/a/\n" (refusal 4 3)
+    ∷ case largest "a\n" "F UR/a/\n" (refusal 4 3)
+    ∷ case largest "a\n" "F 2R/a/\n" (refusal 4 3)
+    ∷ case largest "a\n" "F R2/a/\n" (refusal 4 3)
+    ∷ case largest "a\n" "F R0/a/\n" (refusal 3 3)
+    ∷ []
+
+pub wish-nine : map computed wishNineCases ≡ map stated wishNineCases
+unfolding everything printed programPrints computed stated largest same came to wishNineCases
+wish-nine = refl

@@ -8,7 +8,7 @@ use lib.ListN.{length, take, drop, getD}
 use lib.Dec.{ltb, leb, eqb}
 use Rattle.definitions.specs.Bytes.{Line, upper, lower}
 use Rattle.definitions.specs.Journal.{Record, kept, changed, deleted, inserted}
-use Rattle.definitions.specs.Matching.{Qualified, placeOf, stringIn}
+use Rattle.definitions.specs.Matching.{Qualified, Match, matchOf}
 use Rattle.definitions.specs.Search.{Search, holds, holdsAtEof}
 use Rattle.definitions.specs.Tape.{Reads}
 use Rattle.definitions.specs.WordSet.{Named}
@@ -178,9 +178,9 @@ cased false b = lower b
 unfoldable pub recased : Bool → Line → ℕ → Line
 recased up l p = splice l p 1 (cased up (getD l p 0) ∷ [])
 
--- the place of a string in the line's window; "24 no match"
-unfoldable pub placeOr24 : (ℕ → Bool) → Qualified → Line → ℕ → Program ℕ
-placeOr24 isWord q l p = orStop n24 (placeOf isWord q p l)
+-- the match of a string in the line's window; "24 no match"
+unfoldable pub matchOr24 : (ℕ → Bool) → Qualified → Line → ℕ → Program Match
+matchOr24 isWord q l p = orStop n24 (matchOf isWord q p l)
 
 -- the current line and p; "27 p at the line's end (>, #, $, %)" (R36)
 unfoldable pub byteHere : Program (Line × ℕ)
@@ -314,13 +314,13 @@ program isWord copy = do
 -- "Changes test 20, 27 or 24, 25, 26": A, B, E, AP, BP, EP
 program isWord (alter c pointing q new) = do
   (l, p) ← lineOr n20
-  i ← placeOr24 isWord q l p
-  write (altered c l i (length (stringIn q)) new) (alteredPoint c pointing p i (length (stringIn q)) (length new))
+  m ← matchOr24 isWord q l p
+  write (altered c l (m .place) (m .width) new) (alteredPoint c pointing p (m .place) (m .width) (length new))
 -- "SA and SB test as E does": 20, 24, 26 (W1.4)
 program isWord (split after q) = do
   (l, p) ← lineOr n20
-  i ← placeOr24 isWord q l p
-  cutAfter l (pointBy after i (length (stringIn q)))
+  m ← matchOr24 isWord q l p
+  cutAfter l (pointBy after (m .place) (m .width))
 -- "CL has read the next live line before 25 is tested"; "CL leaves [p] unmoved" (W1.7, W1.9)
 program isWord (join s) = do
   (l, p) ← lineOr n20
@@ -334,8 +334,8 @@ program isWord (nameWords xs) = gives (names xs)
 -- PA, PB, PR, >, <
 program isWord (point after q) = do
   (l, p) ← lineOr n20
-  i ← placeOr24 isWord q l p
-  go (pointTo (pointBy after i (length (stringIn q))))
+  m ← matchOr24 isWord q l p
+  go (pointTo (pointBy after (m .place) (m .width)))
   goesOn
 program isWord pointStart = do
   lineOr n20

@@ -5,6 +5,8 @@ pub mod Arranging
 pub mod Listing
 pub mod Joining
 pub mod WordSet
+pub mod Reader
+pub mod Patterns
 pub mod Matching
 pub mod Search
 pub mod Tape
@@ -15,7 +17,6 @@ pub mod Reading
 pub mod StepProgram
 pub mod Edit
 pub mod Control
-pub mod Reader
 pub mod Strings
 pub mod Commands
 pub mod Script
@@ -23,3 +24,4 @@ pub mod Run
 pub mod Everything
 pub mod Program
 pub mod Cases
+pub mod PatternCases

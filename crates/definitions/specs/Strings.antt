@@ -1,5 +1,5 @@
 -- The reader of qualified strings and search expressions (document 01, "Script text": qualifiers, search expressions; numbers 3, 4 and 5),
--- and of WORD's string (document 02, wish 8; number 33).
+-- of WORD's string (document 02, wish 8; number 33) and of patterns (wish 9; number 34).
 use mathlib.Core.Bool.{Bool, true, false, cond, not, _&&_, _||_}
 use mathlib.Core.Option.{Option, none, some}
 use mathlib.Core.List.{List, [], _∷_}
@@ -7,6 +7,7 @@ use Prim.Native.Nat.{ℕ, zero, suc, _+_, _*_}
 use lib.Dec.{eqb, leb}
 use Rattle.definitions.specs.Bytes.{Line, isDigit, upper}
 use Rattle.definitions.specs.Matching.{Anchor, anywhere, atStart, atEnd, precisely, Columns, allColumns, columns, Qualifiers, qualifiers, Qualified, qualified}
+use Rattle.definitions.specs.Patterns.{Pattern, readPattern}
 use Rattle.definitions.specs.Search.{Search, one, both, either}
 use Rattle.definitions.specs.WordSet.{Named, Names, allNames, misusedAt, namesFrom}
 use Rattle.definitions.specs.Reader.{Cursor, Got, got, refused, andThen, placeAt, bytesLeft, nextByte, afterByte, isNext, expect, skipSpaces, skipBlank, number, isDelimiter, stringNext, afterString, quoted}
@@ -14,7 +15,7 @@ use Rattle.definitions.specs.Reader.{Cursor, Got, got, refused, andThen,
 -- ---- which qualifiers may stand together
 
 unfoldable pub noQualifiers : Qualifiers
-noQualifiers = qualifiers anywhere 0 false false false false false allColumns
+noQualifiers = qualifiers anywhere 0 false false false false false allColumns false
 
 unfoldable pub isAnchored : Anchor → Bool
 isAnchored anywhere = false
@@ -39,52 +40,61 @@ unless false a = some a
 
 -- each of these adds a qualifier, "each at most once"; none where it "cannot stand with earlier ones"
 unfoldable pub addAnchor : Anchor → Qualifiers → Option Qualifiers
-addAnchor a (qualifiers b count last negated apart anyCase skip cols) =
-    unless (isAnchored b || not (eqb count 0) || (last && clashesWithL a)) (qualifiers a count last negated apart anyCase skip cols)
+addAnchor a (qualifiers b count last negated apart anyCase skip cols pattern) =
+    unless (isAnchored b || not (eqb count 0) || (last && clashesWithL a)) (qualifiers a count last negated apart anyCase skip cols pattern)
 
 unfoldable pub addCount : ℕ → Qualifiers → Option Qualifiers
-addCount i (qualifiers anchor count last negated apart anyCase skip cols) =
-    unless (isAnchored anchor || not (eqb count 0)) (qualifiers anchor i last negated apart anyCase skip cols)
+addCount i (qualifiers anchor count last negated apart anyCase skip cols pattern) =
+    unless (isAnchored anchor || not (eqb count 0) || pattern) (qualifiers anchor i last negated apart anyCase skip cols pattern)
 
 unfoldable pub addL : Qualifiers → Option Qualifiers
-addL (qualifiers anchor count last negated apart anyCase skip cols) =
-    unless (last || clashesWithL anchor) (qualifiers anchor count true negated apart anyCase skip cols)
+addL (qualifiers anchor count last negated apart anyCase skip cols pattern) =
+    unless (last || clashesWithL anchor) (qualifiers anchor count true negated apart anyCase skip cols pattern)
 
 -- "N only in searches" (R17)
 unfoldable pub addN : Bool → Qualifiers → Option Qualifiers
-addN inSearch (qualifiers anchor count last negated apart anyCase skip cols) =
-    unless (negated || not inSearch) (qualifiers anchor count last true apart anyCase skip cols)
+addN inSearch (qualifiers anchor count last negated apart anyCase skip cols pattern) =
+    unless (negated || not inSearch) (qualifiers anchor count last true apart anyCase skip cols pattern)
 
 unfoldable pub addW : Qualifiers → Option Qualifiers
-addW (qualifiers anchor count last negated apart anyCase skip cols) = unless apart (qualifiers anchor count last negated true anyCase skip cols)
+addW (qualifiers anchor count last negated apart anyCase skip cols pattern) = unless apart (qualifiers anchor count last negated true anyCase skip cols pattern)
 
 unfoldable pub addU : Qualifiers → Option Qualifiers
-addU (qualifiers anchor count last negated apart anyCase skip cols) = unless anyCase (qualifiers anchor count last negated apart true skip cols)
+addU (qualifiers anchor count last negated apart anyCase skip cols pattern) =
+    unless (anyCase || pattern) (qualifiers anchor count last negated apart true skip cols pattern)
 
 unfoldable pub addS : Qualifiers → Option Qualifiers
-addS (qualifiers anchor count last negated apart anyCase skip cols) = unless skip (qualifiers anchor count last negated apart anyCase true cols)
+addS (qualifiers anchor count last negated apart anyCase skip cols pattern) = unless skip (qualifiers anchor count last negated apart anyCase true cols pattern)
+
+-- "R may not stand with U or a count" (document 02, wish 9; W9.1)
+unfoldable pub addR : Qualifiers → Option Qualifiers
+addR (qualifiers anchor count last negated apart anyCase skip cols pattern) =
+    unless (pattern || anyCase || not (eqb count 0)) (qualifiers anchor count last negated apart anyCase skip cols true)
+
+unfoldable pub isPattern : Qualifiers → Bool
+isPattern (qualifiers anchor count last negated apart anyCase skip cols pattern) = pattern
 
 unfoldable pub setColumns : ℕ → ℕ → Qualifiers → Qualifiers
-setColumns i j (qualifiers anchor count last negated apart anyCase skip cols) = qualifiers anchor count last negated apart anyCase skip (columns i j)
+setColumns i j (qualifiers anchor count last negated apart anyCase skip cols pattern) = qualifiers anchor count last negated apart anyCase skip (columns i j) pattern
 
 unfoldable pub hasColumns : Qualifiers → Bool
-hasColumns (qualifiers anchor count last negated apart anyCase skip cols) = isGiven cols
+hasColumns (qualifiers anchor count last negated apart anyCase skip cols pattern) = isGiven cols
 
 -- "an empty string takes no count and no W" (R18)
 unfoldable pub wantsBytes : Qualifiers → Bool
-wantsBytes (qualifiers anchor count last negated apart anyCase skip cols) = not (eqb count 0) || apart
+wantsBytes (qualifiers anchor count last negated apart anyCase skip cols pattern) = not (eqb count 0) || apart
 
 -- ---- one qualifier
 
 -- what stands where a qualifier may begin
 pub data QualifierByte : Type 0 where
-  byteB byteE byteP byteL byteN byteW byteU byteS : QualifierByte
+  byteB byteE byteP byteL byteN byteW byteU byteS byteR : QualifierByte
   byteDigit byteColumns byteOther : QualifierByte
 
 unfoldable pub letterOf : ℕ → QualifierByte
 letterOf b =
     cond (eqb b 66) byteB (cond (eqb b 69) byteE (cond (eqb b 80) byteP (cond (eqb b 76) byteL
-    (cond (eqb b 78) byteN (cond (eqb b 87) byteW (cond (eqb b 85) byteU (cond (eqb b 83) byteS byteOther)))))))
+    (cond (eqb b 78) byteN (cond (eqb b 87) byteW (cond (eqb b 85) byteU (cond (eqb b 83) byteS (cond (eqb b 82) byteR byteOther))))))))
 
 unfoldable pub qualifierByte : ℕ → QualifierByte
 qualifierByte b = cond (isDigit b) byteDigit (cond (eqb b 95) byteColumns (letterOf (upper b)))
@@ -116,6 +126,7 @@ readQualifier inSearch q c byteN = added (placeAt c) (addN inSearch q) (afterByt
 readQualifier inSearch q c byteW = added (placeAt c) (addW q) (afterByte c)
 readQualifier inSearch q c byteU = added (placeAt c) (addU q) (afterByte c)
 readQualifier inSearch q c byteS = added (placeAt c) (addS q) (afterByte c)
+readQualifier inSearch q c byteR = added (placeAt c) (addR q) (afterByte c)
 readQualifier inSearch q c byteDigit = readCount q c
 readQualifier inSearch q c byteColumns = cond (hasColumns q) (refused 4 (placeAt c)) (readColumns q (afterByte c))
 readQualifier inSearch q c byteOther = refused 3 (placeAt c)
@@ -139,12 +150,21 @@ unfoldable pub isEmpty : Line → Bool
 isEmpty [] = true
 isEmpty (b ∷ l) = false
 
+-- what is read of the string itself: with R it must be a pattern, or it is refused as that is (34, "ranked beside 4 by place"; W9.7)
+unfoldable pub patternOr : Got Pattern → Got Qualified → Got Qualified
+patternOr (got pat c) x = x
+patternOr (refused n at) x = refused n at
+
+-- the string's bytes, after its opening delimiter d
+unfoldable pub readBytes : Qualifiers → ℕ → Cursor → Got Qualified
+readBytes q d c =
+    cond (isPattern q) (patternOr (readPattern (placeAt c) (stringNext d c)) (got (qualified q (stringNext d c)) (afterString d c)))
+    (got (qualified q (stringNext d c)) (afterString d c))
+
 -- the string at its opening delimiter: "for the empty string, at its delimiter" (4; R18)
 unfoldable pub readString : Qualifiers → Cursor → Got Qualified
 readString q c =
-    cond (isEmpty (stringNext (nextByte c) (afterByte c)) && wantsBytes q)
-    (refused 4 (placeAt c))
-    (got (qualified q (stringNext (nextByte c) (afterByte c))) (afterString (nextByte c) (afterByte c)))
+    cond (isEmpty (stringNext (nextByte c) (afterByte c)) && wantsBytes q) (refused 4 (placeAt c)) (readBytes q (nextByte c) (afterByte c))
 
 unfoldable pub startQualifiers : Bool → Cursor → Got Qualifiers
 startQualifiers inSearch c = readQualifiers (suc (bytesLeft c)) inSearch noQualifiers (skipSpaces c)
