@@ -7,7 +7,7 @@ use Prim.Native.Nat.{ℕ, suc, _-_}
 use native.Mathlib.Nat.{sub-zero}
 use lib.ListN.{length}
 use Rattle.definitions.specs.Bytes.{Line}
-use Rattle.definitions.specs.Matching.{anywhere, allColumns, qualifiers, Qualified, qualified, placeOf, isFound, turned, isNegated, matches}
+use Rattle.definitions.specs.Matching.{anywhere, allColumns, qualifiers, Qualified, qualified, matchOf, isFound, turned, isNegated, matches}
 use Rattle.definitions.specs.Search.{one, holds, holdsAtEof}
 use Rattle.definitions.specs.Editor.{Ed, ed, current}
 use Rattle.definitions.specs.Edit.{is, isNot, isEof, passes, searchHolds, isAtEof}
@@ -15,9 +15,9 @@ use Rattle.definitions.specs.Everything.{everything}
 
 -- the empty string, with N or without it
 unfoldable pub empty : Bool → Qualified
-empty negated = qualified (qualifiers anywhere 0 false negated false false false allColumns) []
+empty negated = qualified (qualifiers anywhere 0 false negated false false false allColumns false) []
 
-empty-found : (isWord : ℕ → Bool) (negated : Bool) (p : ℕ) (l : Line) → isFound (placeOf isWord (empty negated) p l) ≡ true
+empty-found : (isWord : ℕ → Bool) (negated : Bool) (p : ℕ) (l : Line) → isFound (matchOf isWord (empty negated) p l) ≡ true
 unfolding everything empty
 empty-found isWord negated p l = rw (sub-zero (suc (length l - p)))
 

@@ -31,6 +31,11 @@ module _ {A : Type 0} (P : A → Type 0) where
   each-drop (suc n) [] h = tt
   each-drop (suc n) (x ∷ xs) h = each-drop n xs (h .1)
 
+  -- what follows for each element
+  pub each-to : (R : A → Type 0) → ((x : A) → R x → P x) → (xs : List A) → Each R xs → Each P xs
+  each-to R f [] h = tt
+  each-to R f (x ∷ xs) h = (f x (h .0), each-to R f xs (h .1))
+
   -- what holds of each image holds of a mapped list
   pub each-map : {B : Type 0} (R : B → Type 0) (f : B → A) → ((b : B) → R b → P (f b)) → (xs : List B) → Each R xs → Each P (map f xs)
   each-map R f g [] h = tt

@@ -1,12 +1,15 @@
--- What the items of a script hold is within document 01's bounds: strings and lines are lines, numbers are 1 to 65,535, counts at most 65,535.
-use mathlib.Core.Bool.{Bool, true, false, not, _&&_}
+-- What the items of a script hold is within document 01's bounds: strings and lines are lines, numbers are 1 to 65,535, counts at most 65,535;
+-- a string with R is a pattern (document 02, wish 9).
+use mathlib.Core.Bool.{Bool, true, false, cond, not, _&&_}
 use mathlib.Core.Option.{Option, none, some}
 use mathlib.Core.List.{List, [], _∷_}
 use Prim.Native.Nat.{ℕ}
 use lib.Dec.{leb, ltb}
-use Rattle.definitions.specs.Bytes.{isLine, allLines}
+use Rattle.definitions.specs.Bytes.{Line, isLine, allLines}
 use Rattle.definitions.specs.Matching.{Columns, allColumns, columns, Qualifiers, qualifiers, Qualified, qualified}
-use Rattle.definitions.specs.Strings.{isEmpty}
+use Rattle.definitions.specs.Reader.{Got, got, refused}
+use Rattle.definitions.specs.Patterns.{Pattern, readPattern}
+use Rattle.definitions.specs.Strings.{isPattern, isEmpty}
 use Rattle.definitions.specs.Search.{Search, one, both, either}
 use Rattle.definitions.specs.Editor.{Target, here, line, eof, Through, alone, upTo, toEof}
 use Rattle.definitions.specs.Edit.{Test, is, isNot, isEof, Op, onlyStep, quit, test, begin, beginBack, find, findBack, findDelete, move, nextLine, previousLine, delete, replace, insert, copy, alter, split, join, addGlobal, cancelGlobals, nameWords, point, pointStart, right, left, cutByte, recase}
@@ -23,10 +26,18 @@ goodColumns (columns n m) = isNumber n && isNumber m && leb n m
 
 -- the count is 0 where none is given
 unfoldable pub goodQualifiers : Qualifiers → Bool
-goodQualifiers (qualifiers a k l n w u s c) = leb k 65535 && goodColumns c
+goodQualifiers (qualifiers a k l n w u s c r) = leb k 65535 && goodColumns c
+
+unfoldable pub isRead : Got Pattern → Bool
+isRead (got p c) = true
+isRead (refused n at) = false
+
+-- a string with R is a pattern
+unfoldable pub isFormed : Qualifiers → Line → Bool
+isFormed q l = cond (isPattern q) (isRead (readPattern 0 l)) true
 
 unfoldable pub goodQualified : Qualified → Bool
-goodQualified (qualified q l) = goodQualifiers q && isLine l
+goodQualified (qualified q l) = goodQualifiers q && isLine l && isFormed q l
 
 unfoldable pub goodSearch : Search → Bool
 goodSearch (one q) = goodQualified q

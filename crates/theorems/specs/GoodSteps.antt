@@ -10,14 +10,14 @@ use lib.Dec.{leb, ltb}
 use borrow.Author.Tests.{leb-false, ltb-false}
 use Rattle.definitions.specs.Bytes.{Line, allText, allLines, isLine}
 use Rattle.definitions.specs.Journal.{Record, kept, changed, deleted, inserted, erase}
-use Rattle.definitions.specs.Matching.{placeOf, stringIn}
+use Rattle.definitions.specs.Matching.{matchOf}
 use Rattle.definitions.specs.Search.{Search, holds}
 use Rattle.definitions.specs.Tape.{Tape, restLines}
 use Rattle.definitions.specs.Given.{Given, Carried}
 use Rattle.definitions.specs.Editor.{Ed, ed, afterOf, current, firstLive, Stop, n20, n21, n22, n24, n25, n30, strike, strikeBack, strikeNext, put, retext, edit}
 use Rattle.definitions.specs.StepProgram.{Program, gives, _>>=_, _>>_, runs, Did, answers, changes}
 use Rattle.definitions.specs.Edit.{Op, onlyStep, quit, test, begin, beginBack, find, findBack, findDelete, move, nextLine, previousLine, delete, replace, insert, copy, alter, split, join, addGlobal, cancelGlobals, nameWords, point, pointStart, right, left, cutByte, recase}
-use Rattle.definitions.specs.Edit.{orStop, either, see, goesOn, readPast, lineOr, lookOn, lookBack, placeOr24, byteHere, write, cutAfter, nextOr30, writeJoined, span, program}
+use Rattle.definitions.specs.Edit.{orStop, either, see, goesOn, readPast, lineOr, lookOn, lookBack, matchOr24, byteHere, write, cutAfter, nextOr30, writeJoined, span, program}
 use Rattle.definitions.specs.Control.{Item}
 use Rattle.theorems.specs.Each.{Each, each-append, each-drop}
 use Rattle.theorems.specs.Lines.{and-right}
@@ -228,12 +228,12 @@ good-lines (insert none ls) h isWord = put-lines ls (all-lines ls (and-right (go
 good-lines (insert (some a) ls) h isWord = and-lines _ _ (put-lines ls (all-lines ls (and-right (goodOption (some a)) (allLines ls) h)))
 good-lines copy h isWord = line-lines n20 _ (λ g c before r after p t a k. put-lines (current r ∷ []) (current-line r (k .1 .0), tt) g c (ed before (r ∷ after) p) t a k)
 good-lines (alter d pointing q new) h isWord =
-    line-lines n20 _ (λ g c before r after p t a k. unfold placeOr24 in
-    (some-comes g c WritesWell StopsWell n24 (placeOf isWord q p (current r)) _ (ed before (r ∷ after) p) t k
-    (λ i. write-lines g c before r after p t _ _ (λ o. altered-text d (current r) i (length (stringIn q)) new o (line-text new (and-right (goodQualified q) (isLine new) h))) k)))
+    line-lines n20 _ (λ g c before r after p t a k. unfold matchOr24 in
+    (some-comes g c WritesWell StopsWell n24 (matchOf isWord q p (current r)) _ (ed before (r ∷ after) p) t k
+    (λ m. write-lines g c before r after p t _ _ (λ o. altered-text d (current r) (m .place) (m .width) new o (line-text new (and-right (goodQualified q) (isLine new) h))) k)))
 good-lines (split after q) h isWord =
-    line-lines n20 _ (λ g c before r after p t a k. unfold placeOr24 in
-    (some-comes g c WritesWell StopsWell n24 (placeOf isWord q p (current r)) _ (ed before (r ∷ after) p) t k (λ i. cut-lines g c before r after p t _ k)))
+    line-lines n20 _ (λ g c before r after p t a k. unfold matchOr24 in
+    (some-comes g c WritesWell StopsWell n24 (matchOf isWord q p (current r)) _ (ed before (r ∷ after) p) t k (λ m. cut-lines g c before r after p t _ k)))
 good-lines (join s) h isWord =
     line-lines n20 _ (λ g c before r after p t a k.
     then-comes g c GivesText WritesWell StopsWell nextOr30 _ (ed before (r ∷ after) p) t (next-text g c (ed before (r ∷ after) p) t a k) (λ m e′ t′ x.
@@ -241,7 +241,7 @@ good-lines (join s) h isWord =
 good-lines (addGlobal d s new) h isWord = unfold runs in (λ g c e t a k. (global-good d s new (unfold goodOp in h), k))
 good-lines cancelGlobals h isWord = unfold runs in (λ g c e t a k. (tt, k))
 good-lines (nameWords xs) h isWord = unfold runs in (λ g c e t a k. (tt, k))
-good-lines (point b q) h isWord = then-lines (lineOr n20) _ (λ x. then-lines (placeOr24 isWord q (x .0) (x .1)) _ (λ i. and-lines _ _ goes-lines))
+good-lines (point b q) h isWord = then-lines (lineOr n20) _ (λ x. then-lines (matchOr24 isWord q (x .0) (x .1)) _ (λ m. and-lines _ _ goes-lines))
 good-lines pointStart h isWord = and-lines _ _ (and-lines _ _ goes-lines)
 good-lines right h isWord = then-lines byteHere _ (λ x. and-lines _ _ goes-lines)
 good-lines left h isWord = then-lines (lineOr n20) _ (λ x. and-lines _ _ (and-lines _ _ goes-lines))

@@ -10,7 +10,7 @@ use native.Mathlib.Omega.{arith}
 use lib.Dec.{T}
 use Rattle.definitions.specs.Bytes.{Line}
 use Rattle.definitions.specs.Journal.{oldOf, oldSide}
-use Rattle.definitions.specs.Matching.{Qualified, placeOf}
+use Rattle.definitions.specs.Matching.{Qualified, Match, matchOf}
 use Rattle.definitions.specs.Search.{Search, holds}
 use Rattle.definitions.specs.Tape.{Tape, unread, ended, bind}
 use Rattle.definitions.specs.Given.{Given, Global, given, bytes, Carried, carried, noGlobals, wordsOf}
@@ -18,7 +18,7 @@ use Rattle.definitions.specs.Editor.{Ed, ed, sources, Stop, n20, n21, n22, n24,
 use Rattle.definitions.specs.Reading.{Ran, gave, stopped, opening}
 use Rattle.definitions.specs.StepProgram.{Program, gives, _>>=_, _>>_, runs, RunState, state, wordsIn, Did, answers, changes, quits, adds, cancels, names, Out, on, edited, halt, oneMore, finish, perform}
 use Rattle.definitions.specs.Edit.{Op, onlyStep, quit, test, begin, beginBack, find, findBack, findDelete, move, nextLine, previousLine, delete, replace, insert, copy, alter, split, join, addGlobal, cancelGlobals, nameWords, point, pointStart, right, left, cutByte, recase}
-use Rattle.definitions.specs.Edit.{stopIf, either, see, go, goesOn, goAhead, goTo, lineOr, isAtEof, lookOn, lookBack, write, placeOr24, byteHere, cutAfter, nextOr30, writeJoined, span, program, step}
+use Rattle.definitions.specs.Edit.{stopIf, either, see, go, goesOn, goAhead, goTo, lineOr, isAtEof, lookOn, lookBack, write, matchOr24, byteHere, cutAfter, nextOr30, writeJoined, span, program, step}
 use Rattle.definitions.specs.Control.{Item}
 use Rattle.definitions.specs.Run.{runItems}
 use Rattle.theorems.specs.Reading.{At}
@@ -133,9 +133,9 @@ module _ (g : Given) (c : Carried) where
   tested : (n : Stop) (x : Bool) (m : Program Did) → T (not (meetsEof (stopNumber n))) → AtLine Does m → AtLine Does (_>>_ (stopIf n x) m)
   tested n x m k f e t h = test-comes g c Does Halts n x m e t (λ q. other-stop n e t k h) (λ q. f e t h)
 
-  placed : (isWord : ℕ → Bool) (q : Qualified) (l : Line) (p : ℕ) (k : ℕ → Program Did) → ((i : ℕ) → AtLine Does (k i)) → AtLine Does (_>>=_ (placeOr24 isWord q l p) k)
-  unfolding placeOr24
-  placed isWord q l p k f e t h = some-comes g c Does Halts n24 (placeOf isWord q p l) k e t (other-stop n24 e t (unfold stopNumber in tt) h) (λ i. f i e t h)
+  with-match : (isWord : ℕ → Bool) (q : Qualified) (l : Line) (p : ℕ) (k : Match → Program Did) → ((m : Match) → AtLine Does (k m)) → AtLine Does (_>>=_ (matchOr24 isWord q l p) k)
+  unfolding matchOr24
+  with-match isWord q l p k f e t h = some-comes g c Does Halts n24 (matchOf isWord q p l) k e t (other-stop n24 e t (unfold stopNumber in tt) h) (λ m. f m e t h)
 
   with-byte : (k : Line × ℕ → Program Did) → ((x : Line × ℕ) → AtLine Does (k x)) → Anywhere Does (_>>=_ byteHere k)
   with-byte k f (ed before [] p) t h = unfold stopNumber in (byte-comes g c Does Halts k (ed before [] p) t (other-number 27 (ed before [] p) t tt h) (other-number 20 (ed before [] p) t tt h))
@@ -213,14 +213,14 @@ module _ (g : Given) (c : Carried) where
   program-comes isWord (insert none ls) e t s h = put-comes ls e t h
   program-comes isWord (insert (some a) ls) e t s h = and-comes g c Ground Does Halts (goTo a) _ e t (goTo-comes g c a e t s h) (λ u. put-comes ls)
   program-comes isWord copy e t s h = with-line n20 _ (λ x e₁ t₁ h₁. put-comes (x .0 ∷ []) e₁ t₁ (line-grounded e₁ t₁ h₁)) e t h
-  program-comes isWord (alter d pointing q new) e t s h = with-line n20 _ (λ x. placed isWord q (x .0) (x .1) _ (λ i. write-comes _ _)) e t h
-  program-comes isWord (split after q) e t s h = with-line n20 _ (λ x. placed isWord q (x .0) (x .1) _ (λ i. cut-comes _ _)) e t h
+  program-comes isWord (alter d pointing q new) e t s h = with-line n20 _ (λ x. with-match isWord q (x .0) (x .1) _ (λ m. write-comes _ _)) e t h
+  program-comes isWord (split after q) e t s h = with-line n20 _ (λ x. with-match isWord q (x .0) (x .1) _ (λ m. cut-comes _ _)) e t h
   program-comes isWord (join l) e t s h =
       with-line n20 _ (λ x e₁ t₁ h₁. then-comes g c (λ m. OnLine) Does Halts nextOr30 _ e₁ t₁ (nextOr30-comes g c e₁ t₁ h₁) (λ m. joined-comes _ _)) e t h
   program-comes isWord (addGlobal d l new) e t s h = unfold runs in h
   program-comes isWord cancelGlobals e t s h = unfold runs in h
   program-comes isWord (nameWords xs) e t s h = unfold runs in h
-  program-comes isWord (point b q) e t s h = with-line n20 _ (λ x. placed isWord q (x .0) (x .1) _ (λ i. pointed _)) e t h
+  program-comes isWord (point b q) e t s h = with-line n20 _ (λ x. with-match isWord q (x .0) (x .1) _ (λ m. pointed _)) e t h
   program-comes isWord pointStart e t s h = at-line n20 _ (pointed 0) e t h
   program-comes isWord right e t s h = with-byte _ (λ x. pointed _) e t h
   program-comes isWord left e t s h = with-line n20 _ (λ x. tested n27 _ _ (unfold stopNumber in tt) (pointed _)) e t h

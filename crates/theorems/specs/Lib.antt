@@ -5,6 +5,9 @@ pub mod ArrangeLaws
 pub mod ArrangedTest
 pub mod Lines
 pub mod Places
+pub mod PatternLanguage
+pub mod PatternTaken
+pub mod TakenByPlaces
 pub mod JournalBytes
 pub mod Programs
 pub mod ReadLines
@@ -67,3 +70,7 @@ pub mod BudgetsProof
 pub mod BudgetsLimits
 pub mod AtEof
 pub mod WrongRuns
+pub mod PatternGrammar
+pub mod PatternReader
+pub mod PatternMatches
+pub mod FirstFault

@@ -1,4 +1,4 @@
--- The number of an answer tells how the run ended (document 01, "Who causes which number"): 0 done, 20 to 31 stopped, 1 to 9 and 33 refused.
+-- The number of an answer tells how the run ended (document 01, "Who causes which number"): 0 done, 20 to 31 stopped, 1 to 9, 33 and 34 refused.
 use mathlib.Core.Path.{_≡_, refl}
 use mathlib.Core.Bool.{Bool, true, false, cond}
 use mathlib.Core.Logic.{_⊎_, inl, inr}
@@ -71,9 +71,9 @@ step-number g op (state e c) t = finish-number g c ((runs g c (program (wordsOf 
 abbrev pub EndNumber : ℕ → Type 0
 EndNumber n = (n ≡ 0) ⊎ ((20 ≤ n) × (n ≤ 31))
 
--- a number of "The script's author", "The table's keeper", or 8 and 9 of "The loader", or document 02's 33
+-- a number of "The script's author", "The table's keeper", or 8 and 9 of "The loader", or document 02's 33 and 34
 abbrev pub RefusalNumber : ℕ → Type 0
-RefusalNumber n = ((1 ≤ n) × (n ≤ 9)) ⊎ (n ≡ 33)
+RefusalNumber n = ((1 ≤ n) × (n ≤ 9)) ⊎ ((33 ≤ n) × (n ≤ 34))
 
 -- the number of an answer, by its case
 unfoldable pub Numbered : Answer → Type 0
@@ -128,11 +128,11 @@ script-numbered table budget size script (items is) e =
 script-numbered table budget size script (refusedAt n at) e =
     by (refusal-numbers script n at e)
   where
-    by : ((2 ≤ n) × (n ≤ 6)) ⊎ (n ≡ 33) → RefusalNumber n
+    by : ((2 ≤ n) × (n ≤ 6)) ⊎ ((33 ≤ n) × (n ≤ 34)) → RefusalNumber n
     by (inl k) = inl (omega (arith, k .0), omega (arith, k .1))
-    by (inr q) = inr q
+    by (inr k) = inr k
 
--- THE LAW: refusals have the numbers 1 to 9 and 33, all other answers 0 or 20 to 31
+-- THE LAW: refusals have the numbers 1 to 9, 33 and 34, all other answers 0 or 20 to 31
 pub answer-numbered : (table script : List ℕ) (budget work size : ℕ) → Numbered (runAnswer table script budget work size)
 unfolding runAnswer
 answer-numbered table script budget work size =
@@ -146,8 +146,8 @@ unfolding Numbered answerNumber IsAccepted
 number-accepted (answer n steps f at j) h k = tt
 number-accepted (refusal n at) (inl h) (inl q) = omega (arith, q, h .0)
 number-accepted (refusal n at) (inl h) (inr (b, d)) = omega (arith, b, h .1)
-number-accepted (refusal n at) (inr e) (inl q) = omega (arith, q, e)
-number-accepted (refusal n at) (inr e) (inr (b, d)) = omega (arith, d, e)
+number-accepted (refusal n at) (inr h) (inl q) = omega (arith, q, h .0)
+number-accepted (refusal n at) (inr h) (inr (b, d)) = omega (arith, d, h .0)
 
 pub accepted-by-number : (table script : List ℕ) (budget work size : ℕ) → EndNumber (answerNumber (runAnswer table script budget work size)) → IsAccepted (runAnswer table script budget work size)
 accepted-by-number table script budget work size h = number-accepted (runAnswer table script budget work size) (answer-numbered table script budget work size) h

@@ -1,5 +1,5 @@
--- The place of a string that is found lies in the window.
-use mathlib.Core.Path.{_≡_, refl}
+-- What a qualified string matches lies in the window.
+use mathlib.Core.Path.{_≡_, refl, subst}
 use mathlib.Core.Bool.{Bool, true, false, _&&_}
 use mathlib.Core.Option.{Option, none, some}
 use Prim.Native.Nat.{ℕ, zero, suc, _+_, _-_, _≤_, _<_}
@@ -8,12 +8,15 @@ use lib.ListN.{length}
 use lib.Dec.{eqb, leb}
 use borrow.Author.Tests.{leb-true, eqb-true}
 use Rattle.definitions.specs.Bytes.{Line}
-use Rattle.definitions.specs.Matching.{Anchor, anywhere, atStart, atEnd, precisely, Columns, allColumns, columns, qualifiers, Qualified, qualified, Text, text, cut, window, afterSpaces, standsAt, places, occurrence, placeFrom, located, onlyAt, counted, placeIn, placeOf, stringIn}
+use Rattle.definitions.specs.Matching.{Anchor, anywhere, atStart, atEnd, precisely, Columns, allColumns, columns, qualifiers, Qualified, qualified, Text, text, cut, window, afterSpaces, standsAt, places, occurrence, placeFrom, located, onlyAt, counted, placeIn, Match, matched, takenBy, withWidth, matchOf}
+use Rattle.definitions.specs.Patterns.{Pattern, readPattern}
+use Rattle.definitions.specs.Reader.{Got, got, refused}
 use Rattle.theorems.specs.Lines.{and-left}
+use Rattle.theorems.specs.PatternTaken.{Allows, found-matches}
 
 -- ---- the text T lies in the window
 
-abbrev TextIn : ℕ → Line → Text → Type 0
+abbrev pub TextIn : ℕ → Line → Text → Type 0
 TextIn p l (text start end) = (p ≤ start) × (start ≤ end) × (end ≤ length l)
 
 window-in : (cols : Columns) (p : ℕ) (l : Line) → p ≤ length l → TextIn p l (window cols p l)
@@ -25,6 +28,13 @@ after-in : (skip : Bool) (p : ℕ) (l : Line) (t : Text) → TextIn p l t → Te
 unfolding afterSpaces
 after-in false p l t w = w
 after-in true p l (text start end) w = (omega (arith, w .0), omega (arith, w .1), w .2)
+
+-- the text T, by the columns and S
+abbrev pub textFor : Columns → Bool → ℕ → Line → Text
+textFor cols skip p l = afterSpaces skip l (window cols p l)
+
+pub text-in : (cols : Columns) (skip : Bool) (p : ℕ) (l : Line) → p ≤ length l → TextIn p l (textFor cols skip p l)
+text-in cols skip p l h = after-in skip p l (window cols p l) (window-in cols p l h)
 
 -- ---- an occurrence is one of the places
 
@@ -92,9 +102,40 @@ text-placed anchor stands w k last p l (text start end) i v e =
     let r : (start ≤ i) × (i + w ≤ end) = placed-in anchor stands w k last start end i (v .1) e in
     (omega (arith, r .0, v .0), omega (arith, r .1, v .2))
 
--- the string begins after p bytes at least, and ends within the line
-pub place-inside : (isWord : ℕ → Bool) (q : Qualified) (p : ℕ) (l : Line) (i : ℕ) → p ≤ length l → placeOf isWord q p l ≡ some i → (p ≤ i) × (i + length (stringIn q) ≤ length l)
-unfolding placeOf stringIn
-place-inside isWord (qualified (qualifiers anchor k last n w u skip cols) s) p l i h e =
-    text-placed anchor (standsAt isWord w u s l) (length s) k last p l (afterSpaces skip l (window cols p l)) i
-    (after-in skip p l (window cols p l) (window-in cols p l h)) e
+-- ---- the match
+
+-- it begins after p bytes at least, and ends within the line
+abbrev pub MatchIn : ℕ → Line → Match → Type 0
+MatchIn p l m = (p ≤ m .place) × (m .place + m .width ≤ length l)
+
+width-in : (w p : ℕ) (l : Line) (o : Option ℕ) (m : Match) → ((i : ℕ) → o ≡ some i → (p ≤ i) × (i + w ≤ length l)) → withWidth w o ≡ some m → MatchIn p l m
+unfolding withWidth
+width-in w p l none m f e = absurd (let z : _≡_ {A = ℕ} 0 1 = cc in omega arith)
+width-in w p l (some i) m f e =
+    let is : matched i w ≡ m = cc in
+    subst (MatchIn p l) is (f i refl)
+
+-- the part that a pattern takes
+allows-in : (anchor : Anchor) (start end i w : ℕ) → Allows anchor start end i w → (start ≤ i) × (i + w ≤ end)
+unfolding Allows
+allows-in anywhere start end i w a = a
+allows-in atStart start end i w a = (omega (arith, a .0), a .1)
+allows-in atEnd start end i w a = (a .0, omega (arith, a .1))
+allows-in precisely start end i w a = (omega (arith, a .0), omega (arith, a .1))
+
+taken-in : (r : Got Pattern) (anchor : Anchor) (last : Bool) (isWord : ℕ → Bool) (w : Bool) (p : ℕ) (l : Line) (t : Text) (m : Match) → TextIn p l t
+    → takenBy r anchor last isWord w l t ≡ some m → MatchIn p l m
+unfolding takenBy
+taken-in (got pat c) anchor last isWord w p l (text start end) m v e =
+    let a : (start ≤ m .place) × (m .place + m .width ≤ end) =
+    allows-in anchor start end (m .place) (m .width) (found-matches isWord w pat l anchor last start end (v .1) m e .0) in
+    (omega (arith, a .0, v .0), omega (arith, a .1, v .2))
+taken-in (refused n at) anchor last isWord w p l t m v e = absurd (let z : _≡_ {A = ℕ} 0 1 = cc in omega arith)
+
+pub match-inside : (isWord : ℕ → Bool) (q : Qualified) (p : ℕ) (l : Line) (m : Match) → p ≤ length l → matchOf isWord q p l ≡ some m → MatchIn p l m
+unfolding matchOf
+match-inside isWord (qualified (qualifiers anchor k last n w u skip cols false) s) p l m h =
+    width-in (length s) p l (placeIn anchor (standsAt isWord w u s l) (length s) k last (textFor cols skip p l)) m
+    (λ i. text-placed anchor (standsAt isWord w u s l) (length s) k last p l (textFor cols skip p l) i (text-in cols skip p l h))
+match-inside isWord (qualified (qualifiers anchor k last n w u skip cols true) s) p l m h =
+    taken-in (readPattern 0 s) anchor last isWord w p l (textFor cols skip p l) m (text-in cols skip p l h)

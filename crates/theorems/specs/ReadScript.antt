@@ -6,8 +6,8 @@ use mathlib.Core.List.{List}
 use Prim.Native.Nat.{ℕ, _*_, _≤_}
 use native.Mathlib.Omega.{arith}
 use lib.ListN.{length}
-use lib.Dec.{eqb, leb}
-use borrow.Author.Tests.{leb-true, eqb-true}
+use lib.Dec.{leb}
+use borrow.Author.Tests.{leb-true}
 use Rattle.definitions.specs.Table.{isScript}
 use Rattle.definitions.specs.Control.{Item}
 use Rattle.definitions.specs.Script.{Script, items, refusedAt, readScript}
@@ -33,21 +33,24 @@ record Accepted (s : List ℕ) (all : List Item) : Type 0 where
 acceptance : {s : List ℕ} {all : List Item} → Fine s (items all) → Accepted s all
 acceptance (accepted n p l g) = record { nests = n; placed = p; few = l; good = g }
 
--- a refusal's number is 2, 3, 4, 5, 6 or 33
-pub refusal-numbers : (s : List ℕ) (n at : ℕ) → readScript s ≡ refusedAt n at → ((2 ≤ n) × (n ≤ 6)) ⊎ (n ≡ 33)
+-- a refusal's number is 2, 3, 4, 5, 6, 33 or 34
+pub refusal-numbers : (s : List ℕ) (n at : ℕ) → readScript s ≡ refusedAt n at → ((2 ≤ n) × (n ≤ 6)) ⊎ ((33 ≤ n) × (n ≤ 34))
 refusal-numbers s n at e = numbers (leb 2 n && leb n 6) refl (refusal (fine s (refusedAt n at) e) .0)
   where
-    numbers : (t : Bool) → (leb 2 n && leb n 6) ≡ t → (t || eqb n 33) ≡ true → ((2 ≤ n) × (n ≤ 6)) ⊎ (n ≡ 33)
-    numbers true h q = inl (leb-true 2 n (and-left (leb 2 n) (leb n 6) h), leb-true n 6 (and-right (leb 2 n) (leb n 6) h))
-    numbers false h q = inr (eqb-true n 33 q)
+    between : (i j : ℕ) → (leb i n && leb n j) ≡ true → (i ≤ n) × (n ≤ j)
+    between i j h = (leb-true i n (and-left (leb i n) (leb n j) h), leb-true n j (and-right (leb i n) (leb n j) h))
+
+    numbers : (t : Bool) → (leb 2 n && leb n 6) ≡ t → (t || (leb 33 n && leb n 34)) ≡ true → ((2 ≤ n) × (n ≤ 6)) ⊎ ((33 ≤ n) × (n ≤ 34))
+    numbers true h q = inl (between 2 6 h)
+    numbers false h q = inr (between 33 34 q)
 
 -- the reader's fuel and rounds are enough for every script: their want, number 0, is never the answer
 pub fuel-suffices : (s : List ℕ) (at : ℕ) → readScript s ≡ refusedAt 0 at → ⊥
 fuel-suffices s at e = by (refusal-numbers s 0 at e)
   where
-    by : ((2 ≤ 0) × (0 ≤ 6)) ⊎ (_≡_ {A = ℕ} 0 33) → ⊥
+    by : ((2 ≤ 0) × (0 ≤ 6)) ⊎ ((33 ≤ 0) × (0 ≤ 34)) → ⊥
     by (inl k) = omega (arith, k .0)
-    by (inr q) = omega (arith, q)
+    by (inr k) = omega (arith, k .0)
 
 -- a refusal's place is in the script, or at its end
 pub place-within : (s : List ℕ) (n at : ℕ) → readScript s ≡ refusedAt n at → at ≤ length s
@@ -65,6 +68,6 @@ items-placed s all e = acceptance (fine s (items all) e) .placed
 pub items-few : (s : List ℕ) (all : List Item) → readScript s ≡ items all → length all ≤ 2 * length s
 items-few s all e = acceptance (fine s (items all) e) .few
 
--- their strings and lines are lines, and their numbers are within bounds
+-- their strings and lines are lines, their strings with R are patterns, and their numbers are within bounds
 pub good-items : (s : List ℕ) (all : List Item) → isScript s ≡ true → readScript s ≡ items all → allItems goodItem all ≡ true
 good-items s all h e = acceptance (fine s (items all) e) .good h

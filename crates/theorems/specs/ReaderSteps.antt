@@ -27,9 +27,9 @@ pub record Reached (s : List ℕ) (left : ℕ) (c : Cursor) : Type 0 where
   pub fewer : bytesLeft c < left
   pub lines : Sound s (allLines (linesOf (bytesFrom c)))
 
--- the numbers of the reader's refusals: 2 to 6, and document 02's 33
+-- the numbers of the reader's refusals: 2 to 6, and document 02's 33 and 34
 abbrev pub isRefusal : ℕ → Bool
-isRefusal n = (leb 2 n && leb n 6) || eqb n 33
+isRefusal n = (leb 2 n && leb n 6) || (leb 33 n && leb n 34)
 
 -- what comes of reading a thing: the thing, of which P holds, and a cursor with fewer than `left` bytes left; or a refusal, at a place of the script
 pub data ReadsWell {A : Type 0} (P : A → Type 0) (s : List ℕ) (left : ℕ) : Got A → Type 0 where

@@ -1,5 +1,6 @@
--- The reader of qualified strings keeps to the script, its rounds are enough, and what it reads is within bounds.
-use mathlib.Core.Path.{_≡_, refl, ap, _∙_}
+-- The reader of qualified strings keeps to the script, its rounds are enough, and what it reads is within bounds; a string with R that
+-- it reads is a pattern (document 02, wish 9).
+use mathlib.Core.Path.{_≡_, refl, sym, ap, _∙_}
 use mathlib.Core.Bool.{Bool, true, false, not, _&&_, _||_, false≢true}
 use mathlib.Core.List.{List, [], _∷_}
 use Prim.Native.Nat.{ℕ, zero, suc, _+_, _≤_}
@@ -8,13 +9,15 @@ use native.Mathlib.Omega.{arith}
 use lib.ListN.{length}
 use lib.Dec.{eqb, leb}
 use Rattle.definitions.specs.Bytes.{Line, isDigit, isSmall, upper, isLine}
-use Rattle.definitions.specs.Matching.{Anchor, atStart, atEnd, precisely, Qualifiers, qualifiers}
+use Rattle.definitions.specs.Matching.{Anchor, atStart, atEnd, precisely, Qualifiers, qualifiers, Qualified, qualified}
+use Rattle.definitions.specs.Patterns.{Pattern, readPattern}
 use Rattle.definitions.specs.WordSet.{Names, allNames, misusedAt, namesFrom}
 use Rattle.definitions.specs.Reader.{Cursor, cursor, Got, got, refused, andThen, placeAt, bytesLeft, nextByte, afterByte, skipSpaces, isDelimiter, stringUpTo, stringNext, afterString, quoted}
-use Rattle.definitions.specs.Strings.{noQualifiers, isAnchored, clashesWithL, unless, addAnchor, addCount, addL, addN, addW, addU, addS, setColumns, hasColumns, wantsBytes, QualifierByte, byteB, byteE, byteP, byteL, byteN, byteW, byteU, byteS, byteDigit, byteColumns, byteOther, letterOf, qualifierByte, added, readCount, readColumns, readQualifier, readQualifiers, isEmpty, readString, startQualifiers, qualifiedString, Pair, pair, secondString, twoStrings, plainPair, twoPlainStrings, namesOr33, wordNames}
+use Rattle.definitions.specs.Strings.{noQualifiers, isAnchored, clashesWithL, unless, addAnchor, addCount, addL, addN, addW, addU, addS, addR, isPattern, setColumns, hasColumns, wantsBytes, QualifierByte, byteB, byteE, byteP, byteL, byteN, byteW, byteU, byteS, byteR, byteDigit, byteColumns, byteOther, letterOf, qualifierByte, added, readCount, readColumns, readQualifier, readQualifiers, isEmpty, patternOr, readBytes, readString, startQualifiers, qualifiedString, Pair, pair, secondString, twoStrings, plainPair, twoPlainStrings, namesOr33, wordNames}
 use Rattle.theorems.specs.Lines.{and-left, and-right, and-both, string-short}
 use Rattle.theorems.specs.Words.{misused-inside}
-use Rattle.theorems.specs.GoodItems.{isNumber, goodColumns, goodQualifiers, goodQualified}
+use Rattle.theorems.specs.PatternReader.{pattern-refused, moved, places-move}
+use Rattle.theorems.specs.GoodItems.{isNumber, goodColumns, goodQualifiers, isRead, isFormed, goodQualified}
 use Rattle.theorems.specs.ReaderSteps.{Sound, Reached, ReadsWell, gets, refuses, refuses-at, anything, place-short, as-far, continues, then, widen, decides, along-at, past-byte, after-byte, past-spaces, expect-reads, number-reads, IsNumber, past-string, string-sound, quoted-reads}
 
 -- ---- one qualifier
@@ -32,37 +35,41 @@ added-reads false q le h g = gets h g
 anchor-reads : {s : List ℕ} {left at : ℕ} {c : Cursor} (a : Anchor) (q : Qualifiers) → at ≤ length s → Reached s left c → GoodQualifiers q
     → ReadsWell GoodQualifiers s left (added at (addAnchor a q) c)
 unfolding addAnchor goodQualifiers
-anchor-reads a (qualifiers b k l n w u v c) le h g = added-reads (isAnchored b || not (eqb k 0) || (l && clashesWithL a)) _ le h g
+anchor-reads a (qualifiers b k l n w u v c r) le h g = added-reads (isAnchored b || not (eqb k 0) || (l && clashesWithL a)) _ le h g
 
 module _ {s : List ℕ} {left at : ℕ} {c : Cursor} (le : at ≤ length s) (h : Reached s left c) where
   l-reads : (q : Qualifiers) → GoodQualifiers q → ReadsWell GoodQualifiers s left (added at (addL q) c)
   unfolding addL goodQualifiers
-  l-reads (qualifiers a k l n w u v d) g = added-reads (l || clashesWithL a) _ le h g
+  l-reads (qualifiers a k l n w u v d r) g = added-reads (l || clashesWithL a) _ le h g
 
   n-reads : (inSearch : Bool) (q : Qualifiers) → GoodQualifiers q → ReadsWell GoodQualifiers s left (added at (addN inSearch q) c)
   unfolding addN goodQualifiers
-  n-reads inSearch (qualifiers a k l n w u v d) g = added-reads (n || not inSearch) _ le h g
+  n-reads inSearch (qualifiers a k l n w u v d r) g = added-reads (n || not inSearch) _ le h g
 
   w-reads : (q : Qualifiers) → GoodQualifiers q → ReadsWell GoodQualifiers s left (added at (addW q) c)
   unfolding addW goodQualifiers
-  w-reads (qualifiers a k l n w u v d) g = added-reads w _ le h g
+  w-reads (qualifiers a k l n w u v d r) g = added-reads w _ le h g
 
   u-reads : (q : Qualifiers) → GoodQualifiers q → ReadsWell GoodQualifiers s left (added at (addU q) c)
   unfolding addU goodQualifiers
-  u-reads (qualifiers a k l n w u v d) g = added-reads u _ le h g
+  u-reads (qualifiers a k l n w u v d r) g = added-reads (u || r) _ le h g
 
   s-reads : (q : Qualifiers) → GoodQualifiers q → ReadsWell GoodQualifiers s left (added at (addS q) c)
   unfolding addS goodQualifiers
-  s-reads (qualifiers a k l n w u v d) g = added-reads v _ le h g
+  s-reads (qualifiers a k l n w u v d r) g = added-reads v _ le h g
+
+  r-reads : (q : Qualifiers) → GoodQualifiers q → ReadsWell GoodQualifiers s left (added at (addR q) c)
+  unfolding addR goodQualifiers
+  r-reads (qualifiers a k l n w u v d r) g = added-reads (r || u || not (eqb k 0)) _ le h g
 
   counted-reads : (i : ℕ) (q : Qualifiers) → IsNumber i → GoodQualifiers q → ReadsWell GoodQualifiers s left (added at (addCount i q) c)
   unfolding addCount goodQualifiers
-  counted-reads i (qualifiers a k l n w u v d) e g = added-reads (isAnchored a || not (eqb k 0)) _ le h
+  counted-reads i (qualifiers a k l n w u v d r) e g = added-reads (isAnchored a || not (eqb k 0) || r) _ le h
       (and-both (leb i 65535) (goodColumns d) (and-right (leb 1 i) (leb i 65535) e) (and-right (leb k 65535) (goodColumns d) g))
 
 columns-good : (n m : ℕ) (q : Qualifiers) → IsNumber n → IsNumber m → leb n m ≡ true → GoodQualifiers q → GoodQualifiers (setColumns n m q)
 unfolding setColumns goodQualifiers goodColumns
-columns-good i j (qualifiers a k l n w u v d) e f t g = and-both (leb k 65535) (isNumber i && isNumber j && leb i j)
+columns-good i j (qualifiers a k l n w u v d r) e f t g = and-both (leb k 65535) (isNumber i && isNumber j && leb i j)
     (and-left (leb k 65535) (goodColumns d) g) (and-both (isNumber i && isNumber j) (leb i j) (and-both (isNumber i) (isNumber j) e f) t)
 
 count-reads : {s : List ℕ} {left : ℕ} (q : Qualifiers) (c : Cursor) → GoodQualifiers q → Reached s (suc left) c → ReadsWell GoodQualifiers s left (readCount q c)
@@ -89,6 +96,7 @@ begins byteN = true
 begins byteW = true
 begins byteU = true
 begins byteS = true
+begins byteR = true
 begins byteDigit = true
 begins byteColumns = true
 begins byteOther = false
@@ -109,6 +117,7 @@ qualifier-reads i q c byteN e g h = n-reads (place-short h) (past-qualifier c by
 qualifier-reads i q c byteW e g h = w-reads (place-short h) (past-qualifier c byteW e refl h) q g
 qualifier-reads i q c byteU e g h = u-reads (place-short h) (past-qualifier c byteU e refl h) q g
 qualifier-reads i q c byteS e g h = s-reads (place-short h) (past-qualifier c byteS e refl h) q g
+qualifier-reads i q c byteR e g h = r-reads (place-short h) (past-qualifier c byteR e refl h) q g
 qualifier-reads i q c byteDigit e g h = count-reads q c g h
 qualifier-reads {s} {left} i q c byteColumns e g h = decides (ReadsWell GoodQualifiers s left) (hasColumns q) _ _
     (λ t. refuses-at refl h) (λ t. columns-reads q (afterByte c) g (past-qualifier c byteColumns e refl h))
@@ -146,17 +155,52 @@ start-reads i c h = widen (h .fewer) (qualifiers-reads (suc (bytesLeft c)) i noQ
 
 -- ---- qualified strings
 
+abbrev pub GoodQualified : List ℕ → Qualified → Type 0
+GoodQualified s x = Sound s (goodQualified x)
+
+-- a string within the script ends within it
+string-inside : {s : List ℕ} {left : ℕ} (d : ℕ) (c : Cursor) → Reached s left c → placeAt c + length (stringNext d c) ≤ length s
+unfolding placeAt bytesLeft stringNext
+string-inside d (cursor at bs) h = omega (arith, string-short d bs, h .within)
+
+read-moved : (n : ℕ) (r : Got Pattern) → isRead (moved n r) ≡ isRead r
+unfolding isRead moved
+read-moved n (got p (cursor at bs)) = refl
+read-moved n (refused k at) = refl
+
+-- it is a pattern wherever it stands
+pub read-anywhere : (at : ℕ) (l : Line) → isRead (readPattern at l) ≡ isRead (readPattern 0 l)
+read-anywhere at l = ap isRead (places-move at l) ∙ read-moved at (readPattern 0 l)
+
+module _ {s : List ℕ} {left : ℕ} (q : Qualifiers) (d : ℕ) (c : Cursor) (g : GoodQualifiers q) (h : Reached s left c) where
+  string-gets : isFormed q (stringNext d c) ≡ true → ReadsWell (GoodQualified s) s left (got (qualified q (stringNext d c)) (afterString d c))
+  unfolding goodQualified
+  string-gets f = gets (past-string d c h) (λ e.
+      and-both (goodQualifiers q && isLine (stringNext d c)) (isFormed q (stringNext d c))
+      (and-both (goodQualifiers q) (isLine (stringNext d c)) g (string-sound d c h e)) f)
+
+  pattern-reads : isPattern q ≡ true → (r : Got Pattern) → readPattern (placeAt c) (stringNext d c) ≡ r
+      → ReadsWell (GoodQualified s) s left (patternOr r (got (qualified q (stringNext d c)) (afterString d c)))
+  unfolding patternOr isFormed isRead
+  pattern-reads t (got p c₁) e = string-gets (rw t (sym (read-anywhere (placeAt c) (stringNext d c)) ∙ ap isRead e))
+  pattern-reads t (refused n at) e =
+      let f : (n ≡ 34) × (placeAt c ≤ at) × (at ≤ placeAt c + length (stringNext d c)) = pattern-refused (placeAt c) (stringNext d c) n at e in
+      refuses {n = n} {at = at} (rw (f .0) refl) (omega (arith, f .2, string-inside d c h))
+
+  bytes-reads : ReadsWell (GoodQualified s) s left (readBytes q d c)
+  unfolding readBytes isFormed
+  bytes-reads = decides (ReadsWell (GoodQualified s) s left) (isPattern q) _ _
+      (λ t. pattern-reads t (readPattern (placeAt c) (stringNext d c)) refl) (λ t. string-gets (rw t refl))
+
 pub string-reads : {s : List ℕ} {left : ℕ} (q : Qualifiers) (c : Cursor) → GoodQualifiers q → Reached s left c
-    → ReadsWell (λ x. Sound s (goodQualified x)) s left (readString q c)
-unfolding readString goodQualified
+    → ReadsWell (GoodQualified s) s left (readString q c)
+unfolding readString
 string-reads {s} {left} q c g h =
-    decides (ReadsWell (λ x. Sound s (goodQualified x)) s left) (isEmpty (stringNext (nextByte c) (afterByte c)) && wantsBytes q) _ _
-    (λ t. refuses-at refl h)
-    (λ t. gets (past-string (nextByte c) (afterByte c) (after-byte c h))
-    (λ e. and-both (goodQualifiers q) (isLine (stringNext (nextByte c) (afterByte c))) g (string-sound (nextByte c) (afterByte c) (after-byte c h) e)))
+    decides (ReadsWell (GoodQualified s) s left) (isEmpty (stringNext (nextByte c) (afterByte c)) && wantsBytes q) _ _
+    (λ t. refuses-at refl h) (λ t. bytes-reads q (nextByte c) (afterByte c) g (after-byte c h))
 
 pub qualified-reads : {s : List ℕ} {left : ℕ} (inSearch : Bool) (c : Cursor) → Reached s left c
-    → ReadsWell (λ x. Sound s (goodQualified x)) s left (qualifiedString inSearch c)
+    → ReadsWell (GoodQualified s) s left (qualifiedString inSearch c)
 unfolding qualifiedString
 qualified-reads i c h = then (start-reads i c h) (λ q c₁ h₁ g. string-reads q c₁ g h₁)
 
