@@ -142,7 +142,7 @@ start-fits l (suc k) = go (eqb (getD l k 0) 10) (start-fits l k)
     go true h = omega arith
     go false h = omega arith
 
-or-neither : (a b : Bool) → (a || b) ≡ false → (a ≡ false) × (b ≡ false)
+pub or-neither : (a b : Bool) → (a || b) ≡ false → (a ≡ false) × (b ≡ false)
 or-neither true b h = absurd (true≢false h)
 or-neither false b h = (refl, h)
 

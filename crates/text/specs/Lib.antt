@@ -2,3 +2,4 @@ pub mod Lines
 pub mod Buffer
 pub mod Words
 pub mod Feeds
+pub mod Cursors

@@ -67,7 +67,7 @@ unfoldable pub Told : FirstName → ℕ → Name → Type 0
 Told f len (Name.Bytes x y n) = Bytes f len x y n
 Told f len (Name.Misused k) = (f ≡ misused k) × (k ≤ len)
 
-one-byte : (x c : ℕ) → eqb x c ≡ (leb x c && leb c x)
+pub one-byte : (x c : ℕ) → eqb x c ≡ (leb x c && leb c x)
 one-byte x c = go (eqb x c) refl (leb x c) refl
   where
     go : (s : Bool) → eqb x c ≡ s → (t : Bool) → leb x c ≡ t → s ≡ (t && leb c x)

@@ -188,7 +188,7 @@ module _ (w : List ℕ) (k b y : ℕ) where
 
 -- ---- which words are written
 
-set-below : (vs l : List ℕ) (i j v : ℕ) → j < i → set (sets l i vs) j v ≡ sets (set l j v) i vs
+pub set-below : (vs l : List ℕ) (i j v : ℕ) → j < i → set (sets l i vs) j v ≡ sets (set l j v) i vs
 set-below [] l i j v h = refl
 set-below (a ∷ vs) l i j v h = set-below vs (set l i a) (suc i) j v (omega arith) ∙ ap (λ (r : List ℕ). sets r (suc i) vs) (set-comm l i j a v (λ e. omega arith))
 

@@ -1,4 +1,6 @@
 // Which bytes count for W, as a set in three words: a bit for each byte from 32 to 127.
+pub mod beside;
+
 ghost use mathlib.Core.Path.{_≡_};
 ghost use mathlib.Core.Bool.{true};
 ghost use mathlib.Core.List.{[], _∷_};
@@ -55,7 +57,7 @@ enum Name {
 }
 
 // x and y are two digits, two capitals or two small letters, and do not fall.
-fn is_range(x: u8, y: u8) -> bool
+pub fn is_range(x: u8, y: u8) -> bool
     ensures { λ r. ⌜ r ≡ isRange x y ⌝ }
 {
     (x <= y)
