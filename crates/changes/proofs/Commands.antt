@@ -14,12 +14,10 @@ use Rattle.definitions.specs.Tape.{Tape}
 use Rattle.definitions.specs.Given.{Carried, noGlobals, wordsOf}
 use Rattle.definitions.specs.Editor.{Ed, n20, n27, stopNumber, pointTo}
 use Rattle.definitions.specs.StepProgram.{Program, _>>=_, _>>_, runs, state, Did, perform}
-use Rattle.definitions.specs.Matching.{Qualifiers, Qualified, qualified, stringIn}
-use Rattle.definitions.specs.Edit.{Op, Change, afterIt, beforeIt, exchange, stopIf, go, goesOn, lineOr, placeOr24, byteHere, write, splice, altered, alteredPoint, pointBy, cased, recased, program, step}
+use Rattle.definitions.specs.Matching.{Qualified, Match, matched}
+use Rattle.definitions.specs.Edit.{Op, Change, afterIt, beforeIt, exchange, stopIf, go, goesOn, lineOr, matchOr24, byteHere, write, splice, altered, alteredPoint, pointBy, cased, recased, program, step}
 use Rattle.theorems.specs.Programs.{runs-halt, runs-pass}
 use Rattle.theorems.specs.Words.{step-by-words}
-use Rattle.text.specs.Lines.{part}
-use Rattle.text.proofs.Parts.{part-length}
 use Rattle.editor.specs.Shows.{Shows, pointOf, lent, Answered, atPoint}
 use Rattle.editor.specs.Current.{currentLine, Ready, ShowsOf, ShownOf, PerformsOf, IsReady}
 use Rattle.editor.specs.declared.State.{State}
@@ -30,12 +28,12 @@ use Rattle.editor.proofs.Moving.{point-on}
 use Rattle.editor.proofs.CurrentText.{shown-short}
 use Rattle.changes.specs.declared.look.Byte.{Byte}
 use Rattle.changes.specs.declared.look.Byte.the-variants.{Here, Lacks}
-use Rattle.changes.specs.declared.look.Place.{Place}
-use Rattle.changes.specs.declared.look.Place.the-variants.{At, Nowhere}
-use Rattle.changes.specs.Current.{byteAt, placeAt, ByteIs, PlaceIs, Sights, Finds, PerformsTold, AtLine, HasLine, Writes, Alters, changeOf}
+use Rattle.changes.specs.declared.look.Matched.{Matched}
+use Rattle.changes.specs.declared.look.Matched.the-variants.{At, Nowhere}
+use Rattle.changes.specs.Current.{byteAt, matchAt, ByteIs, MatchIs, Sights, Finds, PerformsTold, AtLine, HasLine, Writes, Alters, changeOf}
 use Rattle.changes.proofs.Casing.{cased-one}
 use Rattle.changes.proofs.Splicing.{shown-text}
-use Rattle.changes.proofs.Looking.{ByteOn, byte-on, byte-stop, PlaceOn, place-on, place-stop}
+use Rattle.changes.proofs.Looking.{ByteOn, byte-on, byte-stop, MatchOn, match-on, match-stop}
 
 -- p is set, and the run goes on
 point-goes : {j : List ℕ} {st : State} (c : Carried) (q : ℕ) (e : Ed) (t : Tape) → Shows j st e t → Answered j (On (atPoint st q)) (perform (lent j) (_>>_ (go (pointTo q)) goesOn) (state e c) t)
@@ -154,74 +152,65 @@ module _ {table j : List ℕ} {st : State} (b : Byte) (sees : Sights table j st 
 -- ---- the commands that look for a string
 
 -- PA, PB; A, B, E, AP, BP, EP
-pointing-to : Bool → Qualified → Line × ℕ → ℕ → Program Did
-pointing-to after q x i = _>>_ (go (pointTo (pointBy after i (length (stringIn q))))) goesOn
+pointing-to : Bool → Line × ℕ → Match → Program Did
+pointing-to after x m = _>>_ (go (pointTo (pointBy after (m .place) (m .width)))) goesOn
 
-altering : Change → Bool → Qualified → Line → Line × ℕ → ℕ → Program Did
-altering ch pointing q new x i = write (altered ch (x .0) i (length (stringIn q)) new) (alteredPoint ch pointing (x .1) i (length (stringIn q)) (length new))
+altering : Change → Bool → Line → Line × ℕ → Match → Program Did
+altering ch pointing new x m = write (altered ch (x .0) (m .place) (m .width) new) (alteredPoint ch pointing (x .1) (m .place) (m .width) (length new))
 
-module _ (isWord : ℕ → Bool) {table j : List ℕ} {st : State} (qs : Qualifiers) (script : List ℕ) (from to : ℕ) (room : to ≤ length script) (o : Place)
-    (finds : Finds isWord table j st (qualified qs (part from to script)) o) where
-  -- the step, told which bytes count for W
-  pub told : (op : Op) (k : List ℕ) (r : Moved) (e : Ed) (c : Carried) (t : Tape) → isWord ≡ wordsOf c → Answered k r (perform (lent j) (program isWord op) (state e c) t)
-      → Answered k r (step (lent j) op (state e c) t)
-  told op k r e c t same h = step-by-words (λ x. Answered k r x) (lent j) op isWord e c t same h
+-- the step, told which bytes count for W
+pub told : (isWord : ℕ → Bool) (j : List ℕ) (op : Op) (k : List ℕ) (r : Moved) (e : Ed) (c : Carried) (t : Tape) → isWord ≡ wordsOf c
+    → Answered k r (perform (lent j) (program isWord op) (state e c) t) → Answered k r (step (lent j) op (state e c) t)
+told isWord j op k r e c t same h = step-by-words (λ x. Answered k r x) (lent j) op isWord e c t same h
 
+module _ (isWord : ℕ → Bool) {table j : List ℕ} {st : State} (q : Qualified) (o : Matched) (finds : Finds isWord table j st q o) where
   -- it is not there
-  pub place-stops : (m : ℕ) → o ≡ Nowhere m → (k : Line × ℕ → ℕ → Program Did) (e : Ed) (c : Carried) (t : Tape) → Ready table j st e t
-      → Answered j (Stop m st) (perform (lent j) (_>>=_ (lineOr n20) (λ x. _>>=_ (placeOr24 isWord (qualified qs (part from to script)) (x .0) (x .1)) (k x))) (state e c) t)
-  unfolding PlaceIs
-  place-stops m q k e c t w =
-      let Q : Qualified = qualified qs (part from to script) in
-      let x : PlaceIs (Nowhere m) e t (runs (lent j) c (placeAt isWord Q) e t) = rw q at (finds e c t w) in
-      perform-stop (lent j) c (_>>=_ (lineOr n20) (λ x. _>>=_ (placeOr24 isWord Q (x .0) (x .1)) (k x))) e t j m st (came-stop (place-stop (lent j) c isWord Q k t e (x .0) (x .2)) (x .1) (w .shows))
+  pub match-stops : (n : ℕ) → o ≡ Nowhere n → (k : Line × ℕ → Match → Program Did) (e : Ed) (c : Carried) (t : Tape) → Ready table j st e t
+      → Answered j (Stop n st) (perform (lent j) (_>>=_ (lineOr n20) (λ x. _>>=_ (matchOr24 isWord q (x .0) (x .1)) (k x))) (state e c) t)
+  unfolding MatchIs
+  match-stops n is k e c t w =
+      let x : MatchIs (Nowhere n) e t (runs (lent j) c (matchAt isWord q) e t) = rw is at (finds e c t w) in
+      perform-stop (lent j) c (_>>=_ (lineOr n20) (λ x. _>>=_ (matchOr24 isWord q (x .0) (x .1)) (k x))) e t j n st (came-stop (match-stop (lent j) c isWord q k t e (x .0) (x .2)) (x .1) (w .shows))
 
-  pub point-stop : (after : Bool) (m : ℕ) → o ≡ Nowhere m → PerformsTold isWord table j st (Op.point after (qualified qs (part from to script))) j (Stop m st)
+  pub point-stop : (after : Bool) (n : ℕ) → o ≡ Nowhere n → PerformsTold isWord table j st (Op.point after q) j (Stop n st)
   unfolding program pointing-to
-  point-stop after m q e c t same w = told (Op.point after (qualified qs (part from to script))) j (Stop m st) e c t same (place-stops m q (pointing-to after (qualified qs (part from to script))) e c t w)
+  point-stop after n is e c t same w = told isWord j (Op.point after q) j (Stop n st) e c t same (match-stops n is (pointing-to after) e c t w)
 
-  pub alter-stop : (ch : Change) (pointing : Bool) (new : Line) (m : ℕ) → o ≡ Nowhere m → PerformsTold isWord table j st (Op.alter ch pointing (qualified qs (part from to script)) new) j (Stop m st)
+  pub alter-stop : (ch : Change) (pointing : Bool) (new : Line) (n : ℕ) → o ≡ Nowhere n → PerformsTold isWord table j st (Op.alter ch pointing q new) j (Stop n st)
   unfolding program altering
-  alter-stop ch pointing new m q e c t same w =
-      told (Op.alter ch pointing (qualified qs (part from to script)) new) j (Stop m st) e c t same (place-stops m q (altering ch pointing (qualified qs (part from to script)) new) e c t w)
+  alter-stop ch pointing new n is e c t same w = told isWord j (Op.alter ch pointing q new) j (Stop n st) e c t same (match-stops n is (altering ch pointing new) e c t w)
 
-  -- it is at place i
-  module _ (i : ℕ) (q : o ≡ At i) where
-    pub string-long : length (stringIn (qualified qs (part from to script))) ≡ to - from
-    unfolding stringIn
-    string-long = part-length script from to room
+  -- its match has n bytes at place i
+  module _ (i n : ℕ) (is : o ≡ At i n) where
+    here : (k : Line × ℕ → Match → Program Did) (e : Ed) (c : Carried) (t : Tape) → Ready table j st e t → MatchOn (lent j) c isWord q k e t (matched i n)
+    unfolding MatchIs
+    here k e c t w = match-on (lent j) c isWord q k t e (matched i n) (rw is at (finds e c t w))
 
-    here : (k : Line × ℕ → ℕ → Program Did) (e : Ed) (c : Carried) (t : Tape) → Ready table j st e t → PlaceOn (lent j) c isWord (qualified qs (part from to script)) k e t i
-    unfolding PlaceIs
-    here k e c t w = place-on (lent j) c isWord (qualified qs (part from to script)) k t e i (rw q at (finds e c t w))
+    pub match-goes : (k : Line × ℕ → Match → Program Did) (e : Ed) (c : Carried) (t : Tape) → Ready table j st e t
+        → perform (lent j) (_>>=_ (lineOr n20) (λ x. _>>=_ (matchOr24 isWord q (x .0) (x .1)) (k x))) (state e c) t
+        ≡ perform (lent j) (k (currentLine e, pointOf e) (matched i n)) (state e c) t
+    match-goes k e c t w =
+        perform-as (lent j) c (_>>=_ (lineOr n20) (λ x. _>>=_ (matchOr24 isWord q (x .0) (x .1)) (k x))) (k (currentLine e, pointOf e) (matched i n)) e e t t (here k e c t w .same)
 
-    pub place-goes : (k : Line × ℕ → ℕ → Program Did) (e : Ed) (c : Carried) (t : Tape) → Ready table j st e t
-        → perform (lent j) (_>>=_ (lineOr n20) (λ x. _>>=_ (placeOr24 isWord (qualified qs (part from to script)) (x .0) (x .1)) (k x))) (state e c) t
-        ≡ perform (lent j) (k (currentLine e, pointOf e) i) (state e c) t
-    place-goes k e c t w =
-        perform-as (lent j) c (_>>=_ (lineOr n20) (λ x. _>>=_ (placeOr24 isWord (qualified qs (part from to script)) (x .0) (x .1)) (k x))) (k (currentLine e, pointOf e) i) e e t t (here k e c t w .same)
+    pub at-match : (e : Ed) (t : Tape) → Ready table j st e t → AtLine table j st (i + n) e t
+    at-match e t w =
+        let f : MatchOn (lent j) noGlobals isWord q (λ x m. goesOn) e t (matched i n) = here (λ x m. goesOn) e noGlobals t w in
+        record { text = record { shows = w .shows; old = w .old }; more = f .more j st (w .shows); long = f .inside (w .point) }
 
-    pub at-place : (e : Ed) (t : Tape) → Ready table j st e t → AtLine table j st (i + (to - from)) e t
-    at-place e t w =
-        let f : PlaceOn (lent j) noGlobals isWord (qualified qs (part from to script)) (λ x n. goesOn) e t i = here (λ x n. goesOn) e noGlobals t w in
-        record { text = record { shows = w .shows; old = w .old }; more = f .more j st (w .shows); long = omega (arith, f .inside (w .point), string-long) }
+    pub has-match : IsReady table j st → HasLine table j st (i + n)
+    has-match (e, t, w) = (e, t, at-match e t w)
 
-    pub has-place : IsReady table j st → HasLine table j st (i + (to - from))
-    has-place (e, t, w) = (e, t, at-place e t w)
-
-    pub point-found : (after : Bool) (r : Moved) (p : ℕ) → p ≡ pointBy after i (to - from) → r ≡ On (atPoint st p) → PerformsTold isWord table j st (Op.point after (qualified qs (part from to script))) j r
+    pub point-found : (after : Bool) (r : Moved) (p : ℕ) → p ≡ pointBy after i n → r ≡ On (atPoint st p) → PerformsTold isWord table j st (Op.point after q) j r
     unfolding program pointing-to
     point-found after r p z s e c t same w =
-        told (Op.point after (qualified qs (part from to script))) j r e c t same
-        (rw (place-goes (pointing-to after (qualified qs (part from to script))) e c t w, string-long, ← z, s) (point-goes c p e t (w .shows)))
+        told isWord j (Op.point after q) j r e c t same (rw (match-goes (pointing-to after) e c t w, ← z, s) (point-goes c p e t (w .shows)))
 
     pub alter-found : (ch : Change) (pointing : Bool) (new : Line) (k : List ℕ) (m : Moved)
-        → Writes table j st (i + (to - from)) (λ l. altered ch l i (to - from) new) (alteredPoint ch pointing (st .p) i (to - from) (length new)) k m
-        → PerformsTold isWord table j st (Op.alter ch pointing (qualified qs (part from to script)) new) k m
+        → Writes table j st (i + n) (λ l. altered ch l i n new) (alteredPoint ch pointing (st .p) i n (length new)) k m
+        → PerformsTold isWord table j st (Op.alter ch pointing q new) k m
     unfolding program altering
     alter-found ch pointing new k m did e c t same w =
-        told (Op.alter ch pointing (qualified qs (part from to script)) new) k m e c t same
-        (rw (place-goes (altering ch pointing (qualified qs (part from to script)) new) e c t w, string-long, ← (w .shows .p)) (did e c t (at-place e t w)))
+        told isWord j (Op.alter ch pointing q new) k m e c t same (rw (match-goes (altering ch pointing new) e c t w, ← (w .shows .p)) (did e c t (at-match e t w)))
 
 -- ---- by the kind of change
 

@@ -1,4 +1,4 @@
--- A look at the current line: the byte at p, the place of a string. Assumes nothing.
+-- A look at the current line: the byte at p, the match of a string. Assumes nothing.
 use mathlib.Core.Path.{_≡_, refl, sym, ap, _∙_}
 use mathlib.Core.Bool.{Bool, true, false, true≢false}
 use mathlib.Core.Option.{Option, none, some}
@@ -16,38 +16,40 @@ use Rattle.definitions.specs.Editor.{Ed, ed, current, n20, n24, n27, stopNumber
 use Rattle.definitions.specs.Editor.{Stop as StopNumber}
 use Rattle.definitions.specs.Reading.{Ran, gave, stopped}
 use Rattle.definitions.specs.StepProgram.{Program, gives, _>>=_, _>>_, runs}
-use Rattle.definitions.specs.Matching.{Qualified, placeOf, stringIn}
-use Rattle.definitions.specs.Edit.{stopIf, orStop, lineIn, lineOr, placeOr24, byteHere}
-use Rattle.theorems.specs.Places.{place-inside}
-use Rattle.matching.specs.Quals.{foundOf}
-use Rattle.matching.specs.declared.Found.{Found}
-use Rattle.matching.specs.declared.Found.the-variants.{At, Nothing}
+use Rattle.definitions.specs.Matching.{Qualified, Match, matched, matchOf}
+use Rattle.definitions.specs.Edit.{stopIf, orStop, lineIn, lineOr, matchOr24, byteHere}
+use Rattle.theorems.specs.Places.{match-inside}
+use Rattle.taking.specs.Ways.{foundOf}
+use Rattle.taking.specs.declared.Found.{Found}
+use Rattle.taking.specs.declared.Found.the-variants.{At, Nothing}
 use Rattle.editor.specs.Shows.{Shows, pointOf, lent}
-use Rattle.editor.specs.Current.{currentLine, PointIn, TableOf, Ready}
+use Rattle.editor.specs.Current.{currentLine, PointIn, TableOf, Ready, IsReady}
 use Rattle.editor.specs.declared.State.{State}
 use Rattle.editor.proofs.Parts.{shown-record, shown-eof}
+use Rattle.editor.proofs.CurrentText.{line-window, shown-short}
 use Rattle.changes.specs.declared.look.Byte.the-variants.{Here, Lacks}
-use Rattle.changes.specs.declared.look.Place.the-variants.{Nowhere}
-use Rattle.changes.specs.declared.look.Place.the-variants.{At as PlaceFound}
-use Rattle.changes.specs.Current.{byteAt, placeAt, ByteIs, PlaceIs, Sights, Finds}
+use Rattle.changes.specs.declared.look.Matched.the-variants.{Nowhere}
+use Rattle.changes.specs.declared.look.Matched.the-variants.{At as MatchedAt}
+use Rattle.changes.specs.Current.{byteAt, matchAt, ByteIs, MatchIs, Sights, Finds}
 
 -- ---- what a part of a step comes to
 
 -- one that gives a value does not stop
-gave-stopped : {A : Type 0} (a : ℕ) (n : StopNumber) (e x : Ed) (t u : Tape) → _≡_ {A = Ran ℕ × Tape} (stopped n e, t) (gave a x, u) → A
-gave-stopped a n e x t u q =
-    let r : _≡_ {A = Ran ℕ} (stopped n e) (gave a x) = ap (λ (y : Ran ℕ × Tape). y .0) q in
-    absurd (let z : _≡_ {A = ℕ} 0 1 = cc in omega arith)
+module _ {B : Type 0} where
+  gave-stopped : {A : Type 0} (a : B) (n : StopNumber) (e x : Ed) (t u : Tape) → _≡_ {A = Ran B × Tape} (stopped n e, t) (gave a x, u) → A
+  gave-stopped a n e x t u q =
+      let r : _≡_ {A = Ran B} (stopped n e) (gave a x) = ap (λ (y : Ran B × Tape). y .0) q in
+      absurd (let z : _≡_ {A = ℕ} 0 1 = cc in omega arith)
 
-same-value : (a v : ℕ) (e : Ed) (t : Tape) → _≡_ {A = Ran ℕ × Tape} (gave a e, t) (gave v e, t) → a ≡ v
-same-value a v e t q =
-    let r : _≡_ {A = Ran ℕ} (gave a e) (gave v e) = ap (λ (y : Ran ℕ × Tape). y .0) q in
-    cc
+  same-value : (a v : B) (e : Ed) (t : Tape) → _≡_ {A = Ran B × Tape} (gave a e, t) (gave v e, t) → a ≡ v
+  same-value a v e t q =
+      let r : _≡_ {A = Ran B} (gave a e) (gave v e) = ap (λ (y : Ran B × Tape). y .0) q in
+      cc
 
-same-stop : (m n : StopNumber) (e : Ed) (t : Tape) → _≡_ {A = Ran ℕ × Tape} (stopped m e, t) (stopped n e, t) → m ≡ n
-same-stop m n e t q =
-    let r : _≡_ {A = Ran ℕ} (stopped m e) (stopped n e) = ap (λ (y : Ran ℕ × Tape). y .0) q in
-    cc
+  same-stop : (m n : StopNumber) (e : Ed) (t : Tape) → _≡_ {A = Ran B × Tape} (stopped m e, t) (stopped n e, t) → m ≡ n
+  same-stop m n e t q =
+      let r : _≡_ {A = Ran B} (stopped m e) (stopped n e) = ap (λ (y : Ran B × Tape). y .0) q in
+      cc
 
 -- ---- the byte at p
 
@@ -158,84 +160,91 @@ module _ (table j : List ℕ) (st : State) where
         let long : p < length (current r) = omega (arith, inside, ap length (is (ed b (r ∷ a) p) t (w .shows) (w .old)), w .shows .p) in
         rw (is (ed b (r ∷ a) p) t (w .shows) (w .old), w .shows .p) (see-byte (lent j) c t b r a p (lt-leb (length (current r)) p long))
 
--- ---- the place of a string
+-- ---- the match of a string
 
 module _ (g : Given) (c : Carried) (isWord : ℕ → Bool) (q : Qualified) (t : Tape) where
-  find-eof : (b : List Record) (p : ℕ) → runs g c (placeAt isWord q) (ed b [] p) t ≡ (stopped n20 (ed b [] p), t)
-  unfolding placeAt lineOr lineIn _>>=_ runs
+  find-eof : (b : List Record) (p : ℕ) → runs g c (matchAt isWord q) (ed b [] p) t ≡ (stopped n20 (ed b [] p), t)
+  unfolding matchAt lineOr lineIn _>>=_ runs
   find-eof b p = refl
 
-  find-line : (b : List Record) (r : Record) (a : List Record) (p : ℕ) → runs g c (placeAt isWord q) (ed b (r ∷ a) p) t ≡ runs g c (orStop n24 (placeOf isWord q p (current r))) (ed b (r ∷ a) p) t
-  unfolding placeAt lineOr lineIn placeOr24 _>>=_ runs
+  find-line : (b : List Record) (r : Record) (a : List Record) (p : ℕ) → runs g c (matchAt isWord q) (ed b (r ∷ a) p) t ≡ runs g c (orStop n24 (matchOf isWord q p (current r))) (ed b (r ∷ a) p) t
+  unfolding matchAt lineOr lineIn matchOr24 _>>=_ runs
   find-line b r a p = refl
 
--- where the string is found at place i, a program goes on with the line, p and the place, which lies within the line
-pub record PlaceOn {A : Type 0} (g : Given) (c : Carried) (isWord : ℕ → Bool) (q : Qualified) (k : Line × ℕ → ℕ → Program A) (e : Ed) (t : Tape) (i : ℕ) : Type 0 where
-  pub same : runs g c (_>>=_ (lineOr n20) (λ x. _>>=_ (placeOr24 isWord q (x .0) (x .1)) (k x))) e t ≡ runs g c (k (currentLine e, pointOf e) i) e t
+-- where the string is found, a program goes on with the line, p and the match, which lies within the line
+pub record MatchOn {A : Type 0} (g : Given) (c : Carried) (isWord : ℕ → Bool) (q : Qualified) (k : Line × ℕ → Match → Program A) (e : Ed) (t : Tape) (m : Match) : Type 0 where
+  pub same : runs g c (_>>=_ (lineOr n20) (λ x. _>>=_ (matchOr24 isWord q (x .0) (x .1)) (k x))) e t ≡ runs g c (k (currentLine e, pointOf e) m) e t
   pub more : (j : List ℕ) (st : State) → Shows j st e t → st .back < length j
-  pub inside : PointIn e → i + length (stringIn q) ≤ length (currentLine e)
+  pub inside : PointIn e → m .place + m .width ≤ length (currentLine e)
 
-module _ {A : Type 0} (g : Given) (c : Carried) (isWord : ℕ → Bool) (q : Qualified) (k : Line × ℕ → ℕ → Program A) (t : Tape) where
-  place-eof : (b : List Record) (p : ℕ) → runs g c (_>>=_ (lineOr n20) (λ x. _>>=_ (placeOr24 isWord q (x .0) (x .1)) (k x))) (ed b [] p) t ≡ (stopped n20 (ed b [] p), t)
+module _ {A : Type 0} (g : Given) (c : Carried) (isWord : ℕ → Bool) (q : Qualified) (k : Line × ℕ → Match → Program A) (t : Tape) where
+  match-eof : (b : List Record) (p : ℕ) → runs g c (_>>=_ (lineOr n20) (λ x. _>>=_ (matchOr24 isWord q (x .0) (x .1)) (k x))) (ed b [] p) t ≡ (stopped n20 (ed b [] p), t)
   unfolding lineOr lineIn _>>=_ runs
-  place-eof b p = refl
+  match-eof b p = refl
 
-  place-line : (b : List Record) (r : Record) (a : List Record) (p : ℕ)
-      → runs g c (_>>=_ (lineOr n20) (λ x. _>>=_ (placeOr24 isWord q (x .0) (x .1)) (k x))) (ed b (r ∷ a) p) t
-      ≡ runs g c (_>>=_ (orStop n24 (placeOf isWord q p (current r))) (k (current r, p))) (ed b (r ∷ a) p) t
-  unfolding lineOr lineIn placeOr24 _>>=_ runs
-  place-line b r a p = refl
+  match-line : (b : List Record) (r : Record) (a : List Record) (p : ℕ)
+      → runs g c (_>>=_ (lineOr n20) (λ x. _>>=_ (matchOr24 isWord q (x .0) (x .1)) (k x))) (ed b (r ∷ a) p) t
+      ≡ runs g c (_>>=_ (orStop n24 (matchOf isWord q p (current r))) (k (current r, p))) (ed b (r ∷ a) p) t
+  unfolding lineOr lineIn matchOr24 _>>=_ runs
+  match-line b r a p = refl
 
-  look-place : (o : Option ℕ) (x : Line × ℕ) (e : Ed) (i : ℕ) → runs g c (orStop n24 o) e t ≡ (gave i e, t)
-      → (runs g c (_>>=_ (orStop n24 o) (k x)) e t ≡ runs g c (k x i) e t) × (o ≡ some i)
+  look-match : (o : Option Match) (x : Line × ℕ) (e : Ed) (m : Match) → runs g c (orStop n24 o) e t ≡ (gave m e, t)
+      → (runs g c (_>>=_ (orStop n24 o) (k x)) e t ≡ runs g c (k x m) e t) × (o ≡ some m)
   unfolding orStop _>>=_ runs
-  look-place none x e i z = gave-stopped i n24 e e t t z
-  look-place (some m) x e i z = rw (same-value m i e t z) (refl, refl)
+  look-match none x e m z = gave-stopped m n24 e e t t z
+  look-match (some v) x e m z = rw (same-value v m e t z) (refl, refl)
 
-  look-no-place : (o : Option ℕ) (x : Line × ℕ) (e : Ed) (n : StopNumber) → runs g c (orStop n24 o) e t ≡ (stopped n e, t)
+  look-no-match : (o : Option Match) (x : Line × ℕ) (e : Ed) (n : StopNumber) → runs g c (orStop n24 o) e t ≡ (stopped n e, t)
       → runs g c (_>>=_ (orStop n24 o) (k x)) e t ≡ (stopped n e, t)
   unfolding orStop _>>=_ runs
-  look-no-place none x e n z = ap (λ (y : StopNumber). (stopped y e, t)) (same-stop n24 n e t z)
-  look-no-place (some m) x e n z = gave-stopped m n e e t t (sym z)
+  look-no-match none x e n z = ap (λ (y : StopNumber). (stopped y e, t)) (same-stop n24 n e t z)
+  look-no-match (some m) x e n z = gave-stopped m n e e t t (sym z)
 
-  pub place-on : (e : Ed) (i : ℕ) → runs g c (placeAt isWord q) e t ≡ (gave i e, t) → PlaceOn g c isWord q k e t i
-  place-on (ed b [] p) i z = gave-stopped i n20 (ed b [] p) (ed b [] p) t t (sym (find-eof g c isWord q t b p) ∙ z)
-  place-on (ed b (r ∷ a) p) i z =
-      let f : _ = look-place (placeOf isWord q p (current r)) (current r, p) (ed b (r ∷ a) p) i (sym (find-line g c isWord q t b r a p) ∙ z) in
-      record { same = place-line b r a p ∙ f .0; more = shown-more b r a p t; inside = λ h. place-inside isWord q p (current r) i h (f .1) .1 }
+  pub match-on : (e : Ed) (m : Match) → runs g c (matchAt isWord q) e t ≡ (gave m e, t) → MatchOn g c isWord q k e t m
+  match-on (ed b [] p) m z = gave-stopped m n20 (ed b [] p) (ed b [] p) t t (sym (find-eof g c isWord q t b p) ∙ z)
+  match-on (ed b (r ∷ a) p) m z =
+      let f : _ = look-match (matchOf isWord q p (current r)) (current r, p) (ed b (r ∷ a) p) m (sym (find-line g c isWord q t b r a p) ∙ z) in
+      record { same = match-line b r a p ∙ f .0; more = shown-more b r a p t; inside = λ h. match-inside isWord q p (current r) m h (f .1) .1 }
 
   -- where it is not, it stops
-  pub place-stop : (e : Ed) (n : StopNumber) → runs g c (placeAt isWord q) e t ≡ (stopped n e, t)
-      → runs g c (_>>=_ (lineOr n20) (λ x. _>>=_ (placeOr24 isWord q (x .0) (x .1)) (k x))) e t ≡ (stopped n e, t)
-  place-stop (ed b [] p) n z =
-      place-eof b p ∙ ap (λ (y : StopNumber). (stopped y (ed b [] p), t)) (same-stop n20 n (ed b [] p) t (sym (find-eof g c isWord q t b p) ∙ z))
-  place-stop (ed b (r ∷ a) p) n z =
-      place-line b r a p ∙ look-no-place (placeOf isWord q p (current r)) (current r, p) (ed b (r ∷ a) p) n (sym (find-line g c isWord q t b r a p) ∙ z)
+  pub match-stop : (e : Ed) (n : StopNumber) → runs g c (matchAt isWord q) e t ≡ (stopped n e, t)
+      → runs g c (_>>=_ (lineOr n20) (λ x. _>>=_ (matchOr24 isWord q (x .0) (x .1)) (k x))) e t ≡ (stopped n e, t)
+  match-stop (ed b [] p) n z =
+      match-eof b p ∙ ap (λ (y : StopNumber). (stopped y (ed b [] p), t)) (same-stop n20 n (ed b [] p) t (sym (find-eof g c isWord q t b p) ∙ z))
+  match-stop (ed b (r ∷ a) p) n z =
+      match-line b r a p ∙ look-no-match (matchOf isWord q p (current r)) (current r, p) (ed b (r ∷ a) p) n (sym (find-line g c isWord q t b r a p) ∙ z)
 
--- ---- what `place_here` answers
+-- ---- what `match_here` answers
+
+-- what `find` asks of the line and p
+pub line-fits : {table j : List ℕ} {st : State} → st .back < length j → (line : List ℕ) → ((e : Ed) (t : Tape) → Shows j st e t → TableOf table e t → line ≡ currentLine e)
+    → IsReady table j st → (st .p ≤ length line) × (length line ≤ 255)
+line-fits more line is (e, t, w) =
+    let l : line ≡ currentLine e = is e t (w .shows) (w .old) in
+    (line-window more e t (w .shows) (w .point) line l, omega (arith, ap length l, shown-short e t (w .shows)))
 
 module _ (isWord : ℕ → Bool) (table j : List ℕ) (st : State) (q : Qualified) where
   pub finds-eof : length j ≤ st .back → Finds isWord table j st q (Nowhere 20)
-  unfolding PlaceIs stopNumber
+  unfolding MatchIs stopNumber
   finds-eof end (ed b [] p) c t w = (n20, refl, find-eof (lent j) c isWord q t b p)
   finds-eof end (ed b (r ∷ a) p) c t w = absurd (shown-eof b r a p t (w .shows) end)
 
   module _ (more : st .back < length j) (line : List ℕ) (is : (e : Ed) (t : Tape) → Shows j st e t → TableOf table e t → line ≡ currentLine e)
-      (f : Found) (found : foundOf f ≡ placeOf isWord q (st .p) line) where
-    place-is : (b : List Record) (r : Record) (a : List Record) (p : ℕ) (t : Tape) → Ready table j st (ed b (r ∷ a) p) t → (o : Option ℕ) → foundOf f ≡ o → placeOf isWord q p (current r) ≡ o
-    place-is b r a p t w o s = rw (← is (ed b (r ∷ a) p) t (w .shows) (w .old), ← (w .shows .p)) (sym found ∙ s)
+      (f : Found) (found : foundOf f ≡ matchOf isWord q (st .p) line) where
+    match-is : (b : List Record) (r : Record) (a : List Record) (p : ℕ) (t : Tape) → Ready table j st (ed b (r ∷ a) p) t → (o : Option Match) → foundOf f ≡ o → matchOf isWord q p (current r) ≡ o
+    match-is b r a p t w o s = rw (← is (ed b (r ∷ a) p) t (w .shows) (w .old), ← (w .shows .p)) (sym found ∙ s)
 
-    place-runs : (c : Carried) (b : List Record) (r : Record) (a : List Record) (p : ℕ) (t : Tape) → Ready table j st (ed b (r ∷ a) p) t → (o : Option ℕ) → foundOf f ≡ o
-        → runs (lent j) c (placeAt isWord q) (ed b (r ∷ a) p) t ≡ runs (lent j) c (orStop n24 o) (ed b (r ∷ a) p) t
-    place-runs c b r a p t w o s =
-        find-line (lent j) c isWord q t b r a p ∙ ap (λ (y : Option ℕ). runs (lent j) c (orStop n24 y) (ed b (r ∷ a) p) t) (place-is b r a p t w o s)
+    match-runs : (c : Carried) (b : List Record) (r : Record) (a : List Record) (p : ℕ) (t : Tape) → Ready table j st (ed b (r ∷ a) p) t → (o : Option Match) → foundOf f ≡ o
+        → runs (lent j) c (matchAt isWord q) (ed b (r ∷ a) p) t ≡ runs (lent j) c (orStop n24 o) (ed b (r ∷ a) p) t
+    match-runs c b r a p t w o s =
+        find-line (lent j) c isWord q t b r a p ∙ ap (λ (y : Option Match). runs (lent j) c (orStop n24 y) (ed b (r ∷ a) p) t) (match-is b r a p t w o s)
 
     pub finds-none : f ≡ Nothing → Finds isWord table j st q (Nowhere 24)
-    unfolding orStop runs PlaceIs stopNumber foundOf
+    unfolding orStop runs MatchIs stopNumber foundOf
     finds-none z (ed b [] p) c t w = absurd (shown-record b p t (w .shows) more)
-    finds-none z (ed b (r ∷ a) p) c t w = (n24, refl, place-runs c b r a p t w none (rw z))
+    finds-none z (ed b (r ∷ a) p) c t w = (n24, refl, match-runs c b r a p t w none (rw z))
 
-    pub finds-on : (i : ℕ) → f ≡ At i → Finds isWord table j st q (PlaceFound i)
-    unfolding orStop runs PlaceIs foundOf
-    finds-on i z (ed b [] p) c t w = absurd (shown-record b p t (w .shows) more)
-    finds-on i z (ed b (r ∷ a) p) c t w = place-runs c b r a p t w (some i) (rw z)
+    pub finds-on : (i n : ℕ) → f ≡ At i n → Finds isWord table j st q (MatchedAt i n)
+    unfolding orStop runs MatchIs foundOf
+    finds-on i n z (ed b [] p) c t w = absurd (shown-record b p t (w .shows) more)
+    finds-on i n z (ed b (r ∷ a) p) c t w = match-runs c b r a p t w (some (matched i n)) (rw z)

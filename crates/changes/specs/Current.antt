@@ -13,8 +13,8 @@ use Rattle.definitions.specs.Editor.{Ed, isLive, n20, stopNumber}
 use Rattle.definitions.specs.Editor.{Stop as StopNumber}
 use Rattle.definitions.specs.Reading.{Ran, gave, stopped}
 use Rattle.definitions.specs.StepProgram.{Program, gives, _>>=_, runs, state, Did, perform}
-use Rattle.definitions.specs.Matching.{Qualified, qualified}
-use Rattle.definitions.specs.Edit.{Op, Change, afterIt, beforeIt, exchange, splice, altered, alteredPoint, lineOr, placeOr24, byteHere, write, step}
+use Rattle.definitions.specs.Matching.{Qualified, qualified, Match, matched}
+use Rattle.definitions.specs.Edit.{Op, Change, afterIt, beforeIt, exchange, splice, altered, alteredPoint, lineOr, matchOr24, byteHere, write, step}
 use Rattle.text.specs.Lines.{part}
 use Rattle.matching.specs.Quals.{qualifiersOf}
 use Rattle.matching.specs.declared.Quals.{Quals}
@@ -25,8 +25,8 @@ use Rattle.editor.specs.Shows.{Holds, lent, Answered}
 use Rattle.editor.specs.Current.{currentLine, Ready, ShowsOf}
 use Rattle.changes.specs.declared.look.Byte.{Byte}
 use Rattle.changes.specs.declared.look.Byte.the-variants.{Here, Lacks}
-use Rattle.changes.specs.declared.look.Place.{Place}
-use Rattle.changes.specs.declared.look.Place.the-variants.{At, Nowhere}
+use Rattle.changes.specs.declared.look.Matched.{Matched}
+use Rattle.changes.specs.declared.look.Matched.the-variants.{At, Nowhere}
 use Rattle.changes.specs.declared.rewrite.Ends.{Ends}
 use Rattle.changes.specs.declared.rewrite.Anew.{Anew}
 
@@ -67,14 +67,14 @@ byteAt = do
   (l, p) ← byteHere
   gives (getD l p 0)
 
--- the place of a string in the line's window, where the bytes of `isWord` count for W
-unfoldable pub placeAt : (ℕ → Bool) → Qualified → Program ℕ
-placeAt isWord q = do
+-- the match of a string in the line's window, where the bytes of `isWord` count for W
+unfoldable pub matchAt : (ℕ → Bool) → Qualified → Program Match
+matchAt isWord q = do
   (l, p) ← lineOr n20
-  placeOr24 isWord q l p
+  matchOr24 isWord q l p
 
 -- a part of a step stops with the number m, the text and the tape as they were
-abbrev pub Halts : ℕ → Ed → Tape → Ran ℕ × Tape → Type 0
+abbrev pub Halts : {A : Type 0} → ℕ → Ed → Tape → Ran A × Tape → Type 0
 Halts m e t x = (n : StopNumber) × (m ≡ stopNumber n) × (x ≡ (stopped n e, t))
 
 -- what `byte_here` answers, and what the look comes to
@@ -82,18 +82,18 @@ unfoldable pub ByteIs : Byte → Ed → Tape → Ran ℕ × Tape → Type 0
 ByteIs (Here b) e t x = x ≡ (gave b e, t)
 ByteIs (Lacks m) e t x = Halts m e t x
 
--- what `place_here` answers, and what the look comes to
-unfoldable pub PlaceIs : Place → Ed → Tape → Ran ℕ × Tape → Type 0
-PlaceIs (At i) e t x = x ≡ (gave i e, t)
-PlaceIs (Nowhere m) e t x = Halts m e t x
+-- what `match_here` answers, and what the look comes to
+unfoldable pub MatchIs : Matched → Ed → Tape → Ran Match × Tape → Type 0
+MatchIs (At i n) e t x = x ≡ (gave (matched i n) e, t)
+MatchIs (Nowhere m) e t x = Halts m e t x
 
 -- the byte at p is r
 abbrev pub Sights : List ℕ → List ℕ → State → Byte → Type 0
 Sights table j st r = (e : Ed) (c : Carried) (t : Tape) → ShowsOf table j st e t → ByteIs r e t (runs (lent j) c byteAt e t)
 
--- the place of the string q is r
-abbrev pub Finds : (ℕ → Bool) → List ℕ → List ℕ → State → Qualified → Place → Type 0
-Finds isWord table j st q r = (e : Ed) (c : Carried) (t : Tape) → Ready table j st e t → PlaceIs r e t (runs (lent j) c (placeAt isWord q) e t)
+-- the match of the string q is r
+abbrev pub Finds : (ℕ → Bool) → List ℕ → List ℕ → State → Qualified → Matched → Type 0
+Finds isWord table j st q r = (e : Ed) (c : Carried) (t : Tape) → Ready table j st e t → MatchIs r e t (runs (lent j) c (matchAt isWord q) e t)
 
 -- with the buffer j and its numbers st before, and the buffer k after, the function that answered r did the command, which looks for a string: it is told
 -- which bytes count for W

@@ -9,14 +9,16 @@ ghost use lib.ListN.{length};
 ghost use Rattle.definitions.specs.Bytes.{allText, lower as «lower-of»};
 ghost use Rattle.definitions.specs.Given.{Carried};
 ghost use Rattle.definitions.specs.Edit.{Op, alteredPoint, pointBy as «point-by», cased as «cased-of»};
+ghost use Rattle.text.specs.Lines.{part};
 ghost use Rattle.wordset.specs.Sets.{inSet};
+ghost use Rattle.matching.specs.Quals.{Formed};
 ghost use Rattle.editor.specs.Shows.{ShowsText, Performs, atPoint};
 ghost use Rattle.editor.specs.Current.{ShownOf, PerformsOf, IsReady};
 ghost use Rattle.changes.specs.Current.{changeOf, sought, alterOf, StringsIn, PerformsTold, HasLine, Alters};
 use editor::Moved;
 use editor::State;
 use look::Byte;
-use look::Place;
+use look::Matched;
 use matching::Quals;
 
 // p becomes q.
@@ -90,13 +92,13 @@ pub fn point<'a>(
     from: usize,
     to: usize,
 ) -> Moved
-    requires { ⌜ (3 ≤ length (now set)) × IsReady (now table) (now j) st × (from ≤ to) × (to ≤ length (now script)) ⌝ }
+    requires { ⌜ (3 ≤ length (now set)) × IsReady (now table) (now j) st × (from ≤ to) × (to ≤ length (now script)) × (to ≤ from + 255) × Formed q (part from to (now script)) ⌝ }
     ensures { λ r. ⌜ PerformsTold (inSet (now (set .entry)) 0) (now (table .entry)) (now (j .entry)) st (Op.point after (sought q (now (script .entry)) from to)) (now (j .entry)) r ⌝ }
 {
-    let place = look::place_here(set, table, j, st, q, script, from, to);
-    match place {
-        Place::Nowhere(n) => Moved::Stop(n, st),
-        Place::At(i) => point_to(st, point_by(after, i, to - from)),
+    let found = look::match_here(set, table, j, st, q, script, from, to);
+    match found {
+        Matched::Nowhere(n) => Moved::Stop(n, st),
+        Matched::At(i, n) => point_to(st, point_by(after, i, n)),
     }
 }
 
@@ -203,23 +205,12 @@ pub fn alter(
     start: usize,
     end: usize,
 ) -> Moved
-    requires { ⌜ (3 ≤ length (now set)) × IsReady (now table) (now j) st × StringsIn (now script) from to start end ⌝ }
+    requires { ⌜ (3 ≤ length (now set)) × IsReady (now table) (now j) st × StringsIn (now script) from to start end × (to ≤ from + 255) × Formed q (part from to (now script)) ⌝ }
     ensures { λ r. ⌜ PerformsTold (inSet (now (set .entry)) 0) (now (table .entry)) (now (j .entry)) st (alterOf kind pointing q (now (script .entry)) from to start end) (now (j .exit)) r ⌝ }
 {
-    let place = look::place_here(set, table, j, st, q, script, from, to);
-    match place {
-        Place::Nowhere(n) => Moved::Stop(n, st),
-        Place::At(i) => {
-            alter_at(
-                table,
-                j,
-                st,
-                kind,
-                pointing,
-                i,
-                to - from,
-                &script[start..end],
-            )
-        }
+    let found = look::match_here(set, table, j, st, q, script, from, to);
+    match found {
+        Matched::Nowhere(n) => Moved::Stop(n, st),
+        Matched::At(i, n) => { alter_at(table, j, st, kind, pointing, i, n, &script[start..end]) }
     }
 }

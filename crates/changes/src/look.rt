@@ -3,7 +3,9 @@ ghost use mathlib.Core.Path.{_≡_};
 ghost use Prim.Native.Nat.{_+_, _≤_};
 ghost use lib.ListN.{length, take};
 ghost use Rattle.definitions.specs.Edit.{splice};
+ghost use Rattle.text.specs.Lines.{part};
 ghost use Rattle.wordset.specs.Sets.{inSet};
+ghost use Rattle.matching.specs.Quals.{Formed};
 ghost use Rattle.editor.specs.Current.{ShownOf, IsReady};
 ghost use Rattle.changes.specs.Current.{written, sought, HasLine, Sights, Finds, Splices};
 use editor::State;
@@ -16,9 +18,9 @@ pub enum Byte {
     Lacks(usize),
 }
 
-// The place of a string, or the number to stop with.
-pub enum Place {
-    At(usize),
+// The match of a string, its place and its width, or the number to stop with.
+pub enum Matched {
+    At(usize, usize),
     Nowhere(usize),
 }
 
@@ -39,9 +41,9 @@ pub fn byte_here<'a>(table: &'a [u8], j: &'a [u8], st: State) -> Byte
     Byte::Here(line[p])
 }
 
-// The place in the current line's window of the string that the script has from `from` to `to`, where the bytes of the set count for W. 20: EOF is
+// The match in the current line's window of the string that the script has from `from` to `to`, where the bytes of the set count for W. 20: EOF is
 // current. 24: no match.
-pub fn place_here<'a>(
+pub fn match_here<'a>(
     set: &[u32],
     table: &'a [u8],
     j: &'a [u8],
@@ -50,19 +52,19 @@ pub fn place_here<'a>(
     script: &[u8],
     from: usize,
     to: usize,
-) -> Place
-    requires { ⌜ (3 ≤ length (now set)) × IsReady (now table) (now j) st × (from ≤ to) × (to ≤ length (now script)) ⌝ }
+) -> Matched
+    requires { ⌜ (3 ≤ length (now set)) × IsReady (now table) (now j) st × (from ≤ to) × (to ≤ length (now script)) × (to ≤ from + 255) × Formed q (part from to (now script)) ⌝ }
     ensures { λ r. ⌜ Finds (inSet (now (set .entry)) 0) (now (table .entry)) (now (j .entry)) st (sought q (now (script .entry)) from to) r ⌝ }
 {
     let at = st.back;
     if at >= j.len() {
-        return Place::Nowhere(20);
+        return Matched::Nowhere(20);
     }
     let line = editor::current::current_line(table, j, st);
     let found = matching::find(set, line, st.p, q, &script[from..to]);
     match found {
-        Found::At(i) => Place::At(i),
-        Found::Nothing => Place::Nowhere(24),
+        Found::At(i, n) => Matched::At(i, n),
+        Found::Nothing => Matched::Nowhere(24),
     }
 }
 

@@ -17,9 +17,10 @@ use Rattle.strings.proofs.Lines.{script-short}
 use Rattle.text.specs.Lines.{part}
 use Rattle.wordset.specs.Sets.{inSet}
 use Rattle.matching.specs.declared.Quals.{Quals}
-use Rattle.matching.specs.Quals.{qualifiersOf}
+use Rattle.matching.specs.Quals.{qualifiersOf, Formed}
 use Rattle.matching.specs.Words.{Readable, startAt, lengthAt, endAt, qualsAt, stringAt}
 use Rattle.matching.proofs.Reading.{ReadsAs}
+use Rattle.matching.proofs.Words.{read-formed}
 use Rattle.items.specs.Kinds.{stringShape, changeShape, shapeOf, isGlobal, pointAfterKind, splitAfterKind, changeKind, pointKind, splitKind}
 use Rattle.items.specs.Words.{kindAt, StringIn}
 use Rattle.items.specs.Arguments.{stringStart, stringLength}
@@ -95,6 +96,12 @@ string-read : (s w : List ℕ) (k n : ℕ) (q : Qualified) → ReadsAs s w k n q
     → qualified (qualifiersOf qs) (part from (from + len) s) ≡ q
 unfolding stringAt
 string-read s w k n q h qs from len e f g = rw (e, f, g, less (startAt w k) (lengthAt w k)) (h .string)
+
+-- what is asked of it where it is looked for: it lies in the script, has at most 255 bytes, and is a pattern where R is given
+pub string-fits : (s w : List ℕ) (k : ℕ) → Readable s w k → (qs : Quals) (from len : ℕ) → qs ≡ qualsAt w k → from ≡ startAt w k → len ≡ lengthAt w k
+    → (from + len ≤ length s) × (from + len ≤ from + 255) × Formed qs (part from (from + len) s)
+unfolding lengthAt
+string-fits s w k h qs from len e f g = (omega (arith, h .string, f, g), omega (arith, g), read-formed w k s qs from len e f g (h .formed))
 
 -- ---- commands with strings
 

@@ -17,13 +17,13 @@ use Rattle.definitions.specs.Editor.{Target, here, line, eof, Through, alone, u
 use Rattle.definitions.specs.Reading.{Ran, gave, stopped, seen, hasRoom, readChanged, readAs, readLine}
 use Rattle.definitions.specs.Globals.{leftBy}
 use Rattle.definitions.specs.StepProgram.{Program, gives, stops, _>>=_, _>>_, runs, state, textOf, wordsIn, Did, answers, changes, quits, adds, cancels, names, Out, on, halt, oneMore, finish, perform}
-use Rattle.definitions.specs.Matching.{Qualified, placeOf, stringIn}
+use Rattle.definitions.specs.Matching.{Qualified, Match, matchOf}
 use Rattle.definitions.specs.Search.{Search, holds}
-use Rattle.definitions.specs.Edit.{Op, Change, afterIt, beforeIt, exchange, stopIf, orStop, either, see, go, goesOn, readUpTo, readPast, goAhead, goTo, lineIn, lineOr, isAtEof, lookOn, lookBack, splice, altered, alteredPoint, pointBy, cased, recased, placeOr24, write, cutAfter, nextOr30, writeJoined, countThrough, reach, span, program, step}
+use Rattle.definitions.specs.Edit.{Op, Change, afterIt, beforeIt, exchange, stopIf, orStop, either, see, go, goesOn, readUpTo, readPast, goAhead, goTo, lineIn, lineOr, isAtEof, lookOn, lookBack, splice, altered, alteredPoint, pointBy, cased, recased, matchOr24, write, cutAfter, nextOr30, writeJoined, countThrough, reach, span, program, step}
 use Rattle.theorems.specs.Reading.{At}
 use Rattle.theorems.specs.ComesTo.{Ended, Keeping, OnGot, ComesTo, then-comes, and-comes, either-comes, test-comes, line-comes, byte-comes, go-comes, reads-keep, within-comes}
 use Rattle.theorems.specs.GoodLines.{splice-length}
-use Rattle.theorems.specs.Places.{place-inside}
+use Rattle.theorems.specs.Places.{MatchIn, match-inside}
 use Rattle.editor.specs.Shows.{GroundedAt}
 use Rattle.editor.specs.Current.{PointIn, PointOut}
 use Rattle.theorems.specs.Lines.{equal-is}
@@ -392,15 +392,15 @@ module _ (g : Given) (c : Carried) where
     unfolding cutAfter runs edits edit
     cut-step k = omega arith
 
-    some-step : (o : Option ℕ) (k : ℕ → Program Did) → ((i : ℕ) → o ≡ some i → ComesTo g c Done Any (k i) (ed b (r ∷ a) p) t) → ComesTo g c Done Any (_>>=_ (orStop n24 o) k) (ed b (r ∷ a) p) t
+    some-step : (o : Option Match) (k : Match → Program Did) → ((m : Match) → o ≡ some m → ComesTo g c Done Any (k m) (ed b (r ∷ a) p) t) → ComesTo g c Done Any (_>>=_ (orStop n24 o) k) (ed b (r ∷ a) p) t
     unfolding orStop _>>=_ runs
     some-step none k f = tt
-    some-step (some i) k f = f i refl
+    some-step (some m) k f = f m refl
 
-    place-step : (isWord : ℕ → Bool) (q : Qualified) (k : ℕ → Program Did) → ((i : ℕ) → p ≤ i → i + length (stringIn q) ≤ length (current r) → ComesTo g c Done Any (k i) (ed b (r ∷ a) p) t)
-        → ComesTo g c Done Any (_>>=_ (placeOr24 isWord q (current r) p) k) (ed b (r ∷ a) p) t
-    unfolding placeOr24
-    place-step isWord q k f = some-step (placeOf isWord q p (current r)) k (λ i is. f i (place-inside isWord q p (current r) i (h .1) is .0) (place-inside isWord q p (current r) i (h .1) is .1))
+    match-step : (isWord : ℕ → Bool) (q : Qualified) (k : Match → Program Did) → ((m : Match) → MatchIn p (current r) m → ComesTo g c Done Any (k m) (ed b (r ∷ a) p) t)
+        → ComesTo g c Done Any (_>>=_ (matchOr24 isWord q (current r) p) k) (ed b (r ∷ a) p) t
+    unfolding matchOr24
+    match-step isWord q k f = some-step (matchOf isWord q p (current r)) k (λ m is. f m (match-inside isWord q p (current r) m (h .1) is))
 
   -- CL: the joined text is no shorter than the current line was
   joined-step : (l : Line) (q : ℕ) → q ≤ length l → Step (writeJoined l q)
@@ -441,10 +441,10 @@ module _ (g : Given) (c : Carried) where
   program-in isWord (Op.alter d pointing q new) (ed b [] p) t h = line-comes g c Done Any n20 _ (ed b [] p) t tt
   program-in isWord (Op.alter d pointing q new) (ed b (r ∷ a) p) t h =
       line-comes g c Done Any n20 _ (ed b (r ∷ a) p) t
-      (place-step b r a p t h isWord q _ (λ i x y. write-step b r a p t h _ _ (altered-in d pointing (current r) p i (length (stringIn q)) new x y)))
+      (match-step b r a p t h isWord q _ (λ m x. write-step b r a p t h _ _ (altered-in d pointing (current r) p (m .place) (m .width) new (x .0) (x .1))))
   program-in isWord (Op.split after q) (ed b [] p) t h = line-comes g c Done Any n20 _ (ed b [] p) t tt
   program-in isWord (Op.split after q) (ed b (r ∷ a) p) t h =
-      line-comes g c Done Any n20 _ (ed b (r ∷ a) p) t (place-step b r a p t h isWord q _ (λ i x y. cut-step b r a p t h _))
+      line-comes g c Done Any n20 _ (ed b (r ∷ a) p) t (match-step b r a p t h isWord q _ (λ m x. cut-step b r a p t h _))
   program-in isWord (Op.join s) (ed b [] p) t h = line-comes g c Done Any n20 _ (ed b [] p) t tt
   program-in isWord (Op.join s) (ed b (r ∷ a) p) t h =
       line-comes g c Done Any n20 _ (ed b (r ∷ a) p) t
@@ -455,7 +455,7 @@ module _ (g : Given) (c : Carried) where
   program-in isWord (Op.point after q) (ed b [] p) t h = line-comes g c Done Any n20 _ (ed b [] p) t tt
   program-in isWord (Op.point after q) (ed b (r ∷ a) p) t h =
       line-comes g c Done Any n20 _ (ed b (r ∷ a) p) t
-      (place-step b r a p t h isWord q _ (λ i x y. point-step b r a p t h _ (point-by-in after i (length (stringIn q)) (length (current r)) y)))
+      (match-step b r a p t h isWord q _ (λ m x. point-step b r a p t h _ (point-by-in after (m .place) (m .width) (length (current r)) (x .1))))
   program-in isWord Op.pointStart e t h = start-step e t h
   program-in isWord Op.right (ed b [] p) t h = byte-comes g c Done Any _ (ed b [] p) t tt tt
   program-in isWord Op.right (ed b (r ∷ a) p) t h = byte-comes g c Done Any _ (ed b (r ∷ a) p) t tt (λ x. point-step b r a p t h (suc p) (leb-false (length (current r)) p x))

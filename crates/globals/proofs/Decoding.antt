@@ -9,7 +9,7 @@ use lib.Seq.{length-take-le}
 use lib.Dec.{leb}
 use borrow.Author.Tests.{leb-true}
 use Rattle.definitions.specs.Bytes.{Line, isLine, allText}
-use Rattle.definitions.specs.Matching.{qualified, stringIn}
+use Rattle.definitions.specs.Matching.{qualified}
 use Rattle.definitions.specs.Search.{one}
 use Rattle.definitions.specs.Strings.{noQualifiers, isEmpty}
 use Rattle.definitions.specs.Given.{Global, global}
@@ -17,8 +17,9 @@ use Rattle.definitions.specs.Globals.{passedThrough}
 use Rattle.definitions.specs.Edit.{Change, afterIt, beforeIt, exchange, addGlobal, globalBy}
 use Rattle.theorems.specs.GoodItems.{goodOp}
 use Rattle.theorems.specs.Lines.{and-left, and-right}
-use Rattle.matching.specs.Words.{startAt, lengthAt, stringAt, stringWords, columnsIn, columnWords, Encodes}
+use Rattle.matching.specs.Words.{startAt, lengthAt, qualsAt, stringAt, stringWords, columnsIn, columnWords, Encodes}
 use Rattle.matching.proofs.Reading.{one-reads}
+use Rattle.matching.proofs.Words.{read-short}
 use Rattle.items.specs.Kinds.{globalAfterKind, globalBeforeKind, globalKind}
 use Rattle.items.specs.Words.{kindAt, OpAt, StringIn}
 use Rattle.items.specs.Arguments.{stringStart, stringLength}
@@ -74,20 +75,21 @@ unfolding Encodes stringWords columnsIn columnWords noQualifiers
 leaf-ends s w k n l h = omega (arith, h .lies .ends)
 
 string-of : (s w : List ℕ) (k : ℕ) (l : Line) → stringAt s w (k + 1) ≡ qualified noQualifiers l → firstIn s w k ≡ l
-unfolding stringAt stringIn
-string-of s w k l e = ap stringIn e
+unfolding stringAt
+string-of s w k l e = cc
 
 parts : (s w : List ℕ) (k m place : ℕ) (c : Change) (l new : Line) → OpAt s w k m place (addGlobal c l new) → Parts s w k m c l new
-unfolding OpAt stringIn
+unfolding OpAt
 parts s w k m place c l new (n, ends, word, first, second) =
     let r = one-reads s w (k + 1) n (qualified noQualifiers l) first in
     let three : n ≡ k + 3 = leaf-ends s w k n l first in
+    let is : firstIn s w k ≡ l = string-of s w k l (r .string) in
     record {
       kind = head-kind (getD w k 0) (globalKind c) place 0 (kind-small c) (word ∙ omega arith);
       last = omega (arith, ends, three);
       fits = r .fits .string;
-      first = string-of s w k l (r .string);
-      long = r .long;
+      first = is;
+      long = sym (length-take-le (lengthAt w (k + 1)) (drop (startAt w (k + 1)) s) (rw length-drop (omega (arith, r .fits .string)))) ∙ ap length is;
       second = subst (λ (i : ℕ). StringIn s (getD w i 0) new) three second;
     }
 
@@ -198,6 +200,10 @@ module _ (s w : List ℕ) (k : ℕ) (line : List ℕ) (n from len start m : ℕ)
         passes-by r out N [] (subst (λ (z : Line). LeftAs r out (throughOne F N z (take n line))) (part-none s (start + m)) h)
         (λ end x g. global-is s w end k x g (λ l new. new ++ [])
         (exchange-put (g .change) (λ e. a (kind-is ∙ parted s w end k x g .kind ∙ e)) (λ e. b (kind-is ∙ parted s w end k x g .kind ∙ e))) ∙ rw (F-is, N-is) refl)
+
+  -- what `next_place` asks
+  pub first-asked : n ≤ 255 → n ≤ length line → (0 ≤ length (take n line)) × (length (take n line) ≤ 255) × (length F ≤ 255)
+  first-asked few fits = (omega arith, rw (length-take-le n line fits) few, read-short w (k + 1) s (qualsAt w (k + 1)) from len refl from-is len-is)
 
   -- it does not occur
   pub passes-none : n ≤ 255 → n ≤ length line → (first : ℕ) → first ≡ nextPlace F (take n line) 0 → first ≡ n → PassesOne s w k (take n line) (Text n) line

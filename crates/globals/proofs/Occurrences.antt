@@ -10,7 +10,7 @@ use lib.ListN.{length, drop, getD, length-drop}
 use lib.Seq.{drop-cons, drop-drop}
 use lib.Dec.{eqb}
 use Rattle.definitions.specs.WordSet.{isWordByte}
-use Rattle.definitions.specs.Matching.{folded, standsFirst, isApart, standsAt, occurrence, located, counted, places, placeFrom, placeIn, window, afterSpaces, qualified, placeOf}
+use Rattle.definitions.specs.Matching.{folded, standsFirst, isApart, standsAt, occurrence, located, counted, places, placeFrom, placeIn, window, afterSpaces, qualified, Match, matched, withWidth, matchOf}
 use Rattle.definitions.specs.Strings.{noQualifiers}
 use Rattle.definitions.specs.Globals.{putForEach}
 use Rattle.theorems.specs.Lines.{and-right}
@@ -18,10 +18,11 @@ use Rattle.text.specs.Lines.{part}
 use Rattle.text.proofs.Parts.{part-none, part-cons}
 use Rattle.matching.proofs.Counts.{no-place, found-here, not-here}
 use Rattle.matching.proofs.Plain.{plain-none}
-use Rattle.matching.specs.Quals.{plain, qualifiersOf, foundOf}
+use Rattle.taking.specs.Ways.{foundOf}
+use Rattle.taking.specs.declared.Found.{Found}
+use Rattle.taking.specs.declared.Found.the-variants.{At, Nothing}
+use Rattle.matching.specs.Quals.{plain, qualifiersOf, Formed}
 use Rattle.matching.specs.declared.Quals.{Quals}
-use Rattle.matching.specs.declared.Found.{Found}
-use Rattle.matching.specs.declared.Found.the-variants.{At, Nothing}
 use Rattle.globals.specs.Passing.{placeOr, nextPlace}
 
 -- a string that stands first is no longer than the bytes
@@ -80,11 +81,11 @@ module _ (s put : List ℕ) where
     pub text : putForEach s put 0 (drop i l) ≡ part i a l ++ (put ++ putForEach s put 0 (drop (a + length s) l))
 
   module _ (l : List ℕ) (pos : 0 < length s) where
-    unfoldable Goes : Option ℕ → ℕ → Type 0
+    unfoldable Goes : Option Match → ℕ → Type 0
     Goes none i = putForEach s put 0 (drop i l) ≡ drop i l
-    Goes (some a) i = Next l i a
+    Goes (some m) i = Next l i (m .place)
 
-    here : (i : ℕ) → standsFirst false s (drop i l) ≡ true → i ≤ length l → Goes (some i) i
+    here : (i : ℕ) → standsFirst false s (drop i l) ≡ true → i ≤ length l → Goes (some (matched i (length s))) i
     unfolding Goes
     here i e h =
         let k = stands-length s (drop i l) e in
@@ -95,20 +96,20 @@ module _ (s put : List ℕ) where
               ∙ ap (λ (x : List ℕ). x ++ (put ++ putForEach s put 0 (drop (i + length s) l))) (sym (part-none l i));
         }
 
-    later : (o : Option ℕ) (i : ℕ) → i < length l → standsFirst false s (drop i l) ≡ false → Goes o (suc i) → Goes o i
+    later : (o : Option Match) (i : ℕ) → i < length l → standsFirst false s (drop i l) ≡ false → Goes o (suc i) → Goes o i
     unfolding Goes
     later none i h e g =
         let d : drop i l ≡ getD l i 0 ∷ drop (suc i) l = drop-cons l i 0 h in
         ap (putForEach s put 0) d ∙ stands-not (getD l i 0) (drop (suc i) l) (ap (standsFirst false s) (sym d) ∙ e)
         ∙ ap (λ (x : List ℕ). getD l i 0 ∷ x) g ∙ sym d
-    later (some a) i h e g =
+    later (some m) i h e g =
         let d : drop i l ≡ getD l i 0 ∷ drop (suc i) l = drop-cons l i 0 h in
         record {
           from = omega (arith, g .from);
           fits = g .fits;
           text = ap (putForEach s put 0) d ∙ stands-not (getD l i 0) (drop (suc i) l) (ap (standsFirst false s) (sym d) ∙ e)
               ∙ ap (λ (x : List ℕ). getD l i 0 ∷ x) (g .text)
-              ∙ ap (λ (x : List ℕ). x ++ (put ++ putForEach s put 0 (drop (a + length s) l))) (sym (part-cons l i a (g .from) (omega (arith, g .fits))));
+              ∙ ap (λ (x : List ℕ). x ++ (put ++ putForEach s put 0 (drop (m .place + length s) l))) (sym (part-cons l i (m .place) (g .from) (omega (arith, g .fits))));
         }
 
     past : (i : ℕ) → i ≤ length l → length l < i + length s → Goes none i
@@ -116,11 +117,11 @@ module _ (s put : List ℕ) where
     past i k h = too-short (drop i l) (rw length-drop (omega (arith, h, k)))
 
     module _ (p : ℕ) (in-line : p ≤ length l) where
-      abbrev from-p : ℕ → ℕ → Option ℕ
-      from-p left j = located (λ j. p + j) (occurrence (λ j. standsAt (isWordByte []) false false s l (p + j)) (length s) 0 0 left j)
+      abbrev from-p : ℕ → ℕ → Option Match
+      from-p left j = withWidth (length s) (located (λ j. p + j) (occurrence (λ j. standsAt (isWordByte []) false false s l (p + j)) (length s) 0 0 left j))
 
       goes : (left j : ℕ) → p + j ≤ length l → left ≡ suc (length l) - (p + j + length s) → Goes (from-p left j) (p + j)
-      unfolding located
+      unfolding located withWidth
       goes zero j k e = rw (no-place (λ j. standsAt (isWordByte []) false false s l (p + j)) (length s) 0 0 j) (past (p + j) k (omega (arith, e)))
       goes (suc left) j k e = by (standsFirst false s (drop (p + j) l)) refl (λ h x. goes left (suc j) h x)
         where
@@ -131,43 +132,47 @@ module _ (s put : List ℕ) where
               rw (not-here (λ j. standsAt (isWordByte []) false false s l (p + j)) (length s) 0 left j (stands-plainly s l (p + j) false x))
               (later (from-p left (suc j)) (p + j) (omega (arith, e)) x (subst (Goes (from-p left (suc j))) (add-suc p j) (go (omega (arith, e)) (omega (arith, e)))))
 
-      plain-place : placeOf (isWordByte []) (qualified noQualifiers s) p l ≡ from-p (suc (length l - p) - length s) 0
-      unfolding placeOf noQualifiers afterSpaces window placeIn counted places placeFrom located
-      plain-place = refl
+      plain-match : matchOf (isWordByte []) (qualified noQualifiers s) p l ≡ from-p (suc (length l - p) - length s) 0
+      unfolding matchOf noQualifiers afterSpaces window placeIn counted places placeFrom located
+      plain-match = refl
 
-      next-goes : Goes (placeOf (isWordByte []) (qualified noQualifiers s) p l) p
-      next-goes = rw plain-place (subst (Goes (from-p (suc (length l - p) - length s) 0)) (add-zero p) (goes (suc (length l - p) - length s) 0 (omega arith) (omega arith)))
+      next-goes : Goes (matchOf (isWordByte []) (qualified noQualifiers s) p l) p
+      next-goes = rw plain-match (subst (Goes (from-p (suc (length l - p) - length s) 0)) (add-zero p) (goes (suc (length l - p) - length s) 0 (omega arith) (omega arith)))
 
       -- it occurs, and where; or it does not
       pub occurs : nextPlace s l p < length l → Next l p (nextPlace s l p)
       unfolding Goes placeOr
-      occurs = by (placeOf (isWordByte []) (qualified noQualifiers s) p l) next-goes
+      occurs = by (matchOf (isWordByte []) (qualified noQualifiers s) p l) next-goes
         where
-          by : (o : Option ℕ) → Goes o p → placeOr (length l) o < length l → Next l p (placeOr (length l) o)
+          by : (o : Option Match) → Goes o p → placeOr (length l) o < length l → Next l p (placeOr (length l) o)
           by none g h = absurd (omega (arith, h))
-          by (some a) g h = g
+          by (some m) g h = g
 
       pub nowhere : (nextPlace s l p < length l → ⊥) → putForEach s put 0 (drop p l) ≡ drop p l
       unfolding Goes placeOr
-      nowhere = by (placeOf (isWordByte []) (qualified noQualifiers s) p l) next-goes
+      nowhere = by (matchOf (isWordByte []) (qualified noQualifiers s) p l) next-goes
         where
-          by : (o : Option ℕ) → Goes o p → (placeOr (length l) o < length l → ⊥) → putForEach s put 0 (drop p l) ≡ drop p l
+          by : (o : Option Match) → Goes o p → (placeOr (length l) o < length l → ⊥) → putForEach s put 0 (drop p l) ≡ drop p l
           by none g h = g
-          by (some a) g h = absurd (h (omega (arith, g .fits)))
+          by (some m) g h = absurd (h (omega (arith, g .fits)))
 
 -- without W it does not matter which bytes count for it
-any-word : (isWord : ℕ → Bool) (s l : List ℕ) (p : ℕ) → placeOf isWord (qualified noQualifiers s) p l ≡ placeOf (isWordByte []) (qualified noQualifiers s) p l
-unfolding placeOf noQualifiers standsAt isApart
+any-word : (isWord : ℕ → Bool) (s l : List ℕ) (p : ℕ) → matchOf isWord (qualified noQualifiers s) p l ≡ matchOf (isWordByte []) (qualified noQualifiers s) p l
+unfolding matchOf noQualifiers standsAt isApart
 any-word isWord s l p = refl
 
+-- without R the string is no pattern
+pub plain-formed : (q : Quals) → q ≡ plain → (s : List ℕ) → Formed q s
+plain-formed q is s given = absurd (false≢true (sym (ap (λ (x : Quals). x .pattern) is) ∙ given))
+
 -- what `find` gives without qualifiers
-module _ (isWord : ℕ → Bool) (s l : List ℕ) (p : ℕ) (r : Found) (q : Quals) (none : q ≡ plain) (e : foundOf r ≡ placeOf isWord (qualified (qualifiersOf q) s) p l) where
-  plainly : foundOf r ≡ placeOf (isWordByte []) (qualified noQualifiers s) p l
+module _ (isWord : ℕ → Bool) (s l : List ℕ) (p : ℕ) (r : Found) (q : Quals) (none : q ≡ plain) (e : foundOf r ≡ matchOf isWord (qualified (qualifiersOf q) s) p l) where
+  plainly : foundOf r ≡ matchOf (isWordByte []) (qualified noQualifiers s) p l
   plainly = rw (← any-word isWord s l p, ← plain-none, ← none) e
 
-  pub is-at : (i : ℕ) → r ≡ At i → i ≡ nextPlace s l p
+  pub is-at : (i n : ℕ) → r ≡ At i n → i ≡ nextPlace s l p
   unfolding foundOf placeOr
-  is-at i h = ap (placeOr (length l)) (sym (ap foundOf h) ∙ plainly)
+  is-at i n h = ap (placeOr (length l)) (sym (ap foundOf h) ∙ plainly)
 
   pub is-nowhere : r ≡ Nothing → length l ≡ nextPlace s l p
   unfolding foundOf placeOr

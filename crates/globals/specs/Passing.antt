@@ -6,7 +6,7 @@ use Prim.Native.Nat.{ℕ, _≤_, _<_}
 use lib.ListN.{length, take}
 use Rattle.definitions.specs.Bytes.{Line}
 use Rattle.definitions.specs.WordSet.{isWordByte}
-use Rattle.definitions.specs.Matching.{qualified, placeOf}
+use Rattle.definitions.specs.Matching.{qualified, Match, matchOf}
 use Rattle.definitions.specs.Strings.{noQualifiers}
 use Rattle.definitions.specs.Given.{Global, global, Carried}
 use Rattle.definitions.specs.Editor.{n25, Got, got, stop}
@@ -25,12 +25,12 @@ LeftAs Long line (stop n) = n ≡ n25
 -- ---- one global
 
 -- where the string first occurs in the line from place i on; at its end where it does not. Globals have no W (W8.6)
-unfoldable pub placeOr : ℕ → Option ℕ → ℕ
+unfoldable pub placeOr : ℕ → Option Match → ℕ
 placeOr n none = n
-placeOr n (some i) = i
+placeOr n (some m) = m .place
 
 abbrev pub nextPlace : Line → Line → ℕ → ℕ
-nextPlace s l i = placeOr (length l) (placeOf (isWordByte []) (qualified noQualifiers s) i l)
+nextPlace s l i = placeOr (length l) (matchOf (isWordByte []) (qualified noQualifiers s) i l)
 
 -- a line of at most 255 bytes, a string that is not empty, and where it first occurs; what is put for it has two parts
 pub record Occurs (l : Line) (first : ℕ) (s a b : Line) : Type 0 where

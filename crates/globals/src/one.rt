@@ -16,12 +16,12 @@ use text::copies::copy_in;
 
 // The place of the string in the line from `at` on; the line's end where it does not occur. Globals have no W: no byte counts.
 fn next_place(line: &[u8], at: usize, s: &[u8]) -> usize
-    requires { ⌜ at ≤ length (now line) ⌝ }
+    requires { ⌜ (at ≤ length (now line)) × (length (now line) ≤ 255) × (length (now s) ≤ 255) ⌝ }
     ensures { λ r. ⌜ r ≡ nextPlace (now (s .entry)) (now (line .entry)) at ⌝ }
 {
     let found = matching::find(&[0, 0, 0], line, at, matching::no_qualifiers(), s);
     match found {
-        Found::At(i) => i,
+        Found::At(i, _) => i,
         Found::Nothing => line.len(),
     }
 }

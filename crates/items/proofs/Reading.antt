@@ -3,10 +3,10 @@ use mathlib.Core.Path.{_≡_, refl, sym, ap, _∙_}
 use mathlib.Core.Logic.{inl, inr}
 use mathlib.Core.Bool.{Bool, true, false, cond, false≢true}
 use mathlib.Core.List.{List, [], _∷_}
-use Prim.Native.Nat.{ℕ, _+_, _≤_, _<_}
+use Prim.Native.Nat.{ℕ, _+_, _/_, _%_, _≤_, _<_}
 use native.Mathlib.Omega.{arith}
 use lib.ListN.{length, getD}
-use lib.Dec.{ltb}
+use lib.Dec.{eqb}
 use Rattle.definitions.specs.Bytes.{Line}
 use Rattle.definitions.specs.Matching.{Qualified}
 use Rattle.definitions.specs.Search.{Search, one}
@@ -213,7 +213,7 @@ items-end s w k n (i ∷ items) h = omega (arith, item-reads s w k (h .0) i (h .
 
 pub end-near : (w : List ℕ) (k : ℕ) → endAt w k ≤ k + 3
 unfolding endAt
-end-near w k = near (ltb (flagsAt w k) 128)
+end-near w k = near (eqb (flagsAt w k / 128 % 2) 0)
   where
     near : (b : Bool) → cond b (k + 2) (k + 3) ≤ k + 3
     near true = omega arith

@@ -1,27 +1,16 @@
--- Laws of single bytes. Assumes nothing.
+-- The bytes beside a place, for W. Assumes nothing.
 use mathlib.Core.Path.{_≡_}
 use mathlib.Core.Bool.{Bool, true, false, not}
 use mathlib.Core.List.{List}
-use Prim.Native.Nat.{ℕ, zero, suc, _-_, _<_}
-use native.Mathlib.Nat.{not-suc-le-zero}
-use native.Mathlib.Numerals.{sub-one}
+use Prim.Native.Nat.{ℕ}
 use lib.ListN.{getD}
 use Rattle.definitions.specs.Matching.{byteBefore, isApart}
 
-pub before-start : (l : List ℕ) (i : ℕ) → i ≡ 0 → byteBefore l i ≡ 0
-unfolding byteBefore
-before-start l i e = rw e
-
-pub before-later : (l : List ℕ) (i : ℕ) → 0 < i → byteBefore l i ≡ getD l (i - 1) 0
-unfolding byteBefore
-before-later l zero h = absurd (not-suc-le-zero h)
-before-later l (suc i) h = rw sub-one
-
 module _ (isWord : ℕ → Bool) (l : List ℕ) (i j : ℕ) where
-  pub joined : isWord (byteBefore l i) ≡ true → isApart isWord true l i j ≡ false
+  pub joined : not (isWord (byteBefore l i)) ≡ false → isApart isWord true l i j ≡ false
   unfolding isApart
   joined e = rw e
 
-  pub apart-by : (b : Bool) → isWord (byteBefore l i) ≡ false → isWord (getD l j 0) ≡ b → isApart isWord true l i j ≡ not b
+  pub apart-by : (b : Bool) → not (isWord (byteBefore l i)) ≡ true → not (isWord (getD l j 0)) ≡ b → isApart isWord true l i j ≡ b
   unfolding isApart
   apart-by b e f = rw (e, f)

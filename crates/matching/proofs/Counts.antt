@@ -5,9 +5,9 @@ use mathlib.Core.Option.{Option, none, some}
 use Prim.Native.Nat.{ℕ, zero, suc, _+_, _-_, _≤_, _<_, max}
 use native.Mathlib.Nat.{zero-sub, suc-sub-suc, sub-zero, add-zero, add-suc, suc-add}
 use native.Mathlib.Omega.{arith}
-use Rattle.definitions.specs.Matching.{text, places, placeFrom, occurrence, located, onlyAt, counted}
-use Rattle.matching.specs.Quals.{foundOf}
-use Rattle.matching.specs.declared.Found.the-variants.{At, Nothing}
+use Rattle.definitions.specs.Matching.{text, places, placeFrom, occurrence, located, onlyAt, counted, withWidth}
+use Rattle.taking.specs.Ways.{foundOf}
+use Rattle.taking.specs.declared.Found.the-variants.{At, Nothing}
 
 module _ (st : ℕ → Bool) (w : ℕ) where
   pub no-place : (k n j : ℕ) → occurrence st w k n 0 j ≡ none
@@ -41,8 +41,8 @@ abbrev pub from : (ℕ → ℕ) → (ℕ → Bool) → ℕ → ℕ → ℕ → �
 from place st w k left j = located place (occurrence (λ n. st (place n)) w (k - 1) 0 (suc left) j)
 
 module _ (place : ℕ → ℕ) (st : ℕ → Bool) (w k left j i : ℕ) (here : place j ≡ i) where
-  pub found : k ≤ 1 → st i ≡ true → foundOf (At i) ≡ from place st w k left j
-  unfolding foundOf located
+  pub found : k ≤ 1 → st i ≡ true → some i ≡ from place st w k left j
+  unfolding located
   found h e =
       let first : k - 1 ≡ 0 = omega arith in
       rw (first, found-here (λ n. st (place n)) w left j (rw here e), here)
@@ -70,13 +70,14 @@ module _ (place : ℕ → ℕ) (st : ℕ → Bool) (w k left j i : ℕ) (here : 
         let c : left - (w - 1) ≡ 0 = omega arith in
         rw (jumped (k - 1) (k - 1 - 1) (omega arith), c, no-place (λ n. st (place n)) w (k - 1 - 1) 0 (suc j + (w - 1)))
 
-pub only-here : (t : Bool) (i : ℕ) → t ≡ true → foundOf (At i) ≡ onlyAt t i
-unfolding foundOf onlyAt
-only-here t i e = rw e
+module _ (t : Bool) (i w : ℕ) where
+  pub only-here : t ≡ true → foundOf (At i w) ≡ withWidth w (onlyAt t i)
+  unfolding foundOf withWidth onlyAt
+  only-here e = rw e
 
-pub not-only : (t : Bool) (i : ℕ) → t ≡ false → foundOf Nothing ≡ onlyAt t i
-unfolding foundOf onlyAt
-not-only t i e = rw e
+  pub not-only : t ≡ false → foundOf Nothing ≡ withWidth w (onlyAt t i)
+  unfolding foundOf withWidth onlyAt
+  not-only e = rw e
 
 -- how a counted search begins: at the leftmost place, or at the rightmost
 module _ (st : ℕ → Bool) (w k start end top : ℕ) (fits : start + w ≤ end) (at : top ≡ end - w) where

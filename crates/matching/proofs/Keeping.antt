@@ -1,14 +1,19 @@
 -- Laws for the writer of a search's words: what encodes a search, and what keeps it. Assumes nothing.
 use mathlib.Core.Path.{_≡_, refl, sym, ap, _∙_}
+use mathlib.Core.Bool.{Bool, true, false, cond}
 use mathlib.Core.List.{List, [], _∷_, _++_, append-assoc}
 use Prim.Native.Nat.{ℕ, zero, suc, _+_, _*_, _≤_, _<_}
 use native.Mathlib.Omega.{arith}
 use lib.ListN.{length, take, drop, getD, set, length-drop, length-set, length-append, List·getD-append}
 use lib.Seq.{ext-getD, getD-take, getD-drop, getD-set-same, getD-set-other, length-take-le, sets, sets-eq, length-sets, drop-at, take-append-seam}
-use Rattle.definitions.specs.Matching.{qualified}
+use Rattle.definitions.specs.Bytes.{Line}
+use Rattle.definitions.specs.Matching.{Anchor, Columns, qualifiers, qualified}
+use Rattle.definitions.specs.Patterns.{Pattern}
 use Rattle.definitions.specs.Search.{Search, one, both, either}
-use Rattle.matching.specs.Quals.{columnsOf, qualifiersOf}
-use Rattle.matching.specs.Words.{columnsIn, stringWords, AreColumns, Lies, Encodes, Writable}
+use Rattle.marks.specs.Sweeping.{Reads}
+use Rattle.leads.specs.Leading.{leadsOf}
+use Rattle.matching.specs.Quals.{anchorOf, columnsOf, qualifiersOf, leadNumber, Formed}
+use Rattle.matching.specs.Words.{columnsIn, stringWords, ledBy, ledOf, ledIn, IsFormed, AreColumns, Lies, Encodes, Writable}
 use Rattle.matching.specs.declared.Quals.{Quals}
 use Rattle.matching.proofs.Running.{forward}
 
@@ -40,7 +45,8 @@ kept script words words' k m (one (qualified q s)) same room h =
     record {
       start = h .start;
       len = h .len;
-      lies = lies-kept words words' k m (stringWords q (h .start) (h .len)) same room (h .lies);
+      lies = lies-kept words words' k m (stringWords q (h .start) (h .len) (ledOf q s)) same room (h .lies);
+      formed = h .formed;
       columned = h .columned;
       short = h .short;
       inside = h .inside;
@@ -99,6 +105,10 @@ unfolding AreColumns columnsOf
 are-columns zero to h = tt
 are-columns (suc n) to h = (omega arith, omega arith)
 
+columned-of : (q : Quals) → q .from ≤ 65535 → AreColumns (columnsIn (qualifiersOf q))
+unfolding qualifiersOf columnsIn
+columned-of q h = are-columns (q .from) (q .to) h
+
 sets-lie : (words : List ℕ) (k : ℕ) (ws : List ℕ) → k + length ws ≤ length words → Lies (sets words k ws) k (k + length ws) ws
 sets-lie words k ws h =
     let rest : List ℕ = drop (k + length ws) words in
@@ -106,18 +116,41 @@ sets-lie words k ws h =
     ap (drop k) (sets-eq ws words k h ∙ append-assoc (take k words) ws rest) ∙ drop-at (take k words) (ws ++ rest) k (length-take-le k words (omega arith)) in
     record { ends = refl; room = rw (length-sets words k ws) h; same = ap (take (length ws)) dropped ∙ take-append-seam ws rest }
 
+is-formed : (a : Anchor) (count : ℕ) (l n w u s : Bool) (c : Columns) (r : Bool) (line : Line)
+    → (r ≡ true → (pat : Pattern) × Reads line pat × (count ≡ leadNumber (leadsOf pat))) → IsFormed (qualifiers a (cond r 0 count) l n w u s c r) line
+unfolding IsFormed
+is-formed a count l n w u s c true line h = let given = h refl in (refl, given .0, given .1)
+is-formed a count l n w u s c false line h = tt
+
+led-is : (a : Anchor) (count : ℕ) (l n w u s : Bool) (c : Columns) (r : Bool) (line : Line)
+    → (r ≡ true → (pat : Pattern) × Reads line pat × (count ≡ leadNumber (leadsOf pat))) → cond r count 0 ≡ ledOf (qualifiers a (cond r 0 count) l n w u s c r) line
+unfolding ledOf ledBy
+led-is a count l n w u s c true line h = let given = h refl in given .2 ∙ sym (ap ledBy (given .1))
+led-is a count l n w u s c false line h = refl
+
+module _ (q : Quals) (s : Line) (formed : Formed q s) where
+  pub formed-of : IsFormed (qualifiersOf q) s
+  unfolding qualifiersOf
+  formed-of = is-formed (anchorOf (q .anchor)) (q .count) (q .last) (q .negated) (q .word) (q .fold) (q .skip) (columnsOf (q .from) (q .to)) (q .pattern) s formed
+
+  -- what `put_string` writes is the number of what the matches can begin with
+  pub led-of : ledIn q ≡ ledOf (qualifiersOf q) s
+  unfolding qualifiersOf ledIn
+  led-of = led-is (anchorOf (q .anchor)) (q .count) (q .last) (q .negated) (q .word) (q .fold) (q .skip) (columnsOf (q .from) (q .to)) (q .pattern) s formed
+
 -- what `put_string` writes is a search of one string
-pub string-encodes : (script words : List ℕ) (k : ℕ) (q : Quals) (start len : ℕ) → Writable q start len → start + len ≤ length script
-    → k + length (stringWords (qualifiersOf q) start len) ≤ length words
-    → Encodes script (sets words k (stringWords (qualifiersOf q) start len)) k (k + length (stringWords (qualifiersOf q) start len))
+pub string-encodes : (script words : List ℕ) (k : ℕ) (q : Quals) (start len : ℕ) → Writable q start len → Formed q (take len (drop start script)) → start + len ≤ length script
+    → k + length (stringWords (qualifiersOf q) start len (ledIn q)) ≤ length words
+    → Encodes script (sets words k (stringWords (qualifiersOf q) start len (ledIn q))) k (k + length (stringWords (qualifiersOf q) start len (ledIn q)))
     (one (qualified (qualifiersOf q) (take len (drop start script))))
-unfolding Encodes qualifiersOf columnsIn
-string-encodes script words k q start len ok inside room =
+unfolding Encodes
+string-encodes script words k q start len ok formed inside room =
     record {
       start = start;
       len = len;
-      lies = sets-lie words k (stringWords (qualifiersOf q) start len) room;
-      columned = are-columns (q .from) (q .to) (ok .first);
+      lies = rw (← led-of q (take len (drop start script)) formed) (sets-lie words k (stringWords (qualifiersOf q) start len (ledIn q)) room);
+      formed = formed-of q (take len (drop start script)) formed;
+      columned = columned-of q (ok .first);
       short = omega (arith, ok .short);
       inside = inside;
       string = refl;

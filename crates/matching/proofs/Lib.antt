@@ -7,6 +7,7 @@ pub mod Counts
 pub mod Passing
 pub mod Sides
 pub mod Finding
+pub mod Leads
 pub mod Words
 pub mod Reading
 pub mod Running

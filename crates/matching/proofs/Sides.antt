@@ -1,14 +1,14 @@
 -- The two scans, one law for each way of a turn: from the left, where places are passed by the first byte, and from the right. Assumes nothing.
-use mathlib.Core.Path.{_≡_, refl, sym, _∙_}
+use mathlib.Core.Path.{_≡_, refl, sym, ap, _∙_}
 use mathlib.Core.Bool.{Bool, true, false}
 use mathlib.Core.List.{List}
 use Prim.Native.Nat.{ℕ, _+_, _-_, _≤_, _<_, max}
 use native.Mathlib.Omega.{arith}
 use lib.ListN.{length, drop}
-use Rattle.definitions.specs.Matching.{text, standsAt, counted}
-use Rattle.matching.specs.Quals.{foundOf}
+use Rattle.definitions.specs.Matching.{text, standsAt, counted, withWidth}
+use Rattle.taking.specs.Ways.{foundOf}
 use Rattle.matching.specs.Scan.{otherPlaces}
-use Rattle.matching.specs.declared.Found.the-variants.{At, Nothing}
+use Rattle.taking.specs.declared.Found.the-variants.{At, Nothing}
 use Rattle.matching.proofs.Counts.{from, from-start, from-end, found, skipped, missed, next, too-few}
 use Rattle.matching.proofs.Passing.{goes-on, stays}
 
@@ -52,13 +52,14 @@ module _ (isWord : ℕ → Bool) (w u : Bool) (s l : List ℕ) (start end count 
     on : counted (standsAt isWord w u s l) (length s) count false (text start end) ≡ from (λ j. start + j) (standsAt isWord w u s l) (length s) k (end - length s - r) (r - start)
     on = turn .the-same ∙ goes-on isWord w u s l start (end - length s) i r (length s) k (turn .lo) (turn .hi) is
 
-    pub left-found : k ≤ 1 → standsAt isWord w u s l r ≡ true → foundOf (At r) ≡ counted (standsAt isWord w u s l) (length s) count false (text start end)
-    left-found h e = found (λ j. start + j) (standsAt isWord w u s l) (length s) k (end - length s - r) (r - start) r here h e ∙ sym on
+    pub left-found : k ≤ 1 → standsAt isWord w u s l r ≡ true → foundOf (At r (length s)) ≡ withWidth (length s) (counted (standsAt isWord w u s l) (length s) count false (text start end))
+    unfolding foundOf withWidth
+    left-found h e = ap (withWidth (length s)) (found (λ j. start + j) (standsAt isWord w u s l) (length s) k (end - length s - r) (r - start) r here h e ∙ sym on)
 
     module _ (e : standsAt isWord w u s l r ≡ false) where
-      pub left-missed : r ≡ end - length s → foundOf Nothing ≡ counted (standsAt isWord w u s l) (length s) count false (text start end)
-      unfolding foundOf
-      left-missed h = sym (on ∙ missed (λ j. start + j) (standsAt isWord w u s l) (length s) k (end - length s - r) (r - start) r here e (omega arith))
+      pub left-missed : r ≡ end - length s → foundOf Nothing ≡ withWidth (length s) (counted (standsAt isWord w u s l) (length s) count false (text start end))
+      unfolding foundOf withWidth
+      left-missed h = ap (withWidth (length s)) (sym (on ∙ missed (λ j. start + j) (standsAt isWord w u s l) (length s) k (end - length s - r) (r - start) r here e (omega arith)))
 
       module _ (h : r ≡ end - length s → ⊥) where
         pub left-skipped : LeftTurn isWord w u s l start end count k (r + 1)
@@ -73,9 +74,9 @@ module _ (isWord : ℕ → Bool) (w u : Bool) (s l : List ℕ) (start end count 
         left-skip-falls = omega (arith, left-reached)
 
     module _ (more : 1 < k) (e : standsAt isWord w u s l r ≡ true) (step : ℕ) (is-step : step ≡ max 1 (length s)) where
-      pub left-too-few : end - length s - r < step → foundOf Nothing ≡ counted (standsAt isWord w u s l) (length s) count false (text start end)
-      unfolding foundOf
-      left-too-few h = sym (on ∙ too-few (λ j. start + j) (standsAt isWord w u s l) (length s) k (end - length s - r) (r - start) r here more e (omega arith))
+      pub left-too-few : end - length s - r < step → foundOf Nothing ≡ withWidth (length s) (counted (standsAt isWord w u s l) (length s) count false (text start end))
+      unfolding foundOf withWidth
+      left-too-few h = ap (withWidth (length s)) (sym (on ∙ too-few (λ j. start + j) (standsAt isWord w u s l) (length s) k (end - length s - r) (r - start) r here more e (omega arith)))
 
       module _ (h : step ≤ end - length s - r) where
         pub left-next : LeftTurn isWord w u s l start end count (k - 1) (r + step)
@@ -93,14 +94,15 @@ module _ (isWord : ℕ → Bool) (w u : Bool) (s l : List ℕ) (start end count 
     pub right-inside : start + length s ≤ end → i + length s ≤ end
     right-inside fits = omega (arith, turn .hi)
 
-    pub right-found : k ≤ 1 → standsAt isWord w u s l i ≡ true → foundOf (At i) ≡ counted (standsAt isWord w u s l) (length s) count true (text start end)
-    right-found h e = found (λ j. end - length s - j) (standsAt isWord w u s l) (length s) k (i - start) (end - length s - i) i back h e ∙ sym (turn .the-same)
+    pub right-found : k ≤ 1 → standsAt isWord w u s l i ≡ true → foundOf (At i (length s)) ≡ withWidth (length s) (counted (standsAt isWord w u s l) (length s) count true (text start end))
+    unfolding foundOf withWidth
+    right-found h e = ap (withWidth (length s)) (found (λ j. end - length s - j) (standsAt isWord w u s l) (length s) k (i - start) (end - length s - i) i back h e ∙ sym (turn .the-same))
 
     module _ (e : standsAt isWord w u s l i ≡ false) where
-      pub right-missed : i ≡ start → foundOf Nothing ≡ counted (standsAt isWord w u s l) (length s) count true (text start end)
-      unfolding foundOf
+      pub right-missed : i ≡ start → foundOf Nothing ≡ withWidth (length s) (counted (standsAt isWord w u s l) (length s) count true (text start end))
+      unfolding foundOf withWidth
       right-missed h =
-          sym (turn .the-same ∙ missed (λ j. end - length s - j) (standsAt isWord w u s l) (length s) k (i - start) (end - length s - i) i back e (omega arith))
+          ap (withWidth (length s)) (sym (turn .the-same ∙ missed (λ j. end - length s - j) (standsAt isWord w u s l) (length s) k (i - start) (end - length s - i) i back e (omega arith)))
 
       module _ (h : i ≡ start → ⊥) where
         pub right-skipped : RightTurn isWord w u s l start end count k (i - 1)
@@ -115,10 +117,10 @@ module _ (isWord : ℕ → Bool) (w u : Bool) (s l : List ℕ) (start end count 
         right-skip-falls = omega (arith, turn .lo)
 
     module _ (more : 1 < k) (e : standsAt isWord w u s l i ≡ true) (step : ℕ) (is-step : step ≡ max 1 (length s)) where
-      pub right-too-few : i - start < step → foundOf Nothing ≡ counted (standsAt isWord w u s l) (length s) count true (text start end)
-      unfolding foundOf
+      pub right-too-few : i - start < step → foundOf Nothing ≡ withWidth (length s) (counted (standsAt isWord w u s l) (length s) count true (text start end))
+      unfolding foundOf withWidth
       right-too-few h =
-          sym (turn .the-same ∙ too-few (λ j. end - length s - j) (standsAt isWord w u s l) (length s) k (i - start) (end - length s - i) i back more e (omega arith))
+          ap (withWidth (length s)) (sym (turn .the-same ∙ too-few (λ j. end - length s - j) (standsAt isWord w u s l) (length s) k (i - start) (end - length s - i) i back more e (omega arith)))
 
       module _ (h : step ≤ i - start) where
         pub right-next : RightTurn isWord w u s l start end count (k - 1) (i - step)

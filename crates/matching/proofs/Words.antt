@@ -4,32 +4,32 @@ use mathlib.Core.Bool.{Bool, true, false}
 use mathlib.Core.List.{List}
 use Prim.Native.Nat.{ℕ, _+_, _-_, _*_, _/_, _%_, _≤_, _<_}
 use native.Mathlib.Omega.{arith}
-use lib.ListN.{take, drop, getD}
+use lib.ListN.{length, take, drop, getD, length-take}
 use lib.Dec.{eqb}
-use borrow.Author.Tests.{lt-ltb, le-ltb, eq-eqb, ne-eqb}
+use borrow.Author.Tests.{eq-eqb, ne-eqb}
 use Rattle.definitions.specs.Matching.{Anchor, anywhere, atStart, atEnd, precisely, qualified, matches}
-use Rattle.matching.specs.Quals.{anchorOf, qualifiersOf}
+use Rattle.matching.specs.Quals.{anchorOf, qualifiersOf, Formed}
 use Rattle.matching.specs.Words.{anchorNumber, bitOf, flagsAt, startAt, lengthAt, columnsAt, qualsAt, stringAt, endAt, onward}
 use Rattle.matching.specs.declared.Quals.{Quals}
 
 -- ---- what the code reads
 
 module _ (words : List ℕ) (k : ℕ) where
-  pub no-columns : flagsAt words k < 128 → columnsAt words k ≡ 0
+  pub no-columns : flagsAt words k / 128 % 2 ≡ 0 → columnsAt words k ≡ 0
   unfolding columnsAt
-  no-columns h = rw (lt-ltb (flagsAt words k) 128 h)
+  no-columns h = rw (eq-eqb (flagsAt words k / 128 % 2) 0 h)
 
-  pub some-columns : 128 ≤ flagsAt words k → columnsAt words k ≡ getD words (k + 2) 0
+  pub some-columns : (flagsAt words k / 128 % 2 ≡ 0 → ⊥) → columnsAt words k ≡ getD words (k + 2) 0
   unfolding columnsAt
-  some-columns h = rw (le-ltb (flagsAt words k) 128 h)
+  some-columns h = rw (ne-eqb (flagsAt words k / 128 % 2) 0 h)
 
-  pub ends-soon : flagsAt words k < 128 → endAt words k ≡ k + 2
+  pub ends-soon : flagsAt words k / 128 % 2 ≡ 0 → endAt words k ≡ k + 2
   unfolding endAt
-  ends-soon h = rw (lt-ltb (flagsAt words k) 128 h)
+  ends-soon h = rw (eq-eqb (flagsAt words k / 128 % 2) 0 h)
 
-  pub ends-late : 128 ≤ flagsAt words k → endAt words k ≡ k + 3
+  pub ends-late : (flagsAt words k / 128 % 2 ≡ 0 → ⊥) → endAt words k ≡ k + 3
   unfolding endAt
-  ends-late h = rw (le-ltb (flagsAt words k) 128 h)
+  ends-late h = rw (ne-eqb (flagsAt words k / 128 % 2) 0 h)
 
   module _ (truth : Bool) where
     pub and-on : getD words k 0 % 4 ≡ 1 → truth ≡ true → onward words k truth ≡ k + 1
@@ -49,28 +49,37 @@ module _ (words : List ℕ) (k : ℕ) where
     or-on e f = rw (ne-eqb (getD words k 0 % 4) 1 e, f)
 
   pub read-quals : (c : ℕ) → c ≡ columnsAt words k → _≡_ {A = Quals} (record {
-    anchor = getD words k 0 / 4 % 256 % 4;
+    anchor = getD words k 0 / 4 % 512 % 4;
     count = getD words (k + 1) 0 / 256;
-    last = eqb (getD words k 0 / 4 % 256 / 4 % 2) 1;
-    negated = eqb (getD words k 0 / 4 % 256 / 8 % 2) 1;
-    word = eqb (getD words k 0 / 4 % 256 / 16 % 2) 1;
-    fold = eqb (getD words k 0 / 4 % 256 / 32 % 2) 1;
-    skip = eqb (getD words k 0 / 4 % 256 / 64 % 2) 1;
+    last = eqb (getD words k 0 / 4 % 512 / 4 % 2) 1;
+    negated = eqb (getD words k 0 / 4 % 512 / 8 % 2) 1;
+    word = eqb (getD words k 0 / 4 % 512 / 16 % 2) 1;
+    fold = eqb (getD words k 0 / 4 % 512 / 32 % 2) 1;
+    skip = eqb (getD words k 0 / 4 % 512 / 64 % 2) 1;
     from = c % 65536;
     to = c / 65536;
+    pattern = eqb (getD words k 0 / 4 % 512 / 256) 1;
   }) (qualsAt words k)
   unfolding qualsAt flagsAt
   read-quals c e = rw e
 
   module _ (script : List ℕ) (q : Quals) (start len : ℕ) (is : q ≡ qualsAt words k) (starts : start ≡ startAt words k) (lengths : len ≡ lengthAt words k) where
+    whole : start + len - start ≡ len
+    whole = omega arith
+
     read-string : qualified (qualifiersOf q) (take (start + len - start) (drop start script)) ≡ stringAt script words k
     unfolding stringAt
-    read-string =
-        let n : start + len - start ≡ len = omega arith in
-        rw (n, is, starts, lengths)
+    read-string = rw (whole, is, starts, lengths)
 
     pub read-matches : (isWord : ℕ → Bool) (l : List ℕ) (p : ℕ) → matches isWord (qualified (qualifiersOf q) (take (start + len - start) (drop start script))) p l ≡ matches isWord (stringAt script words k) p l
     read-matches isWord l p = rw read-string
+
+    pub read-formed : Formed (qualsAt words k) (take (lengthAt words k) (drop (startAt words k) script)) → Formed q (take (start + len - start) (drop start script))
+    read-formed formed = rw (whole, is, starts, lengths) formed
+
+    pub read-short : length (take (start + len - start) (drop start script)) ≤ 255
+    unfolding lengthAt
+    read-short = rw (whole, length-take len (drop start script)) (omega (arith, lengths))
 
 -- ---- what the words of a string are read as
 
@@ -99,20 +108,20 @@ bit-back true n e = rw e
 bit-back false n e = rw e
 
 -- the parts of a sum of bits
-pub record Parts (x a b c d e f g : ℕ) : Type 0 where
-  pub small : x < 256
+pub record Parts (x a b c d e f g h : ℕ) : Type 0 where
+  pub small : x < 512
   pub p0 : x % 4 ≡ a
   pub p1 : x / 4 % 2 ≡ b
   pub p2 : x / 8 % 2 ≡ c
   pub p3 : x / 16 % 2 ≡ d
   pub p4 : x / 32 % 2 ≡ e
   pub p5 : x / 64 % 2 ≡ f
-  pub without : g ≡ 0 → x < 128
-  pub given : g ≡ 1 → 128 ≤ x
+  pub p6 : x / 128 % 2 ≡ g
+  pub p7 : x / 256 ≡ h
 
-pub parts : (x a b c d e f g : ℕ) → a < 4 → b < 2 → c < 2 → d < 2 → e < 2 → f < 2 → g < 2
-    → x ≡ a + 4 * b + 8 * c + 16 * d + 32 * e + 64 * f + 128 * g → Parts x a b c d e f g
-parts x a b c d e f g ha hb hc hd he hf hg is = record {
+pub parts : (x a b c d e f g h : ℕ) → a < 4 → b < 2 → c < 2 → d < 2 → e < 2 → f < 2 → g < 2 → h < 2
+    → x ≡ a + 4 * b + 8 * c + 16 * d + 32 * e + 64 * f + 128 * g + 256 * h → Parts x a b c d e f g h
+parts x a b c d e f g h ha hb hc hd he hf hg hh is = record {
   small = omega arith;
   p0 = omega arith;
   p1 = omega arith;
@@ -120,6 +129,6 @@ parts x a b c d e f g ha hb hc hd he hf hg is = record {
   p3 = omega arith;
   p4 = omega arith;
   p5 = omega arith;
-  without = λ h. omega arith;
-  given = λ h. omega arith;
+  p6 = omega arith;
+  p7 = omega arith;
 }

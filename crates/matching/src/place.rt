@@ -2,39 +2,22 @@
 ghost use mathlib.Core.Path.{_≡_};
 ghost use mathlib.Core.Bool.{true, false};
 ghost use Prim.Native.Nat.{_+_, _≤_};
-ghost use lib.ListN.{length, drop, getD};
-ghost use Rattle.definitions.specs.Matching.{standsFirst, byteBefore, isApart, standsAt};
+ghost use lib.ListN.{length, drop};
+ghost use Rattle.definitions.specs.Matching.{standsFirst, isApart, standsAt};
 ghost use Rattle.wordset.specs.Sets.{inSet};
 use text::upper;
-use wordset::is_in;
-
-// The byte before i; 0 at the line's start.
-fn byte_before(line: &[u8], i: usize) -> u8
-    requires { ⌜ i ≤ length (now line) ⌝ }
-    ensures { λ r. ⌜ r ≡ byteBefore (now (line .entry)) i ⌝ }
-{
-    if i == 0 {
-        return 0;
-    }
-    line[i - 1]
-}
-
-// The byte at i; 0 at the line's end.
-fn byte_at(line: &[u8], i: usize) -> u8
-    ensures { λ r. ⌜ r ≡ getD (now (line .entry)) i 0 ⌝ }
-{
-    if i < line.len() { line[i] } else { 0 }
-}
+use wordset::beside::is_free_at;
+use wordset::beside::is_free_before;
 
 // No byte of the set stands before i or at j, in the whole line.
 fn apart(set: &[u32], line: &[u8], i: usize, j: usize) -> bool
     requires { ⌜ (3 ≤ length (now set)) × (i ≤ length (now line)) ⌝ }
     ensures { λ r. ⌜ r ≡ isApart (inSet (now (set .entry)) 0) true (now (line .entry)) i j ⌝ }
 {
-    if is_in(set, byte_before(line, i)) {
-        return false;
+    if is_free_before(set, line, i) {
+        return is_free_at(set, line, j);
     }
-    !is_in(set, byte_at(line, j))
+    false
 }
 
 // The string stands in the line at `at`.

@@ -3,14 +3,14 @@ ghost use mathlib.Core.Path.{_≡_};
 ghost use mathlib.Core.Bool.{true, false};
 ghost use Prim.Native.Nat.{_+_, _-_, _≤_, max};
 ghost use lib.ListN.{length, drop};
-ghost use Rattle.definitions.specs.Matching.{text, standsAt, counted};
+ghost use Rattle.definitions.specs.Matching.{text, standsAt, counted, withWidth};
 ghost use Rattle.wordset.specs.Sets.{inSet};
-ghost use Rattle.matching.specs.Quals.{foundOf};
+ghost use Rattle.taking.specs.Ways.{foundOf};
 ghost use Rattle.matching.specs.Scan.{otherPlaces};
-use super::Found;
 use super::place::stands;
 use scans::Kind;
 use scans::past_long;
+use taking::Found;
 use text::upper;
 
 // The next place up to `top` where the string's first byte stands; `top` where none is before it.
@@ -46,7 +46,7 @@ pub fn from_left(
     fold: bool,
 ) -> Found
     requires { ⌜ (3 ≤ length (now set)) × (start + length (now s) ≤ end) × (end ≤ length (now line)) ⌝ }
-    ensures { λ r. ⌜ foundOf r ≡ counted (standsAt (inSet (now (set .entry)) 0) word fold (now (s .entry)) (now (line .entry))) (length (now (s .entry))) count false (text start end) ⌝ }
+    ensures { λ r. ⌜ foundOf r ≡ withWidth (length (now (s .entry))) (counted (standsAt (inSet (now (set .entry)) 0) word fold (now (s .entry)) (now (line .entry))) (length (now (s .entry))) count false (text start end)) ⌝ }
 {
     let top = end - s.len();
     let step = step_of(s);
@@ -56,7 +56,7 @@ pub fn from_left(
         i = next_place(line, s, i, top, fold);
         if stands(set, line, s, i, word, fold) {
             if k <= 1 {
-                return Found::At(i);
+                return Found::At(i, s.len());
             }
             if top - i < step {
                 return Found::Nothing;
@@ -84,7 +84,7 @@ pub fn from_right(
     fold: bool,
 ) -> Found
     requires { ⌜ (3 ≤ length (now set)) × (start + length (now s) ≤ end) × (end ≤ length (now line)) ⌝ }
-    ensures { λ r. ⌜ foundOf r ≡ counted (standsAt (inSet (now (set .entry)) 0) word fold (now (s .entry)) (now (line .entry))) (length (now (s .entry))) count true (text start end) ⌝ }
+    ensures { λ r. ⌜ foundOf r ≡ withWidth (length (now (s .entry))) (counted (standsAt (inSet (now (set .entry)) 0) word fold (now (s .entry)) (now (line .entry))) (length (now (s .entry))) count true (text start end)) ⌝ }
 {
     let step = step_of(s);
     let mut k = count;
@@ -92,7 +92,7 @@ pub fn from_right(
     loop {
         if stands(set, line, s, i, word, fold) {
             if k <= 1 {
-                return Found::At(i);
+                return Found::At(i, s.len());
             }
             if i - start < step {
                 return Found::Nothing;

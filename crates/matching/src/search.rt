@@ -1,6 +1,6 @@
 // Searches as words in the work area: reading and testing them, and writing them.
 ghost use mathlib.Core.Path.{_≡_};
-ghost use Prim.Native.Nat.{ℕ, _+_, _*_, _≤_, _<_};
+ghost use Prim.Native.Nat.{ℕ, _+_, _*_, _/_, _%_, _≤_, _<_};
 ghost use mathlib.Core.List.{List};
 ghost use lib.ListN.{length};
 ghost use lib.Seq.{sets};
@@ -8,16 +8,16 @@ ghost use Rattle.definitions.specs.Matching.{matches};
 ghost use Rattle.definitions.specs.Search.{Search, holds as «holds-of», holdsAtEof};
 ghost use Rattle.wordset.specs.Sets.{inSet};
 ghost use Rattle.matching.specs.Quals.{qualifiersOf};
-ghost use Rattle.matching.specs.Words.{bitOf, flagsOf, firstWord, secondWord, stringWords, Writable, Encodes, HasQuals, Readable, flagsAt, startAt, lengthAt, columnsAt, qualsAt, stringAt, endAt, onward};
+ghost use Rattle.matching.specs.Words.{bitOf, flagsOf, firstWord, secondWord, stringWords, ledIn, Writable, Encodes, HasQuals, Readable, flagsAt, startAt, lengthAt, columnsAt, qualsAt, stringAt, endAt, onward};
 use super::Quals;
 use super::matches_line;
 
 // The word of the columns; 0 where none are given.
 fn columns_at(words: &[u32], k: usize, flags: u32) -> u32
-    requires { ⌜ (flags ≡ flagsAt (now words) k) × (128 ≤ flags → k + 2 < length (now words)) ⌝ }
+    requires { ⌜ (flags ≡ flagsAt (now words) k) × (flags / 128 % 2 ≡ 1 → k + 2 < length (now words)) ⌝ }
     ensures { λ r. ⌜ r ≡ columnsAt (now (words .entry)) k ⌝ }
 {
-    if flags < 128 {
+    if flags / 128 % 2 == 0 {
         return 0;
     }
     words[k + 2]
@@ -28,7 +28,7 @@ pub fn quals_at(words: &[u32], k: usize) -> Quals
     requires { ⌜ HasQuals (now words) k ⌝ }
     ensures { λ r. ⌜ r ≡ qualsAt (now (words .entry)) k ⌝ }
 {
-    let flags = words[k] / 4 % 256;
+    let flags = words[k] / 4 % 512;
     let columns = columns_at(words, k, flags);
     Quals {
         anchor: (flags % 4) as u8,
@@ -40,6 +40,7 @@ pub fn quals_at(words: &[u32], k: usize) -> Quals
         skip: flags / 64 % 2 == 1,
         from: (columns % 65536) as usize,
         to: (columns / 65536) as usize,
+        pattern: flags / 256 == 1,
     }
 }
 
@@ -48,7 +49,7 @@ pub fn end_at(words: &[u32], k: usize) -> usize
     requires { ⌜ k < length (now words) ⌝ }
     ensures { λ r. ⌜ r ≡ endAt (now (words .entry)) k ⌝ }
 {
-    if words[k] / 4 % 256 < 128 {
+    if words[k] / 4 % 512 / 128 % 2 == 0 {
         return k + 2;
     }
     k + 3
@@ -59,7 +60,7 @@ pub fn start_at(words: &[u32], k: usize) -> usize
     requires { ⌜ k < length (now words) ⌝ }
     ensures { λ r. ⌜ r ≡ startAt (now (words .entry)) k ⌝ }
 {
-    (words[k] / 1024) as usize
+    (words[k] / 2048) as usize
 }
 
 // The length of the string at k.
@@ -72,7 +73,7 @@ pub fn length_at(words: &[u32], k: usize) -> usize
 
 // Does the string at k match the line, with the window from p.
 fn string_holds(script: &[u8], words: &[u32], k: usize, set: &[u32], line: &[u8], p: usize) -> bool
-    requires { ⌜ Readable (now script) (now words) k × (3 ≤ length (now set)) × (p ≤ length (now line)) ⌝ }
+    requires { ⌜ Readable (now script) (now words) k × (3 ≤ length (now set)) × (p ≤ length (now line)) × (length (now line) ≤ 255) ⌝ }
     ensures { λ r. ⌜ r ≡ matches (inSet (now (set .entry)) 0) (stringAt (now (script .entry)) (now (words .entry)) k) p (now (line .entry)) ⌝ }
 {
     let q = quals_at(words, k);
@@ -110,7 +111,7 @@ pub fn holds(
     line: &[u8],
     p: usize,
 ) -> bool
-    requires { ⌜ ((se : Search) × Encodes (now script) (now words) k m se) × (3 ≤ length (now set)) × (p ≤ length (now line)) ⌝ }
+    requires { ⌜ ((se : Search) × Encodes (now script) (now words) k m se) × (3 ≤ length (now set)) × (p ≤ length (now line)) × (length (now line) ≤ 255) ⌝ }
     ensures { λ r. ⌜ ((se : Search) → Encodes (now (script .entry)) (now (words .entry)) k m se → r ≡ «holds-of» (inSet (now (set .entry)) 0) se p (now (line .entry))) ⌝ }
 {
     let mut at = k;
@@ -152,10 +153,10 @@ fn bit_of(b: bool) -> u32
     if b { 1 } else { 0 }
 }
 
-// The anchor, and a bit for each of L, N, W, U, S and columns.
+// The anchor, and a bit for each of L, N, W, U, S, columns and R.
 fn flags_of(q: Quals) -> u32
     requires { ⌜ q .anchor ≤ 3 ⌝ }
-    ensures { λ r. ⌜ (r ≡ flagsOf (qualifiersOf q)) × (r ≤ 255) ⌝ }
+    ensures { λ r. ⌜ (r ≡ flagsOf (qualifiersOf q)) × (r ≤ 511) ⌝ }
 {
     let last = 4 * bit_of(q.last);
     let negated = 8 * bit_of(q.negated);
@@ -163,7 +164,8 @@ fn flags_of(q: Quals) -> u32
     let fold = 32 * bit_of(q.fold);
     let skip = 64 * bit_of(q.skip);
     let columns = 128 * bit_of(0 < q.from);
-    q.anchor as u32 + last + negated + word + fold + skip + columns
+    let pattern = 256 * bit_of(q.pattern);
+    q.anchor as u32 + last + negated + word + fold + skip + columns + pattern
 }
 
 // The word of the flags and of the place where the string starts.
@@ -171,21 +173,21 @@ pub fn first_word(q: Quals, start: usize) -> u32
     requires { ⌜ (q .anchor ≤ 3) × (start ≤ 65535) ⌝ }
     ensures { λ r. ⌜ r ≡ firstWord (qualifiersOf q) start ⌝ }
 {
-    4 * (flags_of(q) + 256 * (start as u32))
+    4 * (flags_of(q) + 512 * (start as u32))
 }
 
-// The word of the string's length and of the count.
+// The word of the string's length and of the count, or of the bytes that a pattern's matches can begin with.
 pub fn second_word(q: Quals, len: usize) -> u32
     requires { ⌜ (q .count ≤ 65535) × (len ≤ 255) ⌝ }
-    ensures { λ r. ⌜ r ≡ secondWord (qualifiersOf q) len ⌝ }
+    ensures { λ r. ⌜ r ≡ secondWord (qualifiersOf q) len (ledIn q) ⌝ }
 {
     len as u32 + 256 * (q.count as u32)
 }
 
 // Writes the words of a string of the script from k on, and gives the place after them.
 pub fn put_string(words: &mut [u32], k: usize, q: Quals, start: usize, len: usize) -> usize
-    requires { ⌜ Writable q start len × (k + length (stringWords (qualifiersOf q) start len) ≤ length (now words)) ⌝ }
-    ensures { λ r. ⌜ (now (words .exit) ≡ sets (now (words .entry)) k (stringWords (qualifiersOf q) start len)) × (r ≡ k + length (stringWords (qualifiersOf q) start len)) ⌝ }
+    requires { ⌜ Writable q start len × (k + length (stringWords (qualifiersOf q) start len (ledIn q)) ≤ length (now words)) ⌝ }
+    ensures { λ r. ⌜ (now (words .exit) ≡ sets (now (words .entry)) k (stringWords (qualifiersOf q) start len (ledIn q))) × (r ≡ k + length (stringWords (qualifiersOf q) start len (ledIn q))) ⌝ }
 {
     words[k] = first_word(q, start);
     words[k + 1] = second_word(q, len);

@@ -1,4 +1,4 @@
-// Runs the cases of the files run.txt, wish-01.txt, wish-02.txt, wish-04.txt, wish-06.txt and wish-08.txt through the editor.
+// Runs the cases of the files run.txt, wish-01.txt, wish-02.txt, wish-04.txt, wish-06.txt, wish-08.txt and wish-09.txt through the editor.
 use vectors::For;
 
 fn main() {
@@ -8,4 +8,5 @@ fn main() {
     vectors::run_file(b"wish-04.txt", For::Editor);
     vectors::run_file(b"wish-06.txt", For::Editor);
     vectors::run_file(b"wish-08.txt", For::Editor);
+    vectors::run_file(b"wish-09.txt", For::Editor);
 }

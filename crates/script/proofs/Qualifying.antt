@@ -17,7 +17,7 @@ use Rattle.definitions.specs.Reader.{Cursor, got, refused, andThen}
 use Rattle.definitions.specs.Strings.{startQualifiers, qualifiedString, twoStrings, twoPlainStrings}
 use Rattle.definitions.specs.Commands.{whole, Shape, alters, globals, alterOp, decode}
 use Rattle.matching.specs.Quals.{qualifiersOf}
-use Rattle.matching.specs.Words.{stringWords, Encodes, Writable}
+use Rattle.matching.specs.Words.{stringWords, ledIn, Encodes, Writable}
 use Rattle.matching.specs.declared.Quals.{Quals}
 use Rattle.matching.proofs.Keeping.{string-encodes, kept-behind}
 use Rattle.answers.specs.declared.Answer.{Answer}
@@ -29,6 +29,7 @@ use Rattle.lexer.specs.Places.{cursorAt}
 use Rattle.lexer.proofs.Given.{goes-on, passed-up}
 use Rattle.strings.specs.Answers.{StringAt, QuotedAt, PairAt}
 use Rattle.strings.proofs.Callers.{string-few, string-writable}
+use Rattle.strings.proofs.Lines.{strings-short}
 use Rattle.items.specs.Words.{head, TwoStringsAt, OpAt, ItemAt, stringWord}
 use Rattle.items.specs.Depth.{openAfter}
 use Rattle.items.proofs.Reading.{point-shape, split-shape, change-shape, global-shape}
@@ -74,13 +75,13 @@ module _ (s w : List ℕ) (place at k : ℕ) (r : CommandRoom s w place at k) wh
 
   module _ (q : Quals) (start end next : ℕ) (stands : StringAt s at q start end next) where
     abbrev written : List ℕ
-    written = stringWords (qualifiersOf q) start (end - start)
+    written = stringWords (qualifiersOf q) start (end - start) (ledIn q)
 
-    pub string-room : k + 1 + length (stringWords (qualifiersOf q) start (end - start)) + 31 ≤ length w
+    pub string-room : k + 1 + length (stringWords (qualifiersOf q) start (end - start) (ledIn q)) + 31 ≤ length w
     string-room =
         omega (arith, r .room, r .fits .work, r .named, r .inside, string-few s at q start end next stands, stands .after, stands .ordered, stands .ends, stands .within)
 
-    pub string-small : k + 1 + length (stringWords (qualifiersOf q) start (end - start)) ≤ 40000
+    pub string-small : k + 1 + length (stringWords (qualifiersOf q) start (end - start) (ledIn q)) ≤ 40000
     string-small =
         omega (arith, r .room, r .fits .small, r .named, r .inside, string-few s at q start end next stands, stands .after, stands .ordered, stands .ends, stands .within)
 
@@ -91,16 +92,16 @@ module _ (s w : List ℕ) (place at k : ℕ) (r : CommandRoom s w place at k) wh
       abbrev after : List ℕ
       after = sets (set w k v) (k + 1) written
 
-      pub string-stays : Unwritten k 16 w (sets (set w k v) (k + 1) (stringWords (qualifiersOf q) start (end - start)))
+      pub string-stays : Unwritten k 16 w (sets (set w k v) (k + 1) (stringWords (qualifiersOf q) start (end - start) (ledIn q)))
       string-stays = kept-sets written k 16 (k + 1) w (set w k v) (omega arith) (omega (arith, string-room)) (one-stays w k v (omega (arith, string-room)))
 
-      pub string-head : getD (sets (set w k v) (k + 1) (stringWords (qualifiersOf q) start (end - start))) k 0 ≡ v
+      pub string-head : getD (sets (set w k v) (k + 1) (stringWords (qualifiersOf q) start (end - start) (ledIn q))) k 0 ≡ v
       string-head = sets-below written (set w k v) (k + 1) k (omega arith) ∙ one-is w k v (omega (arith, string-room))
 
-      pub string-there : Encodes s (sets (set w k v) (k + 1) (stringWords (qualifiersOf q) start (end - start))) (k + 1) (k + 1 + length (stringWords (qualifiersOf q) start (end - start)))
+      pub string-there : Encodes s (sets (set w k v) (k + 1) (stringWords (qualifiersOf q) start (end - start) (ledIn q))) (k + 1) (k + 1 + length (stringWords (qualifiersOf q) start (end - start) (ledIn q)))
           (one (qualified (qualifiersOf q) (take (end - start) (drop start s))))
       string-there =
-          string-encodes s (set w k v) (k + 1) q start (end - start) can-write (omega (arith, stands .ordered, stands .ends, stands .within))
+          string-encodes s (set w k v) (k + 1) q start (end - start) can-write (stands .formed (strings-short s (r .fits .form))) (omega (arith, stands .ordered, stands .ends, stands .within))
           (rw (length-set w k v) (omega (arith, string-room)))
 
   -- ---- PA, PB, SA, SB
@@ -111,13 +112,13 @@ module _ (s w : List ℕ) (place at k : ℕ) (r : CommandRoom s w place at k) wh
 
     pub aims-written : (q : Quals) (start end next : ℕ) → QuotedAt s at (startQualifiers false (cursorAt s at)) (qualifiedString false (cursorAt s at)) q start end next → (v m : ℕ) (w' : List ℕ)
         → v ≡ head kind place
-        → w' ≡ sets (set w k v) (k + 1) (stringWords (qualifiersOf q) start (end - start)) → m ≡ k + 1 + length (stringWords (qualifiersOf q) start (end - start))
+        → w' ≡ sets (set w k v) (k + 1) (stringWords (qualifiersOf q) start (end - start) (ledIn q)) → m ≡ k + 1 + length (stringWords (qualifiersOf q) start (end - start) (ledIn q))
         → CommandRead s w w' place k (decode false place shape (cursorAt s at)) (Answer.Command Follow.Nothing next m)
     unfolding ItemAt CommandIs openAfter
     aims-written q start end next (read, stands, opened) v m w' hd we me =
         let few = string-few s at q start end next stands in
         let l : Qualified = qualified (qualifiersOf q) (take (end - start) (drop start s)) in
-        rw (we, me) (CommandOr.read Follow.Nothing next (k + 1 + length (stringWords (qualifiersOf q) start (end - start))) (
+        rw (we, me) (CommandOr.read Follow.Nothing next (k + 1 + length (stringWords (qualifiersOf q) start (end - start) (ledIn q))) (
           string-stays q start end next stands v,
           (
             simple place (aimOp a l),
@@ -145,16 +146,16 @@ module _ (s w : List ℕ) (place at k : ℕ) (r : CommandRoom s w place at k) wh
     strings-written : decode false place shape (cursorAt s at) ≡ got (whole (simple place op)) (cursorAt s next)
         → ((w₁ : List ℕ) (m : ℕ) → TwoStringsAt s w₁ k m (head kind place) first-string second-string → OpAt s w₁ k m place op) → (v m u : ℕ) (w' : List ℕ)
         → v ≡ head kind place
-        → w' ≡ sets (set w k v) (k + 1) (stringWords (qualifiersOf q) start (end - start)) → m ≡ k + 1 + length (stringWords (qualifiersOf q) start (end - start))
+        → w' ≡ sets (set w k v) (k + 1) (stringWords (qualifiersOf q) start (end - start) (ledIn q)) → m ≡ k + 1 + length (stringWords (qualifiersOf q) start (end - start) (ledIn q))
         → u ≡ stringWord second (second-end - second)
         → CommandRead s w (set w' m u) place k (decode false place shape (cursorAt s at)) (Answer.Command Follow.Nothing next (m + 1))
     unfolding ItemAt CommandIs openAfter
     strings-written read lies v m u w' hd we me wd =
         let few = string-few s at q start end second (stands .first) in
         let room = string-room q start end second (stands .first) in
-        let n : ℕ = k + 1 + length (stringWords (qualifiersOf q) start (end - start)) in
-        let w2 : List ℕ = sets (set w k v) (k + 1) (stringWords (qualifiersOf q) start (end - start)) in
-        let inside : n < length w2 = rw (length-sets (set w k v) (k + 1) (stringWords (qualifiersOf q) start (end - start)), length-set w k v) (omega (arith, room)) in
+        let n : ℕ = k + 1 + length (stringWords (qualifiersOf q) start (end - start) (ledIn q)) in
+        let w2 : List ℕ = sets (set w k v) (k + 1) (stringWords (qualifiersOf q) start (end - start) (ledIn q)) in
+        let inside : n < length w2 = rw (length-sets (set w k v) (k + 1) (stringWords (qualifiersOf q) start (end - start) (ledIn q)), length-set w k v) (omega (arith, room)) in
         let there = string-there q start end second (stands .first) v in
         rw (we, me) (CommandOr.read Follow.Nothing next (n + 1) (
           kept-set k 16 n u w w2 (omega arith) (omega (arith, room)) (string-stays q start end second (stands .first) v),
@@ -193,7 +194,7 @@ module _ (s w : List ℕ) (place at k : ℕ) (r : CommandRoom s w place at k) wh
 
       pub pairs-written : {shape : Shape} → Pairs s at kind both shape → (v m u : ℕ) (w' : List ℕ)
           → v ≡ head kind place
-          → w' ≡ sets (set w k v) (k + 1) (stringWords (qualifiersOf q) start (end - start)) → m ≡ k + 1 + length (stringWords (qualifiersOf q) start (end - start))
+          → w' ≡ sets (set w k v) (k + 1) (stringWords (qualifiersOf q) start (end - start) (ledIn q)) → m ≡ k + 1 + length (stringWords (qualifiersOf q) start (end - start) (ledIn q))
           → u ≡ stringWord second (second-end - second)
           → CommandRead s w (set w' m u) place k (decode false place shape (cursorAt s at)) (Answer.Command Follow.Nothing next (m + 1))
       unfolding decode OpAt alterOp

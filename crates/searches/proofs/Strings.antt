@@ -12,13 +12,14 @@ use Rattle.definitions.specs.Search.{one}
 use Rattle.definitions.specs.Strings.{startQualifiers, qualifiedString}
 use Rattle.matching.specs.declared.Quals.{Quals}
 use Rattle.matching.specs.Quals.{qualifiersOf}
-use Rattle.matching.specs.Words.{stringWords, Writable}
+use Rattle.matching.specs.Words.{stringWords, ledIn, Writable}
 use Rattle.matching.proofs.Keeping.{string-encodes}
 use Rattle.answers.specs.declared.Answer.{Answer}
 use Rattle.answers.specs.Answers.{SearchOr}
 use Rattle.lexer.specs.Places.{cursorAt}
 use Rattle.strings.specs.Answers.{StringAt, QuotedAt}
 use Rattle.strings.proofs.Callers.{string-few, string-spare, string-writable}
+use Rattle.strings.proofs.Lines.{strings-short}
 use Rattle.searches.specs.Parsing.{stringPart, SearchRoom, SearchRefused, Parsed}
 
 -- the words before the string stay
@@ -36,7 +37,7 @@ module _ (s w : List ℕ) (at k : ℕ) (room : SearchRoom s w at k) where
     ordered = stands .ordered
 
     abbrev written : List ℕ
-    written = stringWords (qualifiersOf q) start (end - start)
+    written = stringWords (qualifiersOf q) start (end - start) (ledIn q)
 
     few : length written + 2 * (length s - next) ≤ 2 * (length s - at)
     few = string-few s at q start end next stands
@@ -53,7 +54,7 @@ module _ (s w : List ℕ) (at k : ℕ) (room : SearchRoom s w at k) where
     string-parsed w′ m w-is m-is = rw (w-is, m-is) (SearchOr.read next (k + length written) (record {
       search = one (qualified (qualifiersOf q) (take (end - start) (drop start s)));
       is = λ n h. part-is-string;
-      encodes = string-encodes s w k q start (end - start) (can-write .0) (omega (arith, stands .ordered, stands .ends, stands .within)) (can-write .1);
+      encodes = string-encodes s w k q start (end - start) (can-write .0) (stands .formed (strings-short s (room .form))) (omega (arith, stands .ordered, stands .ends, stands .within)) (can-write .1);
       kept = before-stays w written k (can-write .1);
       after = omega (arith, stands .after, stands .ordered, stands .ends);
       within = stands .within;

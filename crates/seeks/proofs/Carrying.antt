@@ -14,7 +14,7 @@ use Rattle.definitions.specs.Reading.{Ran, gave, stopped, hasRoom}
 use Rattle.definitions.specs.StepProgram.{Program, gives, _>>_, runs, state, wordsIn, Did, answers, changes, quits, adds, cancels, names, Out, edited, halt, within, finish, perform}
 use Rattle.definitions.specs.Search.{Search, holds}
 use Rattle.definitions.specs.Edit.{Change, Test, Op, onlyStep, quit, test, begin, beginBack, find, findBack, findDelete, move, nextLine, previousLine, delete, replace, insert, copy, alter, split, join, addGlobal, cancelGlobals, nameWords, point, pointStart, right, left, cutByte, recase}
-use Rattle.definitions.specs.Edit.{stopIf, either, see, go, goesOn, goAhead, goTo, lineOr, isAtEof, passes, lookOn, lookBack, placeOr24, byteHere, write, cutAfter, nextOr30, writeJoined, span, program, step}
+use Rattle.definitions.specs.Edit.{stopIf, either, see, go, goesOn, goAhead, goTo, lineOr, isAtEof, passes, lookOn, lookBack, matchOr24, byteHere, write, cutAfter, nextOr30, writeJoined, span, program, step}
 use Rattle.definitions.specs.Control.{Seek, forward, backward, deleting, lookOp}
 use Rattle.spans.proofs.Outcomes.{Calm, calm-then, calm-runs}
 use Rattle.seeks.specs.Looks.{carriedOf}
@@ -94,13 +94,13 @@ calm-program isWord (replace a b ls) h = calm-then (span a b) _ (λ n. tt)
 calm-program isWord (insert none ls) h = tt
 calm-program isWord (insert (some a) ls) h = calm-and (goTo a) _ tt
 calm-program isWord copy h = calm-then (lineOr n20) _ (λ x. tt)
-calm-program isWord (alter x pointing q new) h = calm-then (lineOr n20) _ (λ y. calm-then (placeOr24 isWord q (y .0) (y .1)) _ (λ i. calm-write _ _))
-calm-program isWord (split after q) h = calm-then (lineOr n20) _ (λ y. calm-then (placeOr24 isWord q (y .0) (y .1)) _ (λ i. tt))
+calm-program isWord (alter x pointing q new) h = calm-then (lineOr n20) _ (λ y. calm-then (matchOr24 isWord q (y .0) (y .1)) _ (λ m. calm-write _ _))
+calm-program isWord (split after q) h = calm-then (lineOr n20) _ (λ y. calm-then (matchOr24 isWord q (y .0) (y .1)) _ (λ m. tt))
 calm-program isWord (join s) h = calm-then (lineOr n20) _ (λ y. calm-then nextOr30 _ (λ l. calm-joined _ _))
 calm-program isWord (addGlobal x s new) h = absurd (h .not-added x s new refl)
 calm-program isWord cancelGlobals h = absurd (h .not-cancelled refl)
 calm-program isWord (nameWords xs) h = absurd (h .not-named xs refl)
-calm-program isWord (point after q) h = calm-then (lineOr n20) _ (λ y. calm-then (placeOr24 isWord q (y .0) (y .1)) _ (λ i. calm-and (go _) _ calm-goes))
+calm-program isWord (point after q) h = calm-then (lineOr n20) _ (λ y. calm-then (matchOr24 isWord q (y .0) (y .1)) _ (λ m. calm-and (go _) _ calm-goes))
 calm-program isWord pointStart h = calm-and (lineOr n20) _ (calm-and (go (pointTo 0)) _ calm-goes)
 calm-program isWord right h = calm-then byteHere _ (λ y. calm-and (go _) _ calm-goes)
 calm-program isWord left h = calm-then (lineOr n20) _ (λ y. calm-and (stopIf n27 _) _ (calm-and (go _) _ calm-goes))

@@ -5,11 +5,11 @@ use mathlib.Core.List.{List}
 use Prim.Native.Nat.{ℕ, _+_, _-_, _≤_}
 use native.Mathlib.Omega.{arith}
 use lib.ListN.{length, take}
-use Rattle.definitions.specs.Bytes.{isLine}
-use Rattle.definitions.specs.Matching.{Qualifiers, qualified, stringIn}
+use Rattle.definitions.specs.Bytes.{Line, isLine}
+use Rattle.definitions.specs.Matching.{Qualified, Match}
 use Rattle.definitions.specs.Given.{Carried}
+use Rattle.definitions.specs.StepProgram.{Program, Did}
 use Rattle.definitions.specs.Edit.{Op, pointBy, cutAfter, program}
-use Rattle.text.specs.Lines.{part}
 use Rattle.editor.specs.Records.{LineIn}
 use Rattle.editor.specs.Shows.{Completes}
 use Rattle.editor.specs.Current.{CopiesLine, IsReady}
@@ -18,9 +18,9 @@ use Rattle.editor.specs.declared.Moved.{Moved}
 use Rattle.editor.specs.declared.Moved.the-variants.{Stop}
 use Rattle.editor.proofs.CurrentText.{copied-text, copied-good}
 use Rattle.changes.specs.Current.{HasLine, CompletesAt, Finds, PerformsTold}
-use Rattle.changes.specs.declared.look.Place.{Place}
-use Rattle.changes.specs.declared.look.Place.the-variants.{At, Nowhere}
-use Rattle.changes.proofs.Commands.{at-less, has-less, told, place-stops, string-long, place-goes, at-place, has-place}
+use Rattle.changes.specs.declared.look.Matched.{Matched}
+use Rattle.changes.specs.declared.look.Matched.the-variants.{At, Nowhere}
+use Rattle.changes.proofs.Commands.{at-less, has-less, told, match-stops, match-goes, at-match, has-match}
 
 -- ---- the current line as it reads
 
@@ -45,28 +45,21 @@ unfolding pointBy
 by-inside true i n = omega arith
 by-inside false i n = omega arith
 
-module _ (isWord : ℕ → Bool) {table j : List ℕ} {st : State} (qs : Qualifiers) (script : List ℕ) (from to : ℕ) (room : to ≤ length script) (o : Place)
-    (finds : Finds isWord table j st (qualified qs (part from to script)) o) (after : Bool) where
-  abbrev splitHere : Op
-  splitHere = Op.split after (qualified qs (part from to script))
+splitting : Bool → Line × ℕ → Match → Program Did
+splitting after x m = cutAfter (x .0) (pointBy after (m .place) (m .width))
 
-  pub split-stop : (m : ℕ) → o ≡ Nowhere m → PerformsTold isWord table j st splitHere j (Stop m st)
-  unfolding program
-  split-stop m q e c t same w =
-      told isWord qs script from to room o finds splitHere j (Stop m st) e c t same
-      (place-stops isWord qs script from to room o finds m q (λ x i. cutAfter (x .0) (pointBy after i (length (stringIn (qualified qs (part from to script)))))) e c t w)
+module _ (isWord : ℕ → Bool) {table j : List ℕ} {st : State} (q : Qualified) (o : Matched) (finds : Finds isWord table j st q o) (after : Bool) where
+  pub split-stop : (m : ℕ) → o ≡ Nowhere m → PerformsTold isWord table j st (Op.split after q) j (Stop m st)
+  unfolding program splitting
+  split-stop m is e c t same w = told isWord j (Op.split after q) j (Stop m st) e c t same (match-stops isWord q o finds m is (splitting after) e c t w)
 
-  module _ (i : ℕ) (q : o ≡ At i) (n : ℕ) (z : n ≡ pointBy after i (to - from)) where
-    pub has-cut : IsReady table j st → HasLine table j st n
-    has-cut h = has-less n (omega (arith, z, by-inside after i (to - from))) (has-place isWord qs script from to room o finds i q h)
+  module _ (i n : ℕ) (is : o ≡ At i n) (k : ℕ) (z : k ≡ pointBy after i n) where
+    pub has-cut : IsReady table j st → HasLine table j st k
+    has-cut h = has-less k (omega (arith, z, by-inside after i n)) (has-match isWord q o finds i n is h)
 
-    pub split-found : (k : List ℕ) (m : Moved) → CompletesAt table j st n (λ l. cutAfter l n) k m → PerformsTold isWord table j st splitHere k m
-    unfolding program
-    split-found k m did e c t same w =
-        told isWord qs script from to room o finds splitHere k m e c t same
-        (rw (
-          place-goes isWord qs script from to room o finds i q (λ x i. cutAfter (x .0) (pointBy after i (length (stringIn (qualified qs (part from to script)))))) e c t w,
-          string-long isWord qs script from to room o finds i q,
-          ← z,
-        )
-        (did e c t (at-less n e t (omega (arith, z, by-inside after i (to - from))) (at-place isWord qs script from to room o finds i q e t w))))
+    pub split-found : (k′ : List ℕ) (m : Moved) → CompletesAt table j st k (λ l. cutAfter l k) k′ m → PerformsTold isWord table j st (Op.split after q) k′ m
+    unfolding program splitting
+    split-found k′ m did e c t same w =
+        told isWord j (Op.split after q) k′ m e c t same
+        (rw (match-goes isWord q o finds i n is (splitting after) e c t w, ← z)
+        (did e c t (at-less k e t (omega (arith, z, by-inside after i n)) (at-match isWord q o finds i n is e t w))))

@@ -1,16 +1,18 @@
 // SA and SB: the current line cut in two.
 ghost use mathlib.Core.Path.{_≡_};
 ghost use mathlib.Core.Bool.{true};
-ghost use Prim.Native.Nat.{_≤_, _<_};
+ghost use Prim.Native.Nat.{_+_, _≤_, _<_};
 ghost use lib.ListN.{length};
 ghost use Rattle.definitions.specs.Bytes.{isLine};
 ghost use Rattle.definitions.specs.Given.{Carried};
 ghost use Rattle.definitions.specs.Edit.{Op, cutAfter};
 ghost use Rattle.editor.specs.Shows.{ShowsText, Completes};
+ghost use Rattle.text.specs.Lines.{part};
 ghost use Rattle.wordset.specs.Sets.{inSet};
+ghost use Rattle.matching.specs.Quals.{Formed};
 ghost use Rattle.editor.specs.Current.{IsReady};
 ghost use Rattle.changes.specs.Current.{sought, PerformsTold, HasLine, CompletesAt};
-use changes::look::Place;
+use changes::look::Matched;
 use editor::Moved;
 use editor::State;
 use matching::Quals;
@@ -57,12 +59,12 @@ pub fn split(
     from: usize,
     to: usize,
 ) -> Moved
-    requires { ⌜ (3 ≤ length (now set)) × IsReady (now table) (now j) st × (from ≤ to) × (to ≤ length (now script)) ⌝ }
+    requires { ⌜ (3 ≤ length (now set)) × IsReady (now table) (now j) st × (from ≤ to) × (to ≤ length (now script)) × (to ≤ from + 255) × Formed q (part from to (now script)) ⌝ }
     ensures { λ r. ⌜ PerformsTold (inSet (now (set .entry)) 0) (now (table .entry)) (now (j .entry)) st (Op.split after (sought q (now (script .entry)) from to)) (now (j .exit)) r ⌝ }
 {
-    let place = changes::look::place_here(set, table, j, st, q, script, from, to);
-    match place {
-        Place::Nowhere(n) => Moved::Stop(n, st),
-        Place::At(i) => cut_here(table, j, st, changes::point_by(after, i, to - from)),
+    let found = changes::look::match_here(set, table, j, st, q, script, from, to);
+    match found {
+        Matched::Nowhere(n) => Moved::Stop(n, st),
+        Matched::At(i, n) => cut_here(table, j, st, changes::point_by(after, i, n)),
     }
 }

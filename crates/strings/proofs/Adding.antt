@@ -1,6 +1,6 @@
 -- Laws of adding a qualifier, one for each way out. Assumes nothing.
 use mathlib.Core.Path.{_≡_, refl, sym, _∙_}
-use mathlib.Core.Bool.{Bool, true, false, _&&_}
+use mathlib.Core.Bool.{Bool, true, false, cond, _&&_, false≢true}
 use mathlib.Core.Logic.{_⊎_, inl, inr}
 use mathlib.Core.Option.{Option, none, some}
 use Prim.Native.Nat.{ℕ, zero, suc, _≤_, _<_}
@@ -9,7 +9,7 @@ use native.Mathlib.Nat.{not-suc-le-zero}
 use borrow.Author.Tests.{eq-eqb, ne-eqb}
 use Rattle.definitions.specs.Matching.{Qualifiers}
 use Rattle.definitions.specs.Reader.{Cursor, placeAt, afterByte}
-use Rattle.definitions.specs.Strings.{isAnchored, clashesWithL, unless, addAnchor, addCount, addL, addN, addW, addU, addS, added, letterOf, readQualifier}
+use Rattle.definitions.specs.Strings.{isAnchored, clashesWithL, unless, addAnchor, addCount, addL, addN, addW, addU, addS, addR, added, letterOf, readQualifier}
 use Rattle.matching.specs.declared.Quals.{Quals}
 use Rattle.matching.specs.Quals.{anchorOf, qualifiersOf}
 use Rattle.strings.specs.declared.Added.{Added}
@@ -71,15 +71,26 @@ stands l n (inl e) = rw e
 stands true n (inr e) = rw e
 stands false n (inr e) = refl
 
--- the qualifiers with another anchor, another count, and other flags
+-- of a pattern no count is given
+pub count-given : (q : Quals) → Small q → cond (q .pattern) 0 (q .count) ≡ q .count
+count-given q small = by (q .pattern) (small .uncounted)
+  where
+    by : (p : Bool) → (p ≡ true → q .count ≡ 0) → cond p 0 (q .count) ≡ q .count
+    by true h = sym (h refl)
+    by false h = refl
+
+-- the qualifiers with another anchor, another count, R, and other flags
 abbrev set-anchor : Quals → ℕ → Quals
-set-anchor q a = record { anchor = a; count = q .count; last = q .last; negated = q .negated; word = q .word; fold = q .fold; skip = q .skip; from = q .from; to = q .to }
+set-anchor q a = record { anchor = a; count = q .count; last = q .last; negated = q .negated; word = q .word; fold = q .fold; skip = q .skip; from = q .from; to = q .to; pattern = q .pattern }
 
 abbrev set-count : Quals → ℕ → Quals
-set-count q k = record { anchor = q .anchor; count = k; last = q .last; negated = q .negated; word = q .word; fold = q .fold; skip = q .skip; from = q .from; to = q .to }
+set-count q k = record { anchor = q .anchor; count = k; last = q .last; negated = q .negated; word = q .word; fold = q .fold; skip = q .skip; from = q .from; to = q .to; pattern = q .pattern }
+
+abbrev set-pattern : Quals → Quals
+set-pattern q = record { anchor = q .anchor; count = q .count; last = q .last; negated = q .negated; word = q .word; fold = q .fold; skip = q .skip; from = q .from; to = q .to; pattern = true }
 
 abbrev set-flags : Quals → Bool → Bool → Bool → Bool → Bool → Quals
-set-flags q l n w u s = record { anchor = q .anchor; count = q .count; last = l; negated = n; word = w; fold = u; skip = s; from = q .from; to = q .to }
+set-flags q l n w u s = record { anchor = q .anchor; count = q .count; last = l; negated = n; word = w; fold = u; skip = s; from = q .from; to = q .to; pattern = q .pattern }
 
 module _ (q : Quals) where
   -- ---- B, E and P
@@ -89,20 +100,21 @@ module _ (q : Quals) where
     unfolding addAnchor qualifiersOf unless
     anchored h = clash _ q (rw (not-zero (q .anchor) h))
 
-    pub counted : q .anchor ≡ 0 → (q .count ≡ 0 → ⊥) → Adds (addAnchor (anchorOf anchor) (qualifiersOf q)) q Clash
+    pub counted : Small q → q .anchor ≡ 0 → (q .count ≡ 0 → ⊥) → Adds (addAnchor (anchorOf anchor) (qualifiersOf q)) q Clash
     unfolding addAnchor qualifiersOf unless
-    counted h k = clash _ q (rw (is-zero (q .anchor) h, ne-eqb (q .count) 0 k))
+    counted small h k = clash _ q (rw (is-zero (q .anchor) h, count-given q small, ne-eqb (q .count) 0 k))
 
-    pub with-last : q .anchor ≡ 0 → q .count ≡ 0 → q .last ≡ true → 1 ≤ anchor → anchor ≤ 3 → (anchor ≡ 2 → ⊥)
+    pub with-last : Small q → q .anchor ≡ 0 → q .count ≡ 0 → q .last ≡ true → 1 ≤ anchor → anchor ≤ 3 → (anchor ≡ 2 → ⊥)
         → Adds (addAnchor (anchorOf anchor) (qualifiersOf q)) q Clash
     unfolding addAnchor qualifiersOf unless
-    with-last h k l low high e = clash _ q (rw (is-zero (q .anchor) h, eq-eqb (q .count) 0 k, l, not-end anchor low high e))
+    with-last small h k l low high e = clash _ q (rw (is-zero (q .anchor) h, count-given q small, eq-eqb (q .count) 0 k, l, not-end anchor low high e))
 
-    pub anchor-now : q .anchor ≡ 0 → q .count ≡ 0 → (q .last ≡ false) ⊎ (anchor ≡ 2) → anchor ≤ 3
+    pub anchor-now : Small q → q .anchor ≡ 0 → q .count ≡ 0 → (q .last ≡ false) ⊎ (anchor ≡ 2) → anchor ≤ 3
         → Adds (addAnchor (anchorOf anchor) (qualifiersOf q)) q (Now (set-anchor q anchor))
     unfolding addAnchor qualifiersOf unless
-    anchor-now h k e high =
-        now _ q _ (rw (is-zero (q .anchor) h, eq-eqb (q .count) 0 k, stands (q .last) anchor e)) (λ s. record { anchor = high; count = s .count; from = s .from; to = s .to; unset = s .unset })
+    anchor-now small h k e high =
+        now _ q _ (rw (is-zero (q .anchor) h, count-given q small, eq-eqb (q .count) 0 k, stands (q .last) anchor e))
+        (λ s. record { fits = record { anchor = high; count = s .fits .count; from = s .fits .from; to = s .fits .to }; uncounted = s .uncounted })
 
   -- ---- a count
 
@@ -111,19 +123,28 @@ module _ (q : Quals) where
     unfolding addCount qualifiersOf unless
     count-anchored h = clash _ q (rw (not-zero (q .anchor) h))
 
-    pub count-counted : q .anchor ≡ 0 → (q .count ≡ 0 → ⊥) → Adds (addCount count (qualifiersOf q)) q Clash
+    pub count-pattern : q .anchor ≡ 0 → q .pattern ≡ true → Adds (addCount count (qualifiersOf q)) q Clash
     unfolding addCount qualifiersOf unless
-    count-counted h k = clash _ q (rw (is-zero (q .anchor) h, ne-eqb (q .count) 0 k))
+    count-pattern h p = clash _ q (rw (is-zero (q .anchor) h, p))
 
-    pub count-now : q .anchor ≡ 0 → q .count ≡ 0 → count ≤ 65535 → Adds (addCount count (qualifiersOf q)) q (Now (set-count q count))
-    unfolding addCount qualifiersOf unless
-    count-now h k high =
-        now _ q _ (rw (is-zero (q .anchor) h, eq-eqb (q .count) 0 k)) (λ s. record { anchor = s .anchor; count = high; from = s .from; to = s .to; unset = s .unset })
+    module _ (no-anchor : q .anchor ≡ 0) (no-pattern : q .pattern ≡ false) where
+      pub count-counted : (q .count ≡ 0 → ⊥) → Adds (addCount count (qualifiersOf q)) q Clash
+      unfolding addCount qualifiersOf unless
+      count-counted k = clash _ q (rw (is-zero (q .anchor) no-anchor, no-pattern, ne-eqb (q .count) 0 k))
+
+      pub count-now : q .count ≡ 0 → count ≤ 65535 → Adds (addCount count (qualifiersOf q)) q (Now (set-count q count))
+      unfolding addCount qualifiersOf unless
+      count-now k high =
+          now _ q _ (rw (is-zero (q .anchor) no-anchor, no-pattern, eq-eqb (q .count) 0 k))
+          (λ s. record { fits = record { anchor = s .fits .anchor; count = high; from = s .fits .from; to = s .fits .to }; uncounted = λ p. absurd (false≢true (sym no-pattern ∙ p)) })
 
   -- ---- flags
 
   flags-small : (l n w u s : Bool) → Small q → Small (set-flags q l n w u s)
-  flags-small l n w u s h = record { anchor = h .anchor; count = h .count; from = h .from; to = h .to; unset = h .unset }
+  flags-small l n w u s h = record {
+    fits = record { anchor = h .fits .anchor; count = h .fits .count; from = h .fits .from; to = h .fits .to };
+    uncounted = h .uncounted;
+  }
 
   pub last-twice : q .last ≡ true → Adds (addL (qualifiersOf q)) q Clash
   unfolding addL qualifiersOf unless
@@ -167,9 +188,13 @@ module _ (q : Quals) where
   unfolding addU qualifiersOf unless
   fold-twice h = clash _ q (rw h)
 
-  pub fold-now : q .fold ≡ false → Adds (addU (qualifiersOf q)) q (Now (set-flags q (q .last) (q .negated) (q .word) true (q .skip)))
+  pub fold-pattern : q .fold ≡ false → q .pattern ≡ true → Adds (addU (qualifiersOf q)) q Clash
   unfolding addU qualifiersOf unless
-  fold-now h = now _ q _ (rw h) (flags-small _ _ _ _ _)
+  fold-pattern h p = clash _ q (rw (h, p))
+
+  pub fold-now : q .fold ≡ false → q .pattern ≡ false → Adds (addU (qualifiersOf q)) q (Now (set-flags q (q .last) (q .negated) (q .word) true (q .skip)))
+  unfolding addU qualifiersOf unless
+  fold-now h p = now _ q _ (rw (h, p)) (flags-small _ _ _ _ _)
 
   pub skip-twice : q .skip ≡ true → Adds (addS (qualifiersOf q)) q Clash
   unfolding addS qualifiersOf unless
@@ -178,6 +203,28 @@ module _ (q : Quals) where
   pub skip-now : q .skip ≡ false → Adds (addS (qualifiersOf q)) q (Now (set-flags q (q .last) (q .negated) (q .word) (q .fold) true))
   unfolding addS qualifiersOf unless
   skip-now h = now _ q _ (rw h) (flags-small _ _ _ _ _)
+
+  -- ---- R
+
+  pub pattern-twice : q .pattern ≡ true → Adds (addR (qualifiersOf q)) q Clash
+  unfolding addR qualifiersOf unless
+  pattern-twice p = clash _ q (rw p)
+
+  module _ (once : q .pattern ≡ false) where
+    pub pattern-folded : q .fold ≡ true → Adds (addR (qualifiersOf q)) q Clash
+    unfolding addR qualifiersOf unless
+    pattern-folded h = clash _ q (rw (once, h))
+
+    pub pattern-counted : q .fold ≡ false → (q .count ≡ 0 → ⊥) → Adds (addR (qualifiersOf q)) q Clash
+    unfolding addR qualifiersOf unless
+    pattern-counted h k = clash _ q (rw (once, h, ne-eqb (q .count) 0 k))
+
+    pub pattern-now : q .fold ≡ false → q .count ≡ 0 → Adds (addR (qualifiersOf q)) q (Now (set-pattern q))
+    unfolding addR qualifiersOf unless
+    pattern-now h k = now _ q _ (rw (once, h, k)) (λ s. record {
+      fits = record { anchor = s .fits .anchor; count = s .fits .count; from = s .fits .from; to = s .fits .to };
+      uncounted = λ p. k;
+    })
 
   -- ---- the letters
 
@@ -219,11 +266,15 @@ module _ (q : Quals) where
     unfolding readQualifier letterOf
     letter-S e = letter _ (λ c. rw e)
 
-  pub letter-other : (i : Bool) (b : ℕ) → (b ≡ 66 → ⊥) → (b ≡ 69 → ⊥) → (b ≡ 80 → ⊥) → (b ≡ 76 → ⊥) → (b ≡ 78 → ⊥) → (b ≡ 87 → ⊥) → (b ≡ 85 → ⊥) → (b ≡ 83 → ⊥)
+    pub letter-R : b ≡ 82 → Adds (addR (qualifiersOf q)) q r → AddsAt (λ c. readQualifier i (qualifiersOf q) c (letterOf b)) q r
+    unfolding readQualifier letterOf
+    letter-R e = letter _ (λ c. rw e)
+
+  pub letter-other : (i : Bool) (b : ℕ) → (b ≡ 66 → ⊥) → (b ≡ 69 → ⊥) → (b ≡ 80 → ⊥) → (b ≡ 76 → ⊥) → (b ≡ 78 → ⊥) → (b ≡ 87 → ⊥) → (b ≡ 85 → ⊥) → (b ≡ 83 → ⊥) → (b ≡ 82 → ⊥)
       → AddsAt (λ c. readQualifier i (qualifiersOf q) c (letterOf b)) q Unknown
   unfolding readQualifier letterOf addedOf SmallAdded
-  letter-other i b nB nE nP nL nN nW nU nS =
+  letter-other i b nB nE nP nL nN nW nU nS nR =
       record {
-        is = λ c. rw (ne-eqb b 66 nB, ne-eqb b 69 nE, ne-eqb b 80 nP, ne-eqb b 76 nL, ne-eqb b 78 nN, ne-eqb b 87 nW, ne-eqb b 85 nU, ne-eqb b 83 nS);
+        is = λ c. rw (ne-eqb b 66 nB, ne-eqb b 69 nE, ne-eqb b 80 nP, ne-eqb b 76 nL, ne-eqb b 78 nN, ne-eqb b 87 nW, ne-eqb b 85 nU, ne-eqb b 83 nS, ne-eqb b 82 nR);
         small = λ h. tt;
       }

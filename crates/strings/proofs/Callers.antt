@@ -8,7 +8,7 @@ use lib.ListN.{length}
 use Rattle.definitions.specs.Table.{isScript}
 use Rattle.matching.specs.declared.Quals.{Quals}
 use Rattle.matching.specs.Quals.{columnsOf, qualifiersOf}
-use Rattle.matching.specs.Words.{columnsIn, columnWords, stringWords, Writable}
+use Rattle.matching.specs.Words.{columnsIn, columnWords, stringWords, ledIn, Writable}
 use Rattle.strings.specs.Answers.{StringAt}
 use Rattle.strings.proofs.Lines.{strings-short, script-short}
 
@@ -24,7 +24,7 @@ few-words columns (suc from) at start end next n h g a o e w c = omega (arith, c
 
 module _ (s : List ℕ) (at : ℕ) (q : Quals) (start end next : ℕ) (stands : StringAt s at q start end next) where
   -- two words, and a third for columns, which take bytes themselves: two words for each byte read are enough
-  pub string-few : length (stringWords (qualifiersOf q) start (end - start)) + 2 * (length s - next) ≤ 2 * (length s - at)
+  pub string-few : length (stringWords (qualifiersOf q) start (end - start) (ledIn q)) + 2 * (length s - next) ≤ 2 * (length s - at)
   unfolding stringWords qualifiersOf columnsIn
   string-few =
       let cw = column-words (q .from) (q .to) in
@@ -32,7 +32,7 @@ module _ (s : List ℕ) (at : ℕ) (q : Quals) (start end next : ℕ) (stands : 
       (cw .0) (cw .1) (stands .after) (stands .ordered) (stands .ends) (stands .within) (stands .columned)
 
   -- its closing delimiter is a byte too: a word is to spare
-  pub string-spare : end < next → suc (length (stringWords (qualifiersOf q) start (end - start))) + 2 * (length s - next) ≤ 2 * (length s - at)
+  pub string-spare : end < next → suc (length (stringWords (qualifiersOf q) start (end - start) (ledIn q))) + 2 * (length s - next) ≤ 2 * (length s - at)
   unfolding stringWords qualifiersOf columnsIn
   string-spare less =
       let cw = column-words (q .from) (q .to) in
@@ -42,10 +42,10 @@ module _ (s : List ℕ) (at : ℕ) (q : Quals) (start end next : ℕ) (stands : 
 
   pub string-writable : isScript s ≡ true → Writable q start (end - start)
   string-writable form = record {
-    anchored = stands .small .anchor;
-    counted = stands .small .count;
-    first = stands .small .from;
-    last = stands .small .to;
+    anchored = stands .fits .anchor;
+    counted = stands .fits .count;
+    first = stands .fits .from;
+    last = stands .fits .to;
     starts = omega (arith, stands .ordered, stands .ends, stands .within, script-short s form);
     short = omega (arith, stands .short (strings-short s form));
   }

@@ -21,7 +21,8 @@ use Rattle.strings.specs.Answers.{Small, qualifierHere, QualifierAt, Qua
 
 -- no qualifiers, as the code writes them
 pub none-are : (q : Quals) → q ≡ plain → (qualifiersOf q ≡ noQualifiers) × Small q × (q .from ≡ 0)
-none-are q e = rw e (plain-none, record { anchor = omega arith; count = omega arith; from = omega arith; to = omega arith; unset = λ e. refl }, refl)
+none-are q e =
+    rw e (plain-none, record { fits = record { anchor = omega arith; count = omega arith; from = omega arith; to = omega arith }; uncounted = λ p. refl }, refl)
 
 -- a delimiter is a byte of the script
 pub opens-inside : (s : List ℕ) (i : ℕ) → isDelimiter (nextByte (cursorAt s i)) ≡ true → i < length s

@@ -14,24 +14,25 @@ use borrow.Author.Tests.{eq-eqb, ne-eqb, eqb-true}
 use Rattle.definitions.specs.Bytes.{isDigit}
 use Rattle.definitions.specs.Matching.{Qualifiers, Qualified}
 use Rattle.definitions.specs.Reader.{Cursor, cursor, Got, refused, andThen, placeAt, nextByte, stringUpTo, stringNext, advance, pastDelimiter, afterString}
-use Rattle.definitions.specs.Strings.{wantsBytes, isEmpty, readString, startQualifiers, qualifiedString, secondString, twoStrings}
+use Rattle.definitions.specs.Strings.{wantsBytes, isEmpty, readBytes, readString, startQualifiers, qualifiedString, secondString, twoStrings}
 use Rattle.matching.specs.declared.Quals.{Quals}
 use Rattle.matching.specs.Quals.{qualifiersOf}
 use Rattle.answers.specs.declared.Answer.{Answer}
 use Rattle.answers.specs.Answers.{StringOr, StringsOr}
 use Rattle.lexer.specs.Places.{cursorAt}
 use Rattle.lexer.proofs.AtPlace.{is-next, next-in, next-at, after-in, after-next}
-use Rattle.strings.specs.Answers.{Open, OpenAt, Short, QuotedAt, Quoted, Paired, PairRead}
+use Rattle.strings.proofs.Adding.{count-given}
+use Rattle.strings.specs.Answers.{Small, Open, OpenAt, Short, bytesThen, Finished, BytesRead, StringAt, QuotedAt, Quoted, Paired, PairRead}
 
 -- ---- which qualifiers want bytes
 
-pub counts-want : (q : Quals) → (q .count ≡ 0 → ⊥) → wantsBytes (qualifiersOf q) ≡ true
+pub counts-want : (q : Quals) → Small q → (q .count ≡ 0 → ⊥) → wantsBytes (qualifiersOf q) ≡ true
 unfolding wantsBytes qualifiersOf
-counts-want q e = rw (ne-eqb (q .count) 0 e)
+counts-want q small e = rw (count-given q small, ne-eqb (q .count) 0 e)
 
-pub words-want : (q : Quals) → q .count ≡ 0 → wantsBytes (qualifiersOf q) ≡ q .word
+pub words-want : (q : Quals) → Small q → q .count ≡ 0 → wantsBytes (qualifiersOf q) ≡ q .word
 unfolding wantsBytes qualifiersOf
-words-want q e = rw (eq-eqb (q .count) 0 e)
+words-want q small e = rw (count-given q small, eq-eqb (q .count) 0 e)
 
 -- ---- the string at its opening delimiter
 
@@ -105,28 +106,42 @@ module _ (s : List ℕ) (from : ℕ) (y : Got Qualifiers) (at : ℕ) (q : Quals)
     module _ (next : ℕ) (passed : advance (length (stringNext (getD s at 0) (cursorAt s (at + 1)))) (cursorAt s (at + 1)) ≡ cursorAt s end)
         (closed : pastDelimiter (getD s at 0) (cursorAt s end) ≡ cursorAt s next)
         (ordered : at + 1 ≤ end) (ends : end ≤ next) (within : next ≤ length s) where
-      quoted-is : (isEmpty (part (at + 1) end s) && wantsBytes (qualifiersOf q)) ≡ false
-          → Quoted s from y (readString (qualifiersOf q) (cursorAt s at)) (Answer.OneString q (at + 1) end next)
-      unfolding readString
-      quoted-is e = StringOr.read q (at + 1) end next (
-        rw (next-in s at (opened .inside), after-in s at (opened .inside), after-is s (at + 1) end (getD s at 0) next string passed closed, string, e),
-        record {
-          after = omega (arith, opened .from);
-          ordered = ordered;
-          ends = ends;
-          closed = is-closed s (at + 1) end (getD s at 0) next passed closed ends;
-          within = within;
-          small = opened .small;
-          columned = λ h. omega (arith, opened .columned h);
-          short = short s (at + 1) end (getD s at 0) string (omega arith);
-        },
-        record { opening = at; is = opening .0; starts = omega arith },
-      )
+      -- what is read of its bytes is what is read of the string
+      bytes-are : (isEmpty (part (at + 1) end s) && wantsBytes (qualifiersOf q)) ≡ false
+          → readString (qualifiersOf q) (cursorAt s at) ≡ bytesThen (qualifiersOf q) (at + 1) (part (at + 1) end s) (cursorAt s next)
+      unfolding readString readBytes bytesThen placeAt
+      bytes-are e =
+          rw (next-in s at (opened .inside), after-in s at (opened .inside), string, e)
+          (ap (λ c. bytesThen (qualifiersOf q) (at + 1) (part (at + 1) end s) c) (after-is s (at + 1) end (getD s at 0) next string passed closed))
 
-      pub quoted-empty : wantsBytes (qualifiersOf q) ≡ false → Quoted s from y (readString (qualifiersOf q) (cursorAt s at)) (Answer.OneString q (at + 1) end next)
+      string-at : (r : Quals) → Finished q (part (at + 1) end s) r → StringAt s from r (at + 1) end next
+      string-at r h = record {
+        after = omega (arith, opened .from);
+        ordered = ordered;
+        ends = ends;
+        closed = is-closed s (at + 1) end (getD s at 0) next passed closed ends;
+        within = within;
+        fits = h .fits;
+        columned = λ k. omega (arith, opened .columned (rw (← h .from) k));
+        short = short s (at + 1) end (getD s at 0) string (omega arith);
+        formed = λ lines. h .formed (rw string at (lines (getD s at 0) (at + 1)));
+      }
+
+      quoted-is : {r : Answer} → (isEmpty (part (at + 1) end s) && wantsBytes (qualifiersOf q)) ≡ false → BytesRead s q (at + 1) end next r
+          → Quoted s from y (readString (qualifiersOf q) (cursorAt s at)) r
+      quoted-is e (StringOr.read r a b c (is, h, ea, eb, ec)) = rw (ea, eb, ec) (StringOr.read r (at + 1) end next (
+        bytes-are e ∙ is ∙ rw (h .same),
+        string-at r h,
+        record { opening = at; is = opening .0 ∙ rw (h .same); starts = omega arith },
+      ))
+      quoted-is e (StringOr.refused k p is) = StringOr.refused k p (bytes-are e ∙ is)
+
+      pub quoted-empty : {r : Answer} → wantsBytes (qualifiersOf q) ≡ false → BytesRead s q (at + 1) end next r
+          → Quoted s from y (readString (qualifiersOf q) (cursorAt s at)) r
       quoted-empty w = quoted-is (rw w (and-false (isEmpty (part (at + 1) end s))))
 
-      pub quoted-bytes : (end ≡ at + 1 → ⊥) → Quoted s from y (readString (qualifiersOf q) (cursorAt s at)) (Answer.OneString q (at + 1) end next)
+      pub quoted-bytes : {r : Answer} → (end ≡ at + 1 → ⊥) → BytesRead s q (at + 1) end next r
+          → Quoted s from y (readString (qualifiersOf q) (cursorAt s at)) r
       quoted-bytes e = quoted-is (rw (not-empty s (at + 1) end (omega arith) (omega arith)))
 
 -- ---- a qualified string

@@ -86,7 +86,7 @@ module _ (s : List ℕ) (at n i : ℕ) (spaces : skipSpaces (cursorAt s at) ≡ 
 
 -- the qualifiers with columns
 abbrev set-columns : Quals → ℕ → ℕ → Quals
-set-columns q n m = record { anchor = q .anchor; count = q .count; last = q .last; negated = q .negated; word = q .word; fold = q .fold; skip = q .skip; from = n; to = m }
+set-columns q n m = record { anchor = q .anchor; count = q .count; last = q .last; negated = q .negated; word = q .word; fold = q .fold; skip = q .skip; from = n; to = m; pattern = q .pattern }
 
 columns-are : (q : Quals) (n m : ℕ) → 1 ≤ n → qualifiersOf (set-columns q n m) ≡ setColumns n m (qualifiersOf q)
 unfolding qualifiersOf columnsOf setColumns
@@ -105,7 +105,7 @@ module _ (s : List ℕ) (at n : ℕ) (q : Quals) where
     goes-on (secondColumn n (cursorAt s at)) _ m (cursorAt s next) (on .0) ∙ ap (λ (x : Qualifiers). got x (cursorAt s next)) (sym (columns-are q n m low)),
     on .1 .2,
     on .2,
-    record { anchor = small .anchor; count = small .count; from = high; to = on .1 .1; unset = λ e. omega arith },
+    record { fits = record { anchor = small .fits .anchor; count = small .fits .count; from = high; to = on .1 .1 }; uncounted = small .uncounted },
   )
 
 later : (s : List ℕ) (at at′ : ℕ) (x y : Got Qualifiers) {r : Answer} → at ≤ at′ → x ≡ y → QualifierRead s at′ y r → QualifierRead s at x r

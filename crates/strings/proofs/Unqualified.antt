@@ -21,6 +21,7 @@ use Rattle.lexer.proofs.AtPlace.{next-in, after-in}
 use Rattle.lexer.proofs.Given.{goes-on, passed-up}
 use Rattle.lexer.proofs.Parts.{delimiter-inside, string-passed, after-string}
 use Rattle.strings.specs.Answers.{Small, Quoted, PairedAt, Paired, PlainAt, PlainRead}
+use Rattle.strings.proofs.Forming.{plain-formed}
 use Rattle.strings.proofs.Quoting.{is-closed, short}
 
 -- ---- what was read is one thing
@@ -126,9 +127,10 @@ module _ (s : List ℕ) (at o : ℕ) (spaces : skipSpaces (cursorAt s at) ≡ cu
           ends = string .1 .2;
           closed = is-closed s start end (getD s o 0) next (parts .passed) (parts .closed) (string .1 .2);
           within = string .2;
-          small = small;
+          fits = small .fits;
           columned = λ h. omega (arith, h, no-columns);
           short = short s start end (getD s o 0) (parts .string) (omega (arith, string .1 .2, string .2));
+          formed = λ h. plain-formed q (part start end s) none;
         },
         record { opening = o; is = rw none; starts = string .1 .0 },
       )

@@ -8,11 +8,12 @@ use lib.Dec.{leb}
 use lib.ListN.{length, getD}
 use Rattle.definitions.specs.Bytes.{Line, isDigit}
 use Rattle.definitions.specs.Matching.{Qualifiers, Qualified, qualified}
+use Rattle.definitions.specs.Patterns.{readPattern}
 use Rattle.definitions.specs.Reader.{Cursor, Got, got, refused, andThen, placeAt, nextByte, afterByte, expect, skipSpaces, number, stringNext, quoted}
-use Rattle.definitions.specs.Strings.{noQualifiers, added, setColumns, qualifierByte, readQualifier, startQualifiers, qualifiedString, Pair, pair, twoStrings, twoPlainStrings}
+use Rattle.definitions.specs.Strings.{noQualifiers, added, isPattern, setColumns, qualifierByte, readQualifier, patternOr, startQualifiers, qualifiedString, Pair, pair, twoStrings, twoPlainStrings}
 use Rattle.text.specs.Lines.{part}
 use Rattle.matching.specs.declared.Quals.{Quals}
-use Rattle.matching.specs.Quals.{qualifiersOf}
+use Rattle.matching.specs.Quals.{qualifiersOf, Formed}
 use Rattle.answers.specs.declared.Answer.{Answer}
 use Rattle.answers.specs.Answers.{QualifiersOr, StringOr, StringsOr}
 use Rattle.lexer.specs.Places.{cursorAt}
@@ -20,13 +21,17 @@ use Rattle.lexer.specs.Answers.{Refuses}
 use Rattle.strings.specs.declared.Added.{Added}
 use Rattle.strings.specs.declared.Added.the-variants.{Now, Clash, Unknown}
 
--- the numbers of qualifiers that a script can give; no two of these stand for the same qualifiers
-pub record Small (q : Quals) : Type 0 where
+-- the numbers of qualifiers that a script can give
+pub record Fits (q : Quals) : Type 0 where
   pub anchor : q .anchor ≤ 3
   pub count : q .count ≤ 65535
   pub from : q .from ≤ 65535
   pub to : q .to ≤ 65535
-  pub unset : q .from ≡ 0 → q .to ≡ 0
+
+-- the same while they are read: of a pattern no count is given, and it is not known yet what its matches can begin with
+pub record Small (q : Quals) : Type 0 where
+  pub fits : Fits q
+  pub uncounted : q .pattern ≡ true → q .count ≡ 0
 
 -- what adding a qualifier comes to, with the place of the qualifier and the cursor after it: 4 where it cannot stand, 3 where there is none such
 unfoldable pub addedOf : Added → ℕ → Cursor → Got Qualifiers
@@ -98,6 +103,30 @@ QualifiersRead s at x = QualifiersOr (OpenAt s at x) (Refuses x)
 abbrev pub Short : List ℕ → Type 0
 Short s = (d i : ℕ) → length (stringNext d (cursorAt s i)) ≤ 255
 
+-- what is read of the string l from `start` on, which the cursor c follows
+unfoldable pub bytesThen : Qualifiers → ℕ → Line → Cursor → Got Qualified
+bytesThen q start l c = cond (isPattern q) (patternOr (readPattern start l) (got (qualified q l) c)) (got (qualified q l) c)
+
+-- r are the qualifiers q of the string l, with what the matches of a pattern can begin with (W9.1)
+pub record Finished (q : Quals) (l : Line) (r : Quals) : Type 0 where
+  pub same : qualifiersOf r ≡ qualifiersOf q
+  pub from : r .from ≡ q .from
+  pub fits : Fits r
+  pub formed : length l ≤ 255 → Formed r l
+
+abbrev pub BytesAt : List ℕ → Quals → ℕ → ℕ → ℕ → Quals → ℕ → ℕ → ℕ → Type 0
+BytesAt s q start end next r a e n =
+    (bytesThen (qualifiersOf q) start (part start end s) (cursorAt s next) ≡ got (qualified (qualifiersOf q) (part start end s)) (cursorAt s next))
+    × Finished q (part start end s) r
+    × (a ≡ start)
+    × (e ≡ end)
+    × (n ≡ next)
+
+-- the bytes of a string were read, with its qualifiers
+abbrev pub BytesRead : List ℕ → Quals → ℕ → ℕ → ℕ → Answer → Type 0
+BytesRead s q start end next =
+    StringOr (BytesAt s q start end next) (Refuses (bytesThen (qualifiersOf q) start (part start end s) (cursorAt s next)))
+
 -- Where the string lies: after `at`, and after the columns if there are any. Where a digit follows, its delimiter was read: else the line ends there.
 pub record StringAt (s : List ℕ) (at : ℕ) (q : Quals) (start end next : ℕ) : Type 0 where
   pub after : suc at ≤ start
@@ -105,9 +134,10 @@ pub record StringAt (s : List ℕ) (at : ℕ) (q : Quals) (start end next : ℕ)
   pub ends : end ≤ next
   pub closed : isDigit (getD s next 0) ≡ true → end < next
   pub within : next ≤ length s
-  pub small : Small q
+  pub fits : Fits q
   pub columned : 0 < q .from → suc (suc at) ≤ start
   pub short : Short s → end ≤ start + 255
+  pub formed : Short s → Formed q (part start end s)
 
 -- the string starts after its opening delimiter, up to which the qualifiers y are read; so its bytes fix its end
 pub record Opened (s : List ℕ) (y : Got Qualifiers) (q : Quals) (start : ℕ) : Type 0 where

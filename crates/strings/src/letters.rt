@@ -1,6 +1,6 @@
 // Which qualifiers may stand together: each function adds one, where it can stand with the earlier ones.
 ghost use Prim.Native.Nat.{_≤_};
-ghost use Rattle.definitions.specs.Strings.{addAnchor, addCount, addL, addN, addW, addU, addS, letterOf, readQualifier};
+ghost use Rattle.definitions.specs.Strings.{addAnchor, addCount, addL, addN, addW, addU, addS, addR, letterOf, readQualifier};
 ghost use Rattle.matching.specs.Quals.{anchorOf, qualifiersOf};
 ghost use Rattle.strings.specs.Answers.{Small, Adds, AddsAt};
 use crate::Added;
@@ -32,6 +32,9 @@ pub fn add_count(q: Quals, count: usize) -> Added
     ensures { λ r. ⌜ Adds (addCount count (qualifiersOf q)) q r ⌝ }
 {
     if q.anchor != 0 {
+        return Added::Clash;
+    }
+    if q.pattern {
         return Added::Clash;
     }
     if q.count != 0 {
@@ -95,6 +98,9 @@ fn add_fold(q: Quals) -> Added
     if q.fold {
         return Added::Clash;
     }
+    if q.pattern {
+        return Added::Clash;
+    }
     let mut more = q;
     more.fold = true;
     Added::Now(more)
@@ -112,6 +118,25 @@ fn add_skip(q: Quals) -> Added
     Added::Now(more)
 }
 
+// R stands with no U and no count.
+fn add_pattern(q: Quals) -> Added
+    requires { ⌜ Small q ⌝ }
+    ensures { λ r. ⌜ Adds (addR (qualifiersOf q)) q r ⌝ }
+{
+    if q.pattern {
+        return Added::Clash;
+    }
+    if q.fold {
+        return Added::Clash;
+    }
+    if q.count != 0 {
+        return Added::Clash;
+    }
+    let mut more = q;
+    more.pattern = true;
+    Added::Now(more)
+}
+
 // The qualifier of one letter, a capital one.
 pub fn add_letter(q: Quals, letter: u8, in_search: bool) -> Added
     requires { ⌜ Small q ⌝ }
@@ -126,6 +151,7 @@ pub fn add_letter(q: Quals, letter: u8, in_search: bool) -> Added
         87 => add_word(q),
         85 => add_fold(q),
         83 => add_skip(q),
+        82 => add_pattern(q),
         _ => Added::Unknown,
     }
 }

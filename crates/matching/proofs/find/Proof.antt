@@ -1,75 +1,27 @@
 use borrow.Author.Needs.{needs}
-use Rattle.matching.proofs.Finding.{too-short, found-counted, found-start, found-end, found-whole, not-whole}
+use Rattle.matching.proofs.Finding.{by-string, by-pattern}
 use Rattle.matching.proofs.find.Statement.{statement}
 use Rattle.matching.proofs.find.Tie as tie
 
 text-of-requires : tie.Need-text-of-requires
 text-of-requires c κs = search needs
 
-sub-if1 : tie.Need-sub-if1
-sub-if1 c = search needs
+find-pattern-requires : tie.Need-find-pattern-requires
+find-pattern-requires c κs =
+    let pre = c .before .before .before .before .before .pre in
+    let t = c .before .text-of .ensures in
+    (pre .0, t .ordered, t .inside, pre .3, pre .4, pre .2 (c .if1 .taken))
 
 returns : tie.Need-returns
-returns c = too-short _ _ _ _ _ _ (c .before .text-of .ensures) (c .if1 .taken)
+returns c =
+    let given = c .before .before .before .before .before .before .pre .2 (c .before .if1 .taken) in
+    by-pattern _ _ _ _ _ _ (c .before .before .text-of .ensures) _ (c .before .if1 .taken) (given .0) (given .1) (c .find-pattern .ensures (given .0) (given .1))
 
-from-right-requires : tie.Need-from-right-requires
-from-right-requires c κs = search needs
+find-string-requires : tie.Need-find-string-requires
+find-string-requires c κs = search needs
 
 returns-2 : tie.Need-returns-2
-returns-2 c = found-counted _ _ _ _ _ _ (c .before .before .before .before .before .text-of .ensures) _ _ (c .before .before .if2 .taken) (c .before .if3 .taken) (c .from-right .ensures)
-
-from-left-requires : tie.Need-from-left-requires
-from-left-requires c κs = search needs
-
-returns-3 : tie.Need-returns-3
-returns-3 c = found-counted _ _ _ _ _ _ (c .before .before .before .before .before .text-of .ensures) _ _ (c .before .before .if2 .taken) (c .before .if3 .left) (c .from-left .ensures)
-
-only-at-requires : tie.Need-only-at-requires
-only-at-requires c κs = search needs
-
-returns-4 : tie.Need-returns-4
-returns-4 c = found-start _ _ _ _ _ _ (c .before .before .before .before .before .before .text-of .ensures) _ (c .before .before .before .before .before .if1 .left) (c .before .if4 .taken) (c .only-at .ensures)
-
-sub-only-at : tie.Need-sub-only-at
-sub-only-at c = search needs
-
-only-at-requires-2 : tie.Need-only-at-requires-2
-only-at-requires-2 c κs = search needs
-
-returns-5 : tie.Need-returns-5
-returns-5 c = found-end _ _ _ _ _ _ (c .before .before .before .before .before .before .before .before .text-of .ensures) _ (c .before .before .before .before .before .before .before .if1 .left) (c .before .if5 .taken) (c .only-at2 .ensures)
-
-sub-if6 : tie.Need-sub-if6
-sub-if6 c = search needs
-
-only-at-requires-3 : tie.Need-only-at-requires-3
-only-at-requires-3 c κs = search needs
-
-returns-6 : tie.Need-returns-6
-returns-6 c =
-    found-whole _ _ _ _ _ _ (c .before .before .before .before .before .before .before .before .before .text-of .ensures) (c .before .before .before .before .before .before .if2 .left) (c .before .before .before .before .if4 .left) (c .before .before .if5 .left) _ (c .before .if6 .taken) (c .only-at3 .ensures)
-
-returns-7 : tie.Need-returns-7
-returns-7 c =
-    not-whole _ _ _ _ _ _ (c .before .before .before .before .before .before .before .before .text-of .ensures) (c .before .before .before .before .before .if2 .left) (c .before .before .before .if4 .left) (c .before .if5 .left) (c .if6 .left) (c .before .before .before .before .before .before .before .if1 .left)
+returns-2 c = by-string _ _ _ _ _ _ (c .before .before .text-of .ensures) _ (c .before .if1 .left) (c .find-string .ensures)
 
 pub find-spec : {M : Type 1} → statement M
-find-spec =
-    tie.close
-    (tie.spec
-    text-of-requires
-    sub-if1
-    returns
-    from-right-requires
-    returns-2
-    from-left-requires
-    returns-3
-    only-at-requires
-    returns-4
-    sub-only-at
-    only-at-requires-2
-    returns-5
-    sub-if6
-    only-at-requires-3
-    returns-6
-    returns-7)
+find-spec = tie.close (tie.spec text-of-requires find-pattern-requires returns find-string-requires returns-2)

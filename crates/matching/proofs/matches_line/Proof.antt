@@ -13,7 +13,7 @@ enum-told-2 : tie.Need-enum-told-2
 enum-told-2 c = search needs
 
 returns : tie.Need-returns
-returns c = is-found _ _ _ _ _ _ (c .before .before .before .find .ensures) _ (c .before .enum-told .given .1)
+returns c = is-found _ _ _ _ _ _ (c .before .before .before .find .ensures) _ _ (c .before .enum-told .given .1)
 
 returns-2 : tie.Need-returns-2
 returns-2 c = is-missed _ _ _ _ _ _ (c .before .before .find .ensures) (c .enum-told2 .given .1)

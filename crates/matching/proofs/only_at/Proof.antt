@@ -8,10 +8,10 @@ stands-requires : tie.Need-stands-requires
 stands-requires c κs = search needs
 
 returns : tie.Need-returns
-returns c = only-here _ _ (sym (c .before .stands .ensures) ∙ c .if1 .taken)
+returns c = only-here _ _ _ (sym (c .before .stands .ensures) ∙ c .if1 .taken)
 
 returns-2 : tie.Need-returns-2
-returns-2 c = not-only _ _ (sym (c .before .stands .ensures) ∙ c .if1 .left)
+returns-2 c = not-only _ _ _ (sym (c .before .stands .ensures) ∙ c .if1 .left)
 
 pub only-at-spec : {M : Type 1} → statement M
 only-at-spec = tie.close (tie.spec stands-requires returns returns-2)

@@ -4,7 +4,7 @@ use Prim.Native.Nat.{ℕ}
 use Rattle.definitions.specs.Given.{wordsOf}
 use Rattle.wordset.specs.Sets.{inSet}
 use Rattle.globals.proofs.Standing.{set-long, set-counts}
-use Rattle.editor.proofs.CurrentText.{line-window}
+use Rattle.editor.proofs.CurrentText.{line-window, read-short}
 use Rattle.seeks.proofs.Finding.{reserve-in}
 use Rattle.seeks.proofs.Texts.{eof-holds, text-holds}
 use Rattle.seeks.proofs.holds_here.Statement.{statement}
@@ -26,7 +26,7 @@ holds-requires : tie.Need-holds-requires
 holds-requires c κs =
     let p = c .before .before .before .before .before .before .before .pre in
     let h = p .1 .1 .2 in
-    (p .1 .0, set-long (c .before .before .before .before .before .before .before .args .words .now) (reserve-in _ _ (p .0)) _ (c .word-set .ensures), line-window (c .before .before .if1 .left) (p .1 .1 .0) (p .1 .1 .1) (h .shows) (h .point) _ (c .before .current-line .ensures (p .1 .1 .0) (p .1 .1 .1) (h .shows) (h .old)))
+    (p .1 .0, set-long (c .before .before .before .before .before .before .before .args .words .now) (reserve-in _ _ (p .0)) _ (c .word-set .ensures), line-window (c .before .before .if1 .left) (p .1 .1 .0) (p .1 .1 .1) (h .shows) (h .point) _ (c .before .current-line .ensures (p .1 .1 .0) (p .1 .1 .1) (h .shows) (h .old)), read-short _ (c .before .current-line .ensures) (p .1 .1 .0, p .1 .1 .1, record { shows = h .shows; old = h .old }))
 
 returns-2 : tie.Need-returns-2
 returns-2 c =

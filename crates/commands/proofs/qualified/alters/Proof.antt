@@ -1,7 +1,7 @@
 use native.Mathlib.Omega.{arith}
 use Rattle.globals.proofs.Standing.{set-long}
 use Rattle.commands.proofs.Performed.{words-room}
-use Rattle.commands.proofs.Strings.{alters-read, second-there, second-good, strings-in, alters-as}
+use Rattle.commands.proofs.Strings.{alters-read, string-fits, second-there, second-good, strings-in, alters-as}
 use borrow.Author.Needs.{needs}
 use Rattle.commands.proofs.qualified.alters.Statement.{statement}
 use Rattle.commands.proofs.qualified.alters.Tie as tie
@@ -49,7 +49,10 @@ is-pointing-requires : tie.Need-is-pointing-requires
 is-pointing-requires c κs = search needs
 
 alter-requires : tie.Need-alter-requires
-alter-requires c κs = let g = second-good _ _ _ _ (c .before .before .before .before .before .before .before .before .before .before .before .before .before .before .before .pre .3) (c .before .before .before .before .before .before .before .before .before .before .before .before .before .before .before .pre .4) (c .before .before .before .before .before .before .before .before .before .before .before .before .before .before .before .pre .5) _ (c .before .before .before .before .before .before .before .end-at .ensures) _ (c .before .before .before .before .before .string-start .ensures) _ (c .before .before .before .before .string-length .ensures) (c .before .before .before .before .before .before .before .before .before .before .before .before .before .before .before .pre .0) in (set-long (c .before .before .before .before .before .before .before .before .before .before .before .before .before .before .before .args .w .now) (words-room (c .before .before .before .before .before .before .before .before .before .before .before .before .before .before .before .pre .1)) _ (c .before .before .before .word-set .ensures), c .before .before .before .before .before .before .before .before .before .before .before .before .before .before .before .pre .2, strings-in _ _ _ _ _ (omega (arith, alters-read _ _ _ _ (c .before .before .before .before .before .before .before .before .before .before .before .before .before .before .before .pre .3) (c .before .before .before .before .before .before .before .before .before .before .before .before .before .before .before .pre .4) (c .before .before .before .before .before .before .before .before .before .before .before .before .before .before .before .pre .5) (c .before .before .before .before .before .before .before .before .before .before .before .before .before .before .before .pre .0) .string, c .before .before .before .before .before .before .before .before .length-at .ensures, c .before .before .before .before .before .before .before .before .before .start-at .ensures)) g)
+alter-requires c κs = let a = c .before .before .before .before .before .before .before .before .before .before .before .before .before .before .before in
+    let fits = string-fits _ _ _ (alters-read _ _ _ _ (a .pre .3) (a .pre .4) (a .pre .5) (a .pre .0)) _ _ _ (c .before .before .before .before .before .before .before .before .before .before .quals-at .ensures) (c .before .before .before .before .before .before .before .before .before .start-at .ensures) (c .before .before .before .before .before .before .before .before .length-at .ensures) in
+    let good = second-good _ _ _ _ (a .pre .3) (a .pre .4) (a .pre .5) _ (c .before .before .before .before .before .before .before .end-at .ensures) _ (c .before .before .before .before .before .string-start .ensures) _ (c .before .before .before .before .string-length .ensures) (a .pre .0) in
+    (set-long (a .args .w .now) (words-room (a .pre .1)) _ (c .before .before .before .word-set .ensures), a .pre .2, strings-in _ _ _ _ _ (fits .0) good, fits .1, fits .2)
 
 same-length : tie.Need-same-length
 same-length c = search needs

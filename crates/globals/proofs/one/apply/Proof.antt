@@ -1,7 +1,7 @@
 use mathlib.Core.Path.{refl}
 use native.Mathlib.Nat.{sub-zero}
 use native.Mathlib.Omega.{arith}
-use Rattle.globals.proofs.Decoding.{makes-decoded, passes-none, passes-after, passes-before, passes-exchange, occurs-after, occurs-before, occurs-exchange}
+use Rattle.globals.proofs.Decoding.{makes-decoded, first-asked, passes-none, passes-after, passes-before, passes-exchange, occurs-after, occurs-before, occurs-exchange}
 use borrow.Author.Needs.{needs}
 use Rattle.globals.proofs.one.apply.Statement.{statement}
 use Rattle.globals.proofs.one.apply.Tie as tie
@@ -58,7 +58,9 @@ part-next-place-end-2 c =
     omega (arith, d .room, d .inside, d .inside′, c .before .before .before .start-at .ensures, c .before .before .length-at .ensures)
 
 next-place-requires : tie.Need-next-place-requires
-next-place-requires c κs = search needs
+next-place-requires c κs =
+    let s = c .before .before .before .before .before .before .before .before in
+    rw sub-zero (first-asked _ _ _ _ _ _ _ _ _ (c .before .before .before .before .start-at .ensures) (c .before .before .before .length-at .ensures) refl refl (s .pre .1) (omega (arith, s .pre .1, s .pre .2)))
 
 same-length : tie.Need-same-length
 same-length c = search needs

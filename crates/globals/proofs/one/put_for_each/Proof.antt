@@ -95,7 +95,7 @@ next-place-requires c κs =
     let l = c .before .before .before .before .before .before .before .before .before .before .before .before .before .before in
     let s = l .before .before .before .before .before .before in
     let x = next-is _ _ _ _ _ _ _ _ (s .pre .1 .some-byte) (omega (arith, l .loop .inv .1, s .pre .0)) (l .loop .inv .0) (c .before .before .before .before .before .before .before .before .before .before .before .before .before .loop-test .taken) in
-    omega (arith, x .from, x .fits, l .loop .inv .0 .few, l .loop .inv .1, s .pre .0, s .pre .1 .short, s .pre .1 .few, s .pre .1 .few′)
+    (omega (arith, x .fits), s .pre .1 .short, omega (arith, x .fits, s .pre .1 .short))
 
 loop-less : tie.Need-loop-less Inv-loop μ-loop
 loop-less c =

@@ -8,13 +8,13 @@ returns : tie.Need-returns
 returns c = sym (no-columns _ _ (omega (arith, c .before .pre .0)))
 
 add-result : tie.Need-add-result
-add-result c = omega (arith, c .before .pre .1 (c .if1 .left))
+add-result c = omega (arith, c .before .pre .1 (omega (arith, c .if1 .left)))
 
 mul-result : tie.Need-mul-result
-mul-result c = omega (arith, c .before .pre .1 (c .if1 .left))
+mul-result c = omega (arith, c .before .pre .1 (omega (arith, c .if1 .left)))
 
 shared-slice-read-result : tie.Need-shared-slice-read-result
-shared-slice-read-result c = c .before .before .pre .1 (c .before .if1 .left)
+shared-slice-read-result c = c .before .before .pre .1 (omega (arith, c .before .if1 .left))
 
 returns-2 : tie.Need-returns-2
 returns-2 c = sym (some-columns _ _ (omega (arith, c .before .before .pre .0)))

@@ -40,6 +40,12 @@ bit-of-requires-6 c κs = search needs
 mul-columns : tie.Need-mul-columns
 mul-columns c = search needs
 
+bit-of-requires-7 : tie.Need-bit-of-requires-7
+bit-of-requires-7 c κs = search needs
+
+mul-pattern : tie.Need-mul-pattern
+mul-pattern c = search needs
+
 cast-result : tie.Need-cast-result
 cast-result c = search needs
 
@@ -61,14 +67,18 @@ add-result-5 c = search needs
 add-result-6 : tie.Need-add-result-6
 add-result-6 c = search needs
 
+add-result-7 : tie.Need-add-result-7
+add-result-7 c = search needs
+
 returns : tie.Need-returns
 returns c = (
-  flags-written _ (search needs) _ _ _ _ _ _ (c .before .before .before .before .before .before .before .bit-of .ensures .0)
-      (c .before .before .before .before .before .before .bit-of2 .ensures .0)
-      (c .before .before .before .before .before .bit-of3 .ensures .0)
-      (c .before .before .before .before .bit-of4 .ensures .0)
-      (c .before .before .before .bit-of5 .ensures .0)
-      (c .before .bit-of6 .ensures .0),
+  flags-written _ (search needs) _ _ _ _ _ _ _ (c .before .before .before .before .before .before .before .before .bit-of .ensures .0)
+      (c .before .before .before .before .before .before .before .bit-of2 .ensures .0)
+      (c .before .before .before .before .before .before .bit-of3 .ensures .0)
+      (c .before .before .before .before .before .bit-of4 .ensures .0)
+      (c .before .before .before .before .bit-of5 .ensures .0)
+      (c .before .before .bit-of6 .ensures .0)
+      (c .before .bit-of7 .ensures .0),
   omega arith,
 )
 
@@ -88,6 +98,8 @@ flags-of-spec =
     mul-skip
     bit-of-requires-6
     mul-columns
+    bit-of-requires-7
+    mul-pattern
     cast-result
     add-result
     add-result-2
@@ -95,4 +107,5 @@ flags-of-spec =
     add-result-4
     add-result-5
     add-result-6
+    add-result-7
     returns)

@@ -24,7 +24,9 @@ shared-slice-read-if1 : tie.Need-shared-slice-read-if1 Inv-loop μ-loop
 shared-slice-read-if1 c = omega arith
 
 string-holds-requires : tie.Need-string-holds-requires Inv-loop μ-loop
-string-holds-requires c κs = (reads (c .before .before .before .loop .inv) (c .before .before .loop-test .taken) (c .if1 .taken) .0, c .before .before .before .before .before .before .before .before .pre .1, c .before .before .before .before .before .before .before .before .pre .2)
+string-holds-requires c κs =
+    let pre = c .before .before .before .before .before .before .before .before .pre in
+    (reads (c .before .before .before .loop .inv) (c .before .before .loop-test .taken) (c .if1 .taken) .0, pre .1, pre .2, pre .3)
 
 end-at-requires : tie.Need-end-at-requires Inv-loop μ-loop
 end-at-requires c κs =

@@ -1,6 +1,6 @@
 use mathlib.Core.Path.{_∙_}
 use borrow.Author.Needs.{needs}
-use Rattle.matching.proofs.Words.{read-matches}
+use Rattle.matching.proofs.Words.{read-matches, read-formed, read-short}
 use Rattle.matching.proofs.search.string_holds.Statement.{statement}
 use Rattle.matching.proofs.search.string_holds.Tie as tie
 
@@ -26,7 +26,12 @@ part-matches-line-end : tie.Need-part-matches-line-end
 part-matches-line-end c = search needs
 
 matches-line-requires : tie.Need-matches-line-requires
-matches-line-requires c κs = search needs
+matches-line-requires c κs =
+    let pre = c .before .before .before .before .before .before .before .before .pre in
+    let quals = c .before .before .before .quals-at .ensures in
+    let starts = c .before .before .start-at .ensures in
+    let lengths = c .before .length-at .ensures in
+    (pre .1, pre .2, read-formed _ _ _ _ _ _ quals starts lengths (pre .0 .formed), pre .3, read-short _ _ _ _ _ _ quals starts lengths)
 
 returns : tie.Need-returns
 returns c =

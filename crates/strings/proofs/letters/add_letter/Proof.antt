@@ -1,6 +1,6 @@
 -- `strings::letters::add_letter` meets its contract. in each arm the letter is known, and adding it is that clause of the definition. Assumes nothing.
 use borrow.Author.Needs.{needs}
-use Rattle.strings.proofs.Adding.{letter-B, letter-E, letter-P, letter-L, letter-N, letter-W, letter-U, letter-S, letter-other}
+use Rattle.strings.proofs.Adding.{letter-B, letter-E, letter-P, letter-L, letter-N, letter-W, letter-U, letter-S, letter-R, letter-other}
 use Rattle.strings.proofs.letters.add_letter.Statement.{statement}
 use Rattle.strings.proofs.letters.add_letter.Tie as tie
 
@@ -28,6 +28,9 @@ add-fold-requires c κs = search needs
 add-skip-requires : tie.Need-add-skip-requires
 add-skip-requires c κs = search needs
 
+add-pattern-requires : tie.Need-add-pattern-requires
+add-pattern-requires c κs = search needs
+
 returns : tie.Need-returns
 returns c = let a = c .before .before .args in letter-B (a .q) (a .in-search) (a .letter) _ (c .before .match .keys1) (c .add-anchor .ensures)
 
@@ -53,7 +56,10 @@ returns-8 : tie.Need-returns-8
 returns-8 c = let a = c .before .before .args in letter-S (a .q) (a .in-search) (a .letter) _ (c .before .match .keys8) (c .add-skip .ensures)
 
 returns-9 : tie.Need-returns-9
-returns-9 c = let a = c .before .args in letter-other (a .q) (a .in-search) (a .letter) (c .match .rest .0 .0 .0 .0 .0 .0 .0 .1) (c .match .rest .0 .0 .0 .0 .0 .0 .1) (c .match .rest .0 .0 .0 .0 .0 .1) (c .match .rest .0 .0 .0 .0 .1) (c .match .rest .0 .0 .0 .1) (c .match .rest .0 .0 .1) (c .match .rest .0 .1) (c .match .rest .1)
+returns-9 c = let a = c .before .before .args in letter-R (a .q) (a .in-search) (a .letter) _ (c .before .match .keys9) (c .add-pattern .ensures)
+
+returns-10 : tie.Need-returns-10
+returns-10 c = let a = c .before .args in letter-other (a .q) (a .in-search) (a .letter) (c .match .rest .0 .0 .0 .0 .0 .0 .0 .0 .1) (c .match .rest .0 .0 .0 .0 .0 .0 .0 .1) (c .match .rest .0 .0 .0 .0 .0 .0 .1) (c .match .rest .0 .0 .0 .0 .0 .1) (c .match .rest .0 .0 .0 .0 .1) (c .match .rest .0 .0 .0 .1) (c .match .rest .0 .0 .1) (c .match .rest .0 .1) (c .match .rest .1)
 
 pub add-letter-spec : {M : Type 1} → statement M
 add-letter-spec =
@@ -67,6 +73,7 @@ add-letter-spec =
     add-word-requires
     add-fold-requires
     add-skip-requires
+    add-pattern-requires
     returns
     returns-2
     returns-3
@@ -75,4 +82,5 @@ add-letter-spec =
     returns-6
     returns-7
     returns-8
-    returns-9)
+    returns-9
+    returns-10)
