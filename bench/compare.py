@@ -1,5 +1,5 @@
 #!/usr/bin/env python3
-"""Runs the editor beside sed and ed on the same edits, and prints how they compare.
+"""Runs the editor beside sed and ed on the same edits, and prints how they compare; and searches by form beside plain ones and grep.
 
     bench/compare.py [ROUNDS]
 
@@ -18,6 +18,10 @@ def long_table(lines):
     """Lines of 96 bytes."""
     return "".join(f"R{i:05d} open {i // 60 % 24:02d}:{i % 60:02d} 90, doors on the left side; the crew waits for its signal, number {i:05d}, there\n"
                    for i in range(1, lines + 1))
+
+def timeless_table(lines):
+    """One line near the end has a time."""
+    return "".join(f"R{i:05d} open {i // 60 % 24:02d}{':' if i == lines - 5 else '.'}{i % 60:02d} 90\n" for i in range(1, lines + 1))
 
 def season_table():
     """16 KB of stops, each with the lines that the season's script looks for."""
@@ -64,6 +68,10 @@ def jobs(lines):
          "; ".join(GLOBALS) + "\n", "".join(f"2,${c}\n" for c in SIXTEEN), "".join(f"2,${c}\n" for c in SIXTEEN) + "w OUT\nq\n"),
         ("sixteen globals, every line read", every,
          "; ".join(GLOBALS) + "; M *\n", "".join(f"2,${c}\n" for c in SIXTEEN), "".join(f"2,${c}\n" for c in SIXTEEN) + "w OUT\nq\n"),
+        ("find the one time by its form", timeless_table(lines),
+         "F R/0-9#0-9:0-9#0-9/; E/90/120/\n", "/[0-9][0-9]*:[0-9][0-9]*/s/90/120/\n", "/[0-9][0-9]*:[0-9][0-9]*/s/90/120/\nw OUT\nq\n"),
+        ("change every time by its form", every,
+         "RPT (E R/0-9#0-9:0-9#0-9/--/; N; IFEOF AGP)\n", "s/[0-9][0-9]*:[0-9][0-9]*/--/\n", "1,$s/[0-9][0-9]*:[0-9][0-9]*/--/\nw OUT\nq\n"),
         ("the season's script over 16 KB", season_table(),
          f"{stops}(F B/R02/; E/90/120/; F B/R03/; D; IS/R04 open 07:15 60/)\n",
          "/^R02/s/90/120/\n/^R03/c\\\nR04 open 07:15 60\n", "g/^R02/s/90/120/\ng/^R03/s/.*/R04 open 07:15 60/\nw OUT\nq\n"),
@@ -111,6 +119,19 @@ def compare(folder, zedrun, lines, rounds):
         if not read(out + ".zed") == read(out + ".sed") == read(out + ".ed"): sys.exit(f"{name}: the results differ")
         print(f"{name:32} {zt:8.1f} {st:8.1f} {et:9.1f} {st / zt:8.2f} {et / zt:8.2f}")
 
+def searched(folder, zedrun, lines, rounds):
+    """A time by its form, beside a plain string that stands in the same line, by the editor and by grep."""
+    print(f"\n{'one line near the end':32} {'zed ms':>8} {'run ms':>8} {'grep ms':>8} {'grep/zed':>8}")
+    old, script, out = (os.path.join(folder, n) for n in ("OLD", "ZED", "OUT"))
+    text = timeless_table(lines)
+    write(old, text)
+    at = next(l for l in text.split("\n") if ":" in l).split()[2]
+    for name, z, g in ((f"plain, {at}", f"F/{at}/\n", ["-F", at]), ("by its form", "F R/0-9#0-9:0-9#0-9/\n", ["-E", "[0-9]+:[0-9]+"])):
+        write(script, z)
+        zt = best(rounds, [zedrun, old, script], os.devnull, out)
+        gt = best(rounds, ["grep", "-m", "1", *g, old], os.devnull, out)
+        print(f"{name:32} {zt:8.1f} {run_time(zedrun, old, script, 5 * rounds) / 1000:8.1f} {gt:8.1f} {gt / zt:8.2f}")
+
 def grows(folder, zedrun, few, many, rounds):
     print(f"\n{'one run, microseconds':32} {few:>8} {many:>8} {'grows by':>9}   lines grow by {many / few:.1f}")
     old, script = os.path.join(folder, "OLD"), os.path.join(folder, "ZED")
@@ -129,6 +150,7 @@ def main():
         zedrun = os.path.join(folder, "zedrun")
         build(zedrun, "target/staticlib/libzed.a")
         compare(folder, zedrun, 65535, rounds)
+        searched(folder, zedrun, 65535, rounds)
         grows(folder, zedrun, 6553, 65535, rounds)
 
 if __name__ == "__main__": main()

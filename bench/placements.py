@@ -1,5 +1,5 @@
 #!/usr/bin/env python3
-"""Compares two builds of the static library on the jobs of compare.py without globals.
+"""Compares two builds of the static library on the jobs of compare.py without globals and patterns.
 
     bench/placements.py BEFORE.a AFTER.a [ROUNDS]
 
@@ -50,7 +50,7 @@ def main():
         old, script = os.path.join(folder, "OLD"), os.path.join(folder, "ZED")
         print(f"{'edit':32} {'before ms':>9} {'after ms':>9} {'change':>9} {'run us':>10} {'after us':>9} {'change':>9}")
         for name, text, z, _, _ in jobs(65535):
-            if "global" in name: continue
+            if "global" in name or "form" in name: continue
             write(old, text), write(script, z)
             whole = mean_of_best(made, libraries, rounds, lambda program: once([program, old, script], os.devnull, os.devnull))
             alone = mean_of_best(made, libraries, rounds // 5 + 1, lambda program: run_time(program, old, script, 10))

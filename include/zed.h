@@ -21,6 +21,7 @@ enum {
     ZED_BAD_BRACKET = 5,      /* a bracket unmatched, too deep or never closed */
     ZED_NO_Z_LINE = 6,        /* inserted lines without their Z line */
     ZED_BAD_WORD_SET = 33,    /* a - or " in WORD's string that quotes no byte and makes no range */
+    ZED_BAD_PATTERN = 34,     /* the string of R is no pattern: a byte of it, or its end, cannot stand there */
 
     /* a run refused: the table's keeper */
     ZED_TABLE_MALFORMED = 7, /* no table: a byte not from 32 to 126, a line over 255 bytes, no LF at the end, over 65,535 lines */
@@ -56,7 +57,7 @@ enum {
 
 /* What a run comes to. */
 typedef struct zed_answer {
-    uint64_t number;   /* one of the numbers above: 0 done; 1 to 9 and 33 refused; 20 to 31 stopped */
+    uint64_t number;   /* one of the numbers above: 0 done; 1 to 9, 33 and 34 refused; 20 to 31 stopped */
     uint64_t steps;    /* the steps made; refused: 0 */
     uint64_t furthest; /* the highest source line read, the end-of-file line counting as lines + 1; refused: 0 */
     uint64_t length;   /* the journal's length in bytes; refused: 0 */
@@ -67,7 +68,7 @@ typedef struct zed_answer {
 /* Whether a run with this number was refused: nothing was run, and the journal buffer is untouched. */
 static inline int zed_is_refusal(uint64_t number)
 {
-    return (number >= 1 && number <= 9) || number == ZED_BAD_WORD_SET;
+    return (number >= 1 && number <= 9) || number == ZED_BAD_WORD_SET || number == ZED_BAD_PATTERN;
 }
 
 /*

@@ -25,6 +25,8 @@ static const struct meaning meanings[] = {
     { ZED_BAD_WORD_SET,
       "This - or \" cannot stand here in the string of WORD: a - makes a range between two digits, capitals or small letters, the lower one first; a \" quotes the next byte.",
       AUTHOR },
+    { ZED_BAD_PATTERN,
+      "The pattern is ill-formed: it cannot go on with this byte, or cannot end here. Where | ( ) ~ # - or \" stands for itself, a \" must be before it.", AUTHOR },
     { ZED_TABLE_MALFORMED,
       "The table has a byte that is not printable, a line of over 255 bytes, no line end at its end, or more than 65,535 lines.", KEEPER },
     { ZED_WORK_SHORT, "The work area is too short for this script.", LOADER },

@@ -222,7 +222,7 @@ static int refused(const struct options *o, const struct job *job)
 
     fputs("Refused: nothing was run, and no file is changed.\n", stderr);
     say_number(stderr, a->number);
-    if ((a->number >= ZED_UNKNOWN_COMMAND && a->number <= ZED_NO_Z_LINE) || a->number == ZED_BAD_WORD_SET)
+    if ((a->number >= ZED_UNKNOWN_COMMAND && a->number <= ZED_NO_Z_LINE) || a->number == ZED_BAD_WORD_SET || a->number == ZED_BAD_PATTERN)
         show_place(stderr, o->script, &job->script, (size_t)a->place);
     return REFUSED;
 }

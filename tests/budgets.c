@@ -36,6 +36,8 @@ static const struct job {
     {"", "", 0, 0, 0, 1, 0, ""},
     /* with sets of word characters that change in each round */
     {"A-12\nA-12 A\nA\n-12\n12\n", "2(WORD/A-Z0-9\"-/; F W/A/; E W/A/B/; WORD//; N)\nWORD/\"-/; UT W/12/ N; E W/12/13/\n", 999, 0, 20, 5, 0, "0 2 18 18 18 26 36 44 0 2 18 18 26 36 44 47 57 66 57 69"},
+    /* with patterns */
+    {timings, "F R/0-9#0-9:(2|3)0-9/; EP R/0-9#0-9:0-9#0-9/-/\nWH R/#(a|b)9/ E LR/#90/+/; N; UL PR/#~x/ D; 2E R/#~0/0/\n", 999, 0, 13, 3, 0, "0 0 0 23 47 61 47 74 77 91 92 91 92"},
     /* done, and the unread lines go through the globals: this takes no step */
     {"a\na\na\n", "GE/a/b/; 2GA/b/c/; N\n", 999, 0, 6, 2, 0, "0 9 10 9 10 19"},
     {timings, "2(GE/90/95/; GA/open/-/; CG); 3GB/R/Q/; F B/Q/; F/07:/; P; CL/-/; GE/Q/R/\n", 999, 0, 23, 3, 0,
@@ -47,6 +49,7 @@ static const struct job {
     {"a\nb\nc\n", "4N\n", 999, 20, 8, 4, 1, "0 1 0 1 0 1 0 1"},
     {"a\nx\n", "WH N/x/ (N); RPT N\n", 999, 20, 7, 3, 17, "0 9 0 13 17 13 17"},
     {"A-12\nA-12\n", "RPT (IF W/12/ E W/12/7/; N; WORD/\"-/)\n", 999, 20, 12, 3, 25, "0 5 14 25 28 0 5 25 28 0 5 25"},
+    {"a b\nab\nb-12\n", "RPT (IF WR/a|A-Z#0-9/ E WR/#(a|b)/x/; N; F BR/~a#(~1)/; SB R/\"-|12/)\n", 999, 21, 12, 4, 41, "0 5 22 38 41 41 41 56 0 5 38 41"},
     {"a\nb\nc\n", "N; F/z/\n", 999, 21, 4, 4, 3, "0 3 3 3"},
     {"a\nb\nc\n", "M *; BF/z/\n", 999, 22, 5, 4, 5, "0 5 5 5 5"},
     {"a\nb\nc\nd\n", "DF /c/; M 2\n", 999, 23, 5, 3, 8, "0 0 0 0 8"},
@@ -66,7 +69,7 @@ static const struct refusal {
     uint64_t number, place;
 } refusals[] = {
     {"a\n", "N", 0, 9, 1, 0}, {"a\n", "N; Q\n", 0, 9, 2, 3}, {"a\n", "N; F\n", 0, 9, 3, 4},    {"a\n", "E N/a/b/\n", 0, 9, 4, 2}, {"a\n", "N; (N\n", 0, 9, 5, 6},
-    {"a\n", "N; WORD/a-/\n", 0, 9, 33, 9}, {"a\n", "I\nx\n", 0, 9, 6, 4}, {"a", "N\n", 0, 9, 7, 0}, {"a\n", "N\n", 1, 9, 8, 0}, {"a\n", "N\n", 0, 3, 9, 0},
+    {"a\n", "N; WORD/a-/\n", 0, 9, 33, 9}, {"a\n", "N; F R/a-/\n", 0, 9, 34, 9}, {"a\n", "I\nx\n", 0, 9, 6, 4}, {"a", "N\n", 0, 9, 7, 0}, {"a\n", "N\n", 1, 9, 8, 0}, {"a\n", "N\n", 0, 3, 9, 0},
 };
 
 /* Scripts that never end, and the place of the step that they want in every round. */

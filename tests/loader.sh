@@ -218,6 +218,32 @@ load table season
 check "a quote misused: status" status 2
 check "a quote misused: where" test "$(tail -n 3 err)" = "$(printf 'season, line 1, column 9:\n  WORD/A-Z"\n          ^')"
 
+fresh patterns
+printf 'at 06:10 open\nat noon open\nat 6:25 open\n' >table
+printf 'WH R/0-9#0-9:0-90-9/ (E R/0-9#0-9:0-90-9/-/; N); N; E WR/#0-9:#0-9/-/\n' >season
+load table season
+check "patterns: status" status 0
+check "patterns: says so" says "Done: table is updated. Steps 6, furthest line read 3"
+printf 'at - open\nat noon open\nat - open\n' >want
+check "patterns: the new table" same table want
+
+fresh ill-formed
+printf 'N\nM 1; E R/0-9|9-0/x/\n' >season
+load table season
+check "an ill-formed pattern: status" status 2
+check "an ill-formed pattern: says so" says "Refused: nothing was run, and no file is changed."
+check "an ill-formed pattern: in words" says "The pattern is ill-formed: it cannot go on with this byte, or cannot end here."
+check "an ill-formed pattern: whose matter" says "(34) This is for the script's author to mend."
+check "an ill-formed pattern: where" test "$(tail -n 3 err)" = "$(printf 'season, line 2, column 16:\n  M 1; E R/0-9|9-0/x/\n                 ^')"
+check "an ill-formed pattern: never says updated" silent "is updated"
+check "an ill-formed pattern: the table stays" same table table.first
+check "an ill-formed pattern: no journal" only table season
+printf 'F R/(06:|07:' >season
+printf '\n' >>season
+load table season
+check "a pattern that ends too early: status" status 2
+check "a pattern that ends too early: where" test "$(tail -n 3 err)" = "$(printf 'season, line 1, column 13:\n  F R/(06:|07:\n              ^')"
+
 fresh malformed
 printf 'no line end' >table
 cp table table.first

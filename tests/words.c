@@ -40,7 +40,7 @@ static void going_on(uint64_t steps, const char *has, const char *lacks) {
 
 int main(void) {
     for (uint64_t number = ZED_SCRIPT_MALFORMED; number <= ZED_NOT_A_JOURNAL; number++) has_words(number);
-    for (uint64_t number = ZED_AT_EOF; number <= ZED_BAD_WORD_SET; number++) has_words(number);
+    for (uint64_t number = ZED_AT_EOF; number <= ZED_BAD_PATTERN; number++) has_words(number);
     going_on(0, "With a larger -b", "No larger -b");
     going_on(UINT32_MAX - 1, "With a larger -b", "No larger -b");
     going_on(UINT32_MAX, "No larger -b", "With a larger -b");

@@ -1,5 +1,5 @@
 #!/usr/bin/env python3
-"""Makes cases by chance: tables and scripts of the commands of document 01 and of wishes 1 to 6 and 8 of document 02, and journals to join and to turn round (wish 7),
+"""Makes cases by chance: tables and scripts of the commands of document 01 and of wishes 1 to 6, 8 and 9 of document 02, and journals to join and to turn round (wish 7),
 some of them damaged.
 
     tools/cases.py SEED COUNT [KIND] | tools/oracle.py outcome [KIND] > FILE
@@ -107,6 +107,52 @@ def word_set():
     part = R.choice([';', '; ', '\n'])
     body = part.join(one() for _ in range(R.randint(1, 4)))
     return R.choice(['%s', '%s', '2(%s)', '3(%s; N)', 'RPT (%s; N)', 'RPT (IFEOF AGP; %s; N)', 'WH W/A/ (%s)', 'UT EW/12/ (%s; N)', 'IF W/A/ (%s) ELSE (N)']) % body + '\n'
+def times():
+    """A short line with times and stop codes."""
+    if R.random() < .3: return codes()[:24]
+    return R.choice([' ', ' ', ' ', '', '-']).join(R.choice(['06:10', '6:5', '16:25', '06', ':', 'A-12', 'a1', 'aab', 'abab', 'b', 'a', '(a|b)', '#~', '"', '', '12']) for _ in range(R.randint(1, 5)))[:24]
+def character(): return R.choice([w(1, 'aab AB12:.6'), w(1, 'aab1'), '"' + w(1, '|()~#-"a1 '), '0-9', 'a-b', 'A-Z', 'b-b', '1-6'])
+def item(deep):
+    r = R.random()
+    if r < .16 and deep < 9: part = '(' + alternatives(deep + 1) + ')'
+    elif r < .3: part = '~' + character()
+    else: part = character()
+    return '#' + part if R.random() < .3 else part
+def row(deep): return ''.join(item(deep) for _ in range(R.choice([1, 1, 2, 2, 3, 4])))
+def alternatives(deep):
+    rows = [row(deep)] + [R.choice(['', row(deep), row(deep)]) for _ in range(R.choice([0, 0, 0, 1, 1, 2]))]
+    R.shuffle(rows)
+    return '|'.join(rows)
+def pattern():
+    """A pattern; some of signs by chance, some with a byte more, less or changed: many of these are ill-formed."""
+    r = R.random()
+    if r < .05: return w(R.randint(0, 6), '|()~#-"aB1')
+    if r < .09: return ''.join(R.choice(['(', '#(', 'a(', '(|']) for _ in range(R.choice([7, 8, 9, 10]))) + 'a' + ')' * R.choice([7, 8, 8, 9])
+    if r < .2: return R.choice(['0-9#0-9:0-9#0-9', '0-9#0-9:0-90-9', 'A-Z"-0-9#0-9', '#(a|b)', '#a', '#~ ', '(a|ab)(b|)', 'a#(a|"-)', '#(#a#b)', '~0-9', 'a|b|', '|12'])
+    s = alternatives(0)
+    if r < .28:
+        i = R.randrange(len(s) + 1)
+        s = s[:i] + R.choice(['', w(1, '|()~#-"aB1')]) + s[i + R.randint(0, 1):]
+    return s[:60]
+def by_form():
+    """A command or a test with R."""
+    with_r = R.choice(['R'] * 6 + ['r', 'RL', 'LR', 'RB', 'ER', 'RE', 'LER', 'RP', 'RS', 'RW', 'WR', 'W R', 'WRL', 'EWR', 'BRW', 'R_2,9_', '_3,5_ R', 'SLR_2,6_', 'PRW'])
+    if R.random() < .04: with_r = R.choice(['RU', 'UR', '2R', 'R 2', 'RR', 'R0', 'NR', 'RBL', 'R3W', 'URR'])
+    d = R.choice('//////////!+,.?')
+    s = pattern().replace(d, 'a')
+    said = with_r + sp() + d + s + d
+    r = R.random()
+    if r < .5: return '%s %s%s' % (R.choice(['A', 'B', 'E', 'E', 'E', 'AP', 'BP', 'EP']), said, R.choice(['x', 'B', '-', 'a|b', '', '(a', '12:00']).replace(d, '')) + (d if R.random() < .9 else '\n')
+    if r < .65: return '%s %s' % (R.choice(['PA', 'PB', 'SA', 'SB']), said)
+    said = R.choice([said, said, 'N' + said])
+    if R.random() < .3: said = '(%s%s%s)' % (said, R.choice('&|'), R.choice([qs(True), 'R/%s/' % pattern().replace('/', 'a')]))
+    if r < .85: return R.choice(['F ', 'F ', 'BF ', 'DF ']) + said
+    return R.choice(['IF ', 'UL ', 'WH ', 'UT ']) + said + ' ' + R.choice(['E R/%s/+/' % s.replace('/', 'a'), 'EP R/~+/x/', 'N', '(%s; N)' % naming(), '(AGP)'])
+def forms():
+    """Commands with R, some in loops, some with another set for W before."""
+    one = lambda: R.choice([by_form, by_form, by_form, by_form, naming, whole_words])()
+    body = R.choice([';', '; ', '\n']).join(one() for _ in range(R.randint(1, 3)))
+    return R.choice(['%s', '%s', '%s', '2(%s)', '3(%s; N)', 'RPT (IFEOF AGP; %s; N)', 'WH R/0-9/ (%s; N)', 'UT R/~ #a/ (%s; N)', 'IF R/a|1/ (%s) ELSE (N)']) % body + '\n'
 def replacing():
     """Lines that go and lines that come, mixed: stretches to arrange at the run's end. Few of these commands stop."""
     one = lambda: R.choice(['D', 'D', 'D', 'IC', 'IC', 'IS/%s/' % string().replace('/', 'a'), 'IS/%s/; P; CL//' % w(2, 'xy'), 'R\n%s\nZ' % w(3, 'ab-+='), 'SA//; D', 'IS/z/; P', 'N', 'DF //'])
@@ -118,6 +164,7 @@ def simple():
     if r < .24: return many()
     if r < .27: return naming()
     if r < .3: return whole_words()
+    if r < .31: return by_form()
     r = R.random()
     if r < .1: return 'N'
     if r < .15: return 'P'
@@ -168,6 +215,10 @@ def table_and_script():
         # stop codes, and the bytes that count for W named before all else
         t = ''.join(codes() + '\n' for _ in range(R.choice([1, 2, 3, 6]))) + t
         s = R.choice(['', naming() + '\n', naming() + '; ']) + ''.join(word_set() for _ in range(R.randint(1, 3))) + R.choice([s, '', ''])
+    if R.random() < .3:
+        # times and stop codes in short lines, and patterns before all else
+        t = ''.join(times() + '\n' for _ in range(R.choice([1, 1, 2, 3, 5])))
+        s = R.choice(['', '', naming() + '\n']) + ''.join(forms() for _ in range(R.randint(1, 3))) + R.choice([s, '', ''])
     if R.random() < .12: s, t = replacing() + s, t + ''.join(line()[:12] + '\n' for _ in range(R.choice([2, 5, 9])))
     return t, s
 def run_case():

@@ -1,5 +1,5 @@
 #!/usr/bin/env python3
-"""Document 01 and wishes 1 to 8 of document 02 once more, written apart from the definitions: a plain interpreter for making and checking cases.
+"""Document 01 and wishes 1 to 9 of document 02 once more, written apart from the definitions: a plain interpreter for making and checking cases.
 
     tools/oracle.py check FILE [KIND]      compares each line of a file of cases (see tools/vectors.py) with what it finds
     tools/oracle.py outcome [KIND] < FILE  completes lines of what is given in a case
@@ -112,6 +112,37 @@ class Reader:
             else: named.add(b); i += 1
         return named
 
+    def pattern(self, end):
+        """The pattern from here to `end`: one reading from left to right, with a stack of the brackets that stand open; 34 at the first byte that cannot stand there."""
+        i, before = self.at, ''  # the `#` and `~` that wait for their item
+        levels = [('', [[]])]  # for the pattern and for each open bracket: what stood before it, and its alternatives so far, lists of items
+        while True:
+            b = chr(self.s[i]) if i < end else 'end'
+            rows = levels[-1][1]
+            if b == '"' or b not in ('|', '(', ')', '~', '#', '-', 'end'):
+                quoted = b == '"'
+                i += quoted
+                if i == end: raise Refused(34, i)
+                first = last = self.s[i]
+                i += 1
+                if not quoted and kind(first) and i < end and self.s[i] == 45:
+                    i += 1
+                    last = self.s[i] if i < end else 0
+                    if kind(last) != kind(first) or last < first: raise Refused(34, i)
+                    i += 1
+                item = ('byte', '~' in before, first, last)
+            elif b == '#' and not before or b == '~' and '~' not in before: before += b; i += 1; continue
+            elif b == '(' and '~' not in before and len(levels) <= 8: levels.append((before, [[]])); before = ''; i += 1; continue
+            elif b == '|' and not before: rows.append([]); i += 1; continue
+            elif (b == ')' and len(levels) > 1 or b == 'end' and len(levels) == 1) and not before and any(rows):
+                before, rows = levels.pop()
+                item = ('or', [('row', row) for row in rows])
+                if not levels: return item
+                i += 1
+            else: raise Refused(34, i)
+            levels[-1][1][-1].append(('many', item) if '#' in before else item)
+            before = ''
+
     def qualified(self, search, two=False):
         q = dict(anchor='', count=0, cols=None)
         self.spaces()
@@ -119,7 +150,7 @@ class Reader:
             at, c = self.at, chr(self.byte()).upper()
             if self.is_digit():
                 n = self.number()
-                if q['count'] or q['anchor']: raise Refused(4, at)
+                if q['count'] or q['anchor'] or q.get('R'): raise Refused(4, at)
                 q['count'] = n
             elif c == '_':
                 if q['cols']: raise Refused(4, at)
@@ -133,15 +164,21 @@ class Reader:
             elif c and c in 'BEP':
                 if q['anchor'] or q['count'] or (q.get('L') and c != 'E'): raise Refused(4, at)
                 q['anchor'] = c; self.at += 1
-            elif c and c in 'LNWUS':
+            elif c and c in 'LNWUSR':
                 if q.get(c) or (c == 'L' and q['anchor'] and q['anchor'] in 'BP') or (c == 'N' and not search): raise Refused(4, at)
+                if c == 'R' and (q.get('U') or q['count']) or c == 'U' and q.get('R'): raise Refused(4, at)
                 q[c] = True; self.at += 1
             else: raise Refused(3, at)
             self.spaces()
         d, at = self.byte(), self.at
         self.at += 1
+        begin = self.at
         q['s'] = self.string(d)
         if not q['s'] and (q['count'] or q.get('W')): raise Refused(4, at)
+        if q.get('R'):
+            after, self.at = self.at, begin
+            q['pattern'] = self.pattern(begin + len(q['s']))
+            self.at = after
         return (q, self.string(d)) if two else q
 
     def operator(self, sign):
@@ -299,8 +336,41 @@ def kind(b):
     """Digits, capitals and small letters are the kinds of bytes that ranges go between; any other byte has none."""
     return next((k for k, (first, last) in enumerate([(48, 57), (65, 90), (97, 122)], 1) if first <= b <= last), None)
 
+def ends(pattern, text):
+    """For each place of the text, from 0 to its length, the set of the places at which a part that begins there and is in the pattern's language ends."""
+    what, places = pattern[0], range(len(text) + 1)
+    if what == 'byte':
+        _, mismatch, first, last = pattern
+        return [{i + 1} if i < len(text) and (first <= text[i] <= last) != mismatch else set() for i in places]
+    if what == 'or':
+        each = [ends(x, text) for x in pattern[1]]
+        return [set().union(*[x[i] for x in each]) for i in places]
+    if what == 'row':
+        out = [{i} for i in places]
+        for x in pattern[1]:
+            then = ends(x, text)
+            out = [set().union(*[then[j] for j in out[i]]) for i in places]
+        return out
+    one, out = ends(pattern[1], text), {}
+    for i in reversed(places): out[i] = {i}.union(*[out[j] for j in one[i] if j > i])
+    return [out[i] for i in places]
+
+def apart(line, i, j, words):
+    """W's test of the part from i to j."""
+    return not (i > 0 and line[i - 1] in words) and not (j < len(line) and line[j] in words)
+
+def chosen(q, line, start, end, words):
+    """R: of all parts of the text from `start` to `end` that are in the pattern's language and that the qualifiers allow, the one that is taken."""
+    parts = [(start + i, start + j) for i, there in enumerate(ends(q['pattern'], line[start:end])) for j in there]
+    if q.get('W'): parts = [(i, j) for i, j in parts if apart(line, i, j, words)]
+    if q['anchor'] and q['anchor'] in 'BP': parts = [(i, j) for i, j in parts if i == start]
+    if q['anchor'] and q['anchor'] in 'EP': parts = [(i, j) for i, j in parts if j == end]
+    if not parts: return None
+    if q.get('L') or q['anchor'] == 'E': return max(parts, key=lambda part: (part[1], -part[0]))
+    return min(parts, key=lambda part: (part[0], -part[1]))
+
 def place(q, line, p, words):
-    """Where the string matches; `words` are the bytes that count for W."""
+    """Where the string's match begins and ends; `words` are the bytes that count for W."""
     start, end = p, len(line)
     if q['cols']:
         n, m = q['cols']
@@ -308,24 +378,22 @@ def place(q, line, p, words):
         end = max(start, min(m, len(line)))
     if q.get('S'):
         while start < end and line[start] == 32: start += 1
+    if q.get('R'): return chosen(q, line, start, end, words)
     s, text = q['s'], line
     if q.get('U'): s, text = s.upper(), line.upper()
     k = len(s)
-    def at(i):
-        if text[i:i + k] != s: return False
-        if q.get('W'): return not (i > 0 and line[i - 1] in words) and not (i + k < len(line) and line[i + k] in words)
-        return True
+    def at(i): return text[i:i + k] == s and (not q.get('W') or apart(line, i, i + k, words))
     if end - start < k: return None
-    if q['anchor'] == 'B': return start if at(start) else None
-    if q['anchor'] == 'E': return end - k if at(end - k) else None
-    if q['anchor'] == 'P': return start if end - start == k and at(start) else None
+    if q['anchor'] == 'B': return (start, start + k) if at(start) else None
+    if q['anchor'] == 'E': return (end - k, end) if at(end - k) else None
+    if q['anchor'] == 'P': return (start, end) if end - start == k and at(start) else None
     left = q['count'] or 1
     i = end - k if q.get('L') else start
     step = -1 if q.get('L') else 1
     while start <= i <= end - k:
         if at(i):
             left -= 1
-            if not left: return i
+            if not left: return i, i + k
             i += step * k
         else: i += step
     return None
@@ -546,20 +614,20 @@ class Editor:
                 elif name == '#': self.retext(l[:p] + l[p + 1:], p)
                 else: self.retext(l[:p] + (l[p:p + 1].lower() if name == '$' else l[p:p + 1].upper()) + l[p + 1:], p + 1)
             else:
-                i = place(c['q'], l, p, self.words)
-                if i is None: raise Stop(24)
-                k = len(c['q']['s'])
-                if name == 'PA': self.p = i + k
+                found = place(c['q'], l, p, self.words)
+                if found is None: raise Stop(24)
+                i, j = found
+                if name == 'PA': self.p = j
                 elif name == 'PB': self.p = i
-                elif name == 'SA': self.split(i + k)
+                elif name == 'SA': self.split(j)
                 elif name == 'SB': self.split(i)
                 else:
                     new = c['new']
-                    if name[0] == 'A': t = l[:i + k] + new + l[i + k:]
+                    if name[0] == 'A': t = l[:j] + new + l[j:]
                     elif name[0] == 'B': t = l[:i] + new + l[i:]
-                    else: t = l[:i] + new + l[i + k:]
+                    else: t = l[:i] + new + l[j:]
                     q = p
-                    if len(name) == 2: q = i + len(new) + (0 if name == 'EP' else k)
+                    if len(name) == 2: q = len(new) + (i if name == 'EP' else j)
                     self.retext(t, q)
 
     def test(self, c):

@@ -31,7 +31,7 @@ def run_case(words):
     budget, work, size = words[2:5]
     number, steps, furthest, length, place = words[5:10]
     journal = unhex(words[10])
-    refused = 1 <= int(number) <= 9 or int(number) == 33
+    refused = 1 <= int(number) <= 9 or int(number) in (33, 34)
     return 'runCase %s %s %s %s %s (outcome %s %s %s %s %s (%s))' % (
         text(table), text(script), budget, work, size, number, steps, furthest, length, place,
         'untouched %s' % size if refused else 'zeroed %s %s' % (text(journal), int(size) - len(journal)))
