@@ -1,0 +1,11 @@
+-- `text::copies::copy_in` meets its contract. The loop's invariant: the first i bytes are copied. Assumes nothing.
+use Rattle.std.proofs.Common.{◌≡◌, ◌-◌, ◌≤◌, length, drop, refl, ◌∙◌, arith, rules}
+use lib.Seq.{paste, paste-zero}
+use Rattle.text.proofs.Pastes.{paste-on}
+use Rattle.text.proofs.copies.copy_in.Given as goal
+
+abbrev pub invariant-loop-i : goal.invariant-loop-i
+invariant-loop-i l = (l.i ≤ l.n) × (l.d ≡ paste l.initial.d l.at (drop l.from l.s) l.i) × (length l.d ≡ length l.initial.d)
+
+abbrev pub decreases-loop-i : goal.decreases-loop-i
+decreases-loop-i l = l.n - l.i

@@ -1,0 +1,5 @@
+use Rattle.std.proofs.Common.{sym, length-take-le, rules}
+use Rattle.text.proofs.is_same.Goals as goal
+
+pub slice_bounds-same-end-2 : goal.slice_bounds-same-end-2
+slice_bounds-same-end-2 c = sym (length-take-le _ _ c.requires.2)

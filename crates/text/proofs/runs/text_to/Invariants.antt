@@ -1,0 +1,11 @@
+-- `text::runs::text_to` meets its contract. The loop's invariant: all is text so far. Assumes nothing.
+use Rattle.std.proofs.Common.{◌≡◌, ◌+◌, ◌-◌, ◌≤◌, take, drop, sym, refl, ◌∙◌, arith}
+use Rattle.text.specs.Words.{text_run}
+use Rattle.text.proofs.Texts.{run-stops, run-goes-on}
+use Rattle.text.proofs.runs.text_to.Given as goal
+
+abbrev pub invariant-loop-i : goal.invariant-loop-i
+invariant-loop-i l = (l.i ≤ l.stop) × (l.at + text_run (take (l.stop - l.at) (drop l.at l.s)) ≡ l.i + text_run (take (l.stop - l.i) (drop l.i l.s)))
+
+abbrev pub decreases-loop-i : goal.decreases-loop-i
+decreases-loop-i l = l.stop - l.i

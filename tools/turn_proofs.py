@@ -1,0 +1,315 @@
+#!/usr/bin/env python3
+"""Turns a crate's proofs/F/Proof.antt that answer each goal of a function (tie.close) into Invariants.antt and Answers.antt.
+
+usage: tools/turn_proofs.py CRATE NAMES [F..]     at the top of the repository
+
+NAMES is what `rt check --generated NAMES --old-names` wrote in the crate's folder; F is a function's folder below proofs/, all where none is given.
+An answer that the check tries by itself (`search rules`, `omega arith`) is left out. Printed: what wants a look.
+"""
+import json
+import os
+import re
+import sys
+
+WORD = r"[^\s(){}.;,@\"«»]+"
+TRIVIAL = re.compile(r"^(?:search rules(?: depth \d+)?|omega arith|tt|absurd \(omega arith\)|search \(rules\))$")
+
+
+def norm(name):
+    return re.sub(r"^overflow-", "", name.replace("_", "-"))
+
+
+def blocks(text):
+    """The file's head (comments and use lines) and its declarations, each with its lines."""
+    head, decls, comment = [], [], []
+    for line in text.split("\n"):
+        if not decls and not comment and re.match(r"(--|use |pub use |$)", line) and not (line.startswith("--") and any(l.startswith("use ") for l in head)):
+            head.append(line)
+        elif line.startswith("--"):
+            comment.append(line)
+        elif line and not line[0].isspace() and re.match(rf"(?:(?:abbrev|pub|unfoldable|module|data|record|mutual) )*({WORD})(?: |$)", line) and (" : " in line.split(" = ")[0] or line.rstrip().endswith(" :") or line.startswith(("module", "data", "record", "mutual"))):
+            decls.append(comment + [line])
+            comment = []
+        elif decls:
+            decls[-1] += comment + [line]
+            comment = []
+        else:
+            head += comment + [line]
+            comment = []
+    return head, decls
+
+
+def slices():
+    """For each function of src/, by its path, the parameters that are slices lent to be changed."""
+    found = {}
+    for folder, folders, files in os.walk("crates"):
+        folders[:] = [f for f in folders if f != "out"]
+        for file in files:
+            if not file.endswith(".rt") or "/src" not in folder:
+                continue
+            crate, _, inner = folder[len("crates/") :].partition("/src")
+            module = [p for p in inner.split("/") if p] + ([] if file in ("lib.rt", "main.rt") else [file[:-3]])
+            text = open(os.path.join(folder, file), encoding="utf-8").read()
+            for m in re.finditer(r"\bfn (\w+)(?:<[^>(]*>)?\(([^)]*)\)", text):
+                parts = [p.split(":", 1) for p in re.split(r",\s*(?![^\[]*\])", m[2]) if ":" in p]
+                found["::".join([crate, *module, m[1]])] = [n.replace("mut ", "").strip() for n, t in parts if re.match(r"\s*&('\w+ )?mut \[", t)]
+    return found
+
+
+class Function:
+    def __init__(self, names, crate, folder):
+        self.crate, self.folder = crate, folder
+        key = f"Rattle-{crate}-proofs.{folder.replace('/', '.')}.Lts"
+        self.x = names.get(key)
+        self.said = []
+        if self.x:
+            x = self.x
+            self.parent = {p[0]: p[1] for p in x["places"]}
+            self.field = {p[0]: p[2] for p in x["places"]}
+            self.arm = {p[0]: a for p, a in zip(x["places"], x["arms"])}
+            self.new_place = {p[0]: n for p, n in zip(x["places"], x["places_by_name"])}
+            self.callee = {p[0]: p[3] for p in x["places"]}
+
+    def up(self, place):
+        while place is not None:
+            yield place
+            place = self.parent.get(place)
+
+    def resolve(self, place, ups, step):
+        """The place that the old step names, seen `ups` places above `place`."""
+        chain = list(self.up(place))
+        found = [(i, p) for i, p in enumerate(chain) if norm(self.field[p][0]) == norm(step)]
+        if not found:
+            return None
+        return min(found, key=lambda f: (abs(f[0] - ups), f[0]))[1]
+
+    def arm_of(self, place, step_place):
+        """The arm's name and its fields, by the old step and path, where the step belongs to an arm."""
+        for p in self.up(place):
+            arm = self.arm.get(p)
+            if arm:
+                chain = list(self.up(p))
+                near = chain[: arm[1]]
+                if step_place in near:
+                    return arm
+        return None
+
+    def kept(self, at, count):
+        """The name of the slice that stands at `count` among those that the step at the place `at` keeps as long as they were."""
+        own = "::".join([self.crate, *self.folder.split("/")])
+        lent = SLICES.get(self.callee[at] or own, [])
+        return lent[int(count)] if int(count) < len(lent) else count
+
+    def path(self, place, ups, step, rest, whole):
+        """The new path for c.before..step.rest."""
+        if step in ("args", "requires", "ranges", "lifetimes", "well_formed", "type_inv"):
+            return "c." + ".".join([step] + rest)
+        at = self.resolve(place, ups, step)
+        if at is None:
+            self.said.append(f"no step {step} in {whole}")
+            return whole
+        if rest[:1] == ["auto"] and len(rest) > 1 and rest[1].isdigit():
+            rest = ["auto", self.kept(at, rest[1])] + rest[2:]
+        arm = self.arm_of(place, at)
+        old = norm(self.field[at][0])
+        if arm:
+            best = None
+            for new, step_, path in arm[2]:
+                if norm(step_) == old and path and rest[: len(path)] == path and (best is None or len(path) > len(best[1])):
+                    best = (new, path)
+            if best:
+                return ".".join(["c", arm[0], best[0]] + rest[len(best[1]) :])
+            if any(norm(s) == old and p for _, s, p in arm[2]):
+                self.said.append(f"arm {arm[0]}: {whole}")
+                return ".".join(["c", arm[0]] + rest)
+        return ".".join(["c", self.field[at][1]] + rest)
+
+    def body(self, place, text):
+        """An answer's text with new paths."""
+        contexts, steps = {}, {}
+        # variables that are bound to a context or to a step of one
+        for m in re.finditer(rf"\blet ({WORD}) = (c(?:\.before)*)((?:\.{WORD})*) in\b", text):
+            parts = [p for p in m[3].split(".") if p]
+            if not parts:
+                contexts[m[1]] = m[2].count(".before")
+        for m in re.finditer(rf"\blet ({WORD}) = ({WORD})((?:\.before)*)((?:\.{WORD})+) in\b", text):
+            base = m[2]
+            if base == "c" or base in contexts:
+                parts = [p for p in m[4].split(".") if p]
+                ups = m[3].count(".before") + contexts.get(base, 0)
+                if parts and parts[0] not in ("args", "requires", "before"):
+                    at = self.resolve(place, ups, parts[0])
+                    if at and self.arm_of(place, at):
+                        old = norm(self.field[at][0])
+                        if any(norm(s) == old and p for _, s, p in self.arm_of(place, at)[2]):
+                            steps[m[1]] = (ups, parts)
+        for v in list(contexts) + list(steps):
+            text = re.sub(rf"[ \t]*\blet {re.escape(v)} = [^\s]+ in(?:\n|\s)", "", text)
+
+        def one(m):
+            base = m[1]
+            parts = [p for p in m[2].split(".") if p]
+            if base in steps:
+                ups, first = steps[base]
+                return self.path(place, ups, first[0], first[1:] + parts, m[0])
+            ups = contexts.get(base, 0)
+            while parts and parts[0] == "before":
+                ups, parts = ups + 1, parts[1:]
+            if not parts:
+                if base != "c" or ups:
+                    self.said.append(f"context {m[0]}")
+                return "c"
+            return self.path(place, ups, parts[0], parts[1:], m[0])
+
+        # a slice that a step keeps, behind a variable that is bound to the step
+        for m in re.finditer(rf"\blet ({WORD}) = ({WORD})((?:\.before)*)\.({WORD}) in\b", text):
+            if m[2] == "c" or m[2] in contexts:
+                at = self.resolve(place, m[3].count(".before") + contexts.get(m[2], 0), m[4])
+                if at:
+                    text = re.sub(rf"(?<![^\s(){{}};,@«»]){re.escape(m[1])}\.auto\.(\d+)", lambda k, at=at, v=m[1]: f"{v}.auto.{self.kept(at, k[1])}", text)
+
+        heads = "|".join(sorted(map(re.escape, ["c", *contexts, *steps]), key=len, reverse=True))
+        text = re.sub(rf"(?<![^\s(){{}};,@«»])({heads})((?:\.{WORD})+)", one, text)
+        for v in contexts:
+            text = re.sub(rf"(?<![^\s(){{}};,@«»]){re.escape(v)}(?![^\s(){{}};,@«»])", "c", text)
+        for v in steps:
+            if re.search(rf"(?<![^\s(){{}}.;,@«»]){re.escape(v)}(?![^\s(){{}}.;,@«»])", text):
+                self.said.append(f"{v} is used whole")
+        return text
+
+    def turn(self):
+        base = f"crates/{self.crate}/proofs/{self.folder}"
+        file = f"{base}/Proof.antt"
+        text = open(file, encoding="utf-8").read()
+        if "tie.close" not in text:
+            return self.said + ["by hand"]
+        if not self.x:
+            return self.said + ["no names"]
+        head, decls = blocks(text)
+        module = f"Rattle.{self.crate}.proofs.{self.folder.replace('/', '.')}"
+        head = [l for l in head if not re.search(r"\.Tie as tie|\.Statement\.\{", l)]
+        needs = {norm(o): (n, self.x["asked_at"][i][0]) for i, (o, n) in enumerate(self.x["needs"])}
+        order = [(n, self.x["asked_at"][i][0]) for i, (o, n) in enumerate(self.x["needs"])]
+        loops = {norm(o): (n, vs, ch) for ((o, n), vs), ch in zip(self.x["loops"], self.x["changed"])}
+        spec = re.search(r"\(tie\.spec\s+([^)]*)\)", text)
+        args = spec[1].split() if spec else []
+        renames, answers, invariants, helpers = {}, [], [], []
+        kinds = {}
+        for lines in decls:
+            sig = "\n".join(lines)
+            m = re.search(rf"^(?:abbrev |pub |unfoldable )*({WORD})[^\n]*?:\s*tie\.({WORD})", sig, re.M)
+            if m:
+                kinds[m[1]] = m[2]
+        goals = [a for a in args if not kinds.get(a, "").startswith(("invariant-", "decreases-"))]
+        for name, kind in kinds.items():
+            if kind.startswith("Need-"):
+                key = norm(kind[5:])
+                got = needs.get(key)
+                if not got and len(goals) == len(order) and name in goals:
+                    got = order[goals.index(name)]
+                if not got:
+                    self.said.append(f"goal {kind} is gone")
+                kinds[name] = ("goal", got)
+                if got:
+                    renames[name] = got[0]
+            elif kind.startswith(("invariant-", "decreases-")):
+                what, loop = kind.split("-", 1)
+                got = loops.get(norm(loop))
+                if not got:
+                    self.said.append(f"loop {kind} is gone")
+                kinds[name] = (what, got)
+                if got:
+                    renames[name] = f"{what}-{got[0]}"
+            else:
+                kinds[name] = ("other", None)
+        for lines in decls:
+            sig = "\n".join(lines)
+            first = next(l for l in lines if not l.startswith("--"))
+            name = re.match(rf"(?:(?:abbrev|pub|unfoldable) )*({WORD})", first)[1]
+            if "tie.close" in sig or re.search(r":\s*\{M : Type 1\} → statement M", sig):
+                continue
+            kind, got = kinds.get(name, ("helper", None))
+            if kind == "goal":
+                if not got:
+                    continue
+                new, place = got
+                sig = sig.rstrip("\n")
+                parts = re.match(rf"((?:--[^\n]*\n)*)(?:abbrev |pub )*{re.escape(name)}\s*:\s*tie\.{WORD}[^\n]*\n((?:unfolding[^\n]*\n)*){re.escape(name)}((?: [^=\n]+?)?) =(.*)$", sig, re.S)
+                if not parts:
+                    self.said.append(f"odd answer {name}")
+                    helpers.append((name, sig))
+                    continue
+                comment, unfolding, params, body = parts.groups()
+                params = params.split()
+                if params[:1] != ["c"]:
+                    self.said.append(f"{name}: parameters {params}")
+                body = self.body(place, body)
+                if TRIVIAL.match(body.strip()) and not unfolding:
+                    continue
+                for a, b in renames.items():
+                    body = re.sub(rf"(?<![^\s(){{}};,@«»]){re.escape(a)}(?=[ )\n](?!=))(?=\s+c\b)", b, body)
+                answers.append(f"{comment}pub {new} : goal.{new}\n{unfolding}{new} c ={body}\n")
+            elif kind in ("invariant", "decreases"):
+                if not got:
+                    continue
+                new, variables, changed = got
+                sig = sig.rstrip("\n")
+                parts = re.match(rf"((?:--[^\n]*\n)*)(?:abbrev |pub )*{re.escape(name)}\s*:\s*tie\.{WORD}[^\n]*\n((?:unfolding[^\n]*\n)*){re.escape(name)}((?: [^=\n]+?)?) =(.*)$", sig, re.S)
+                if not parts:
+                    self.said.append(f"odd invariant {name}")
+                    continue
+                comment, unfolding, params, body = parts.groups()
+                params = params.split()
+                now = [v for v, c in zip(variables, changed) if c]
+                if len(params) != len(variables) + len(now):
+                    self.said.append(f"{name}: {len(params)} parameters, {variables} {now}")
+                values = [f"l.initial.{v}" if c else f"l.{v}" for v, c in zip(variables, changed)] + [f"l.{v}" for v in now]
+                table = {p: v for p, v in zip(params, values) if p != "_"}
+                body = re.sub(rf"(?<![^\s(){{}};,@«»])({WORD})", lambda m: table.get(m[1], m[1]), body)
+                invariants.append(f"{comment}abbrev pub {what_name(kind, new)} : goal.{what_name(kind, new)}\n{unfolding}{what_name(kind, new)} l ={body}\n")
+            else:
+                tied = re.findall(rf"tie\.({WORD})((?: (?:invariant|decreases)-loop\S*)*)", sig)
+                for place, rest in tied:
+                    match = [p for p in self.new_place if norm(p) == norm(place)]
+                    if match:
+                        sig = sig.replace(f"tie.{place}{rest}", f"goal.{self.new_place[match[0]]}")
+                        sig = self.body(match[0], sig)
+                    else:
+                        self.said.append(f"place {place} is gone")
+                helpers.append((name, sig.rstrip("\n") + "\n"))
+        lower = [n for n, s in helpers if any(re.search(rf"(?<![^\s(){{}};,@«»]){re.escape(n)}(?![^\s(){{}}.;,@«»])", i) for i in invariants)]
+        title = [l for l in head if l.startswith("--")]
+        uses = [l for l in head if l.startswith(("use ", "pub use "))]
+        if invariants:
+            own = [re.sub(rf"^((?:--[^\n]*\n)*)(abbrev |unfoldable )?(?!pub )", r"\1\2pub ", s) for n, s in helpers if n in lower]
+            write(f"{base}/Invariants.antt", title, uses + [f"use {module}.Given as goal"], own + invariants)
+        if answers or any(n not in lower for n, s in helpers):
+            extra = [f"use {module}.Invariants.{{{', '.join(lower)}}}"] if lower else []
+            keep = [s for n, s in helpers if n not in lower]
+            write(f"{base}/Answers.antt", title, uses + extra + [f"use {module}.Goals as goal"], keep + answers)
+        os.remove(file)
+        return self.said
+
+
+def what_name(kind, new):
+    return f"{kind}-{new}"
+
+
+def write(path, title, uses, decls):
+    with open(path, "w", encoding="utf-8") as f:
+        f.write("\n".join(title + uses) + "\n\n" + "\n".join(decls))
+
+
+def main(crate, names, *folders):
+    with open(os.path.join(names, "names.json"), encoding="utf-8") as f:
+        table = json.load(f)
+    top = f"crates/{crate}/proofs"
+    if not folders:
+        folders = sorted(os.path.relpath(d, top) for d, _, fs in os.walk(top) if "Proof.antt" in fs)
+    for folder in folders:
+        for said in Function(table, crate, folder).turn():
+            print(f"{folder}: {said}")
+
+
+SLICES = slices()
+main(*sys.argv[1:])
