@@ -16,7 +16,7 @@ TRIVIAL = re.compile(r"^(?:search rules(?: depth \d+)?|omega arith|tt|absurd \(o
 
 
 def norm(name):
-    return re.sub(r"^overflow-", "", name.replace("_", "-"))
+    return re.sub(r"^overflow-", "", name.replace("_", "-").lower())
 
 
 def blocks(text):
@@ -27,7 +27,7 @@ def blocks(text):
             head.append(line)
         elif line.startswith("--"):
             comment.append(line)
-        elif line and not line[0].isspace() and re.match(rf"(?:(?:abbrev|pub|unfoldable|module|data|record|mutual) )*({WORD})(?: |$)", line) and (" : " in line.split(" = ")[0] or line.rstrip().endswith(" :") or line.startswith(("module", "data", "record", "mutual"))):
+        elif line and not line[0].isspace() and re.match(rf"(?:(?:abbrev|pub|unfoldable|module|data|record|mutual) )*({WORD})(?: |$)", line) and (" : " in line.split(" = ")[0] or line.rstrip().endswith(" :") or line.startswith(("module ", "data ", "record ", "mutual"))):
             decls.append(comment + [line])
             comment = []
         elif decls:
@@ -37,23 +37,6 @@ def blocks(text):
             head += comment + [line]
             comment = []
     return head, decls
-
-
-def slices():
-    """For each function of src/, by its path, the parameters that are slices lent to be changed."""
-    found = {}
-    for folder, folders, files in os.walk("crates"):
-        folders[:] = [f for f in folders if f != "out"]
-        for file in files:
-            if not file.endswith(".rt") or "/src" not in folder:
-                continue
-            crate, _, inner = folder[len("crates/") :].partition("/src")
-            module = [p for p in inner.split("/") if p] + ([] if file in ("lib.rt", "main.rt") else [file[:-3]])
-            text = open(os.path.join(folder, file), encoding="utf-8").read()
-            for m in re.finditer(r"\bfn (\w+)(?:<[^>(]*>)?\(([^)]*)\)", text):
-                parts = [p.split(":", 1) for p in re.split(r",\s*(?![^\[]*\])", m[2]) if ":" in p]
-                found["::".join([crate, *module, m[1]])] = [n.replace("mut ", "").strip() for n, t in parts if re.match(r"\s*&('\w+ )?mut \[", t)]
-    return found
 
 
 class Function:
@@ -80,6 +63,9 @@ class Function:
         chain = list(self.up(place))
         found = [(i, p) for i, p in enumerate(chain) if norm(self.field[p][0]) == norm(step)]
         if not found:
+            bare = re.sub(r"-?\d+$", "", norm(step))
+            found = [(i, p) for i, p in enumerate(chain) if re.sub(r"-?\d+$", "", norm(self.field[p][0])) == bare]
+        if not found:
             return None
         return min(found, key=lambda f: (abs(f[0] - ups), f[0]))[1]
 
@@ -94,11 +80,12 @@ class Function:
                     return arm
         return None
 
-    def kept(self, at, count):
-        """The name of the slice that stands at `count` among those that the step at the place `at` keeps as long as they were."""
-        own = "::".join([self.crate, *self.folder.split("/")])
-        lent = SLICES.get(self.callee[at] or own, [])
-        return lent[int(count)] if int(count) < len(lent) else count
+    def lent(self, at, count):
+        """The name of the parameter, or of the loop's variable, that stands at `count` in what the step at the place `at` was lent."""
+        names = self.x["params"].get(self.callee[at]) if self.callee[at] else None
+        if names is None:
+            names = next((vs for (o, n), vs in self.x["loops"] if norm(o) == norm(self.field[at][0])), [])
+        return names[int(count)] if int(count) < len(names) else count
 
     def path(self, place, ups, step, rest, whole):
         """The new path for c.before..step.rest."""
@@ -108,8 +95,12 @@ class Function:
         if at is None:
             self.said.append(f"no step {step} in {whole}")
             return whole
-        if rest[:1] == ["auto"] and len(rest) > 1 and rest[1].isdigit():
-            rest = ["auto", self.kept(at, rest[1])] + rest[2:]
+        if rest[:1] in (["auto"], ["new"]):
+            ones = 0
+            while rest[1 + ones : 2 + ones] == ["1"]:
+                ones += 1
+            if rest[1 + ones : 2 + ones] == ["0"]:
+                rest = [rest[0], self.lent(at, ones)] + rest[2 + ones :]
         arm = self.arm_of(place, at)
         old = norm(self.field[at][0])
         if arm:
@@ -161,19 +152,21 @@ class Function:
                 return "c"
             return self.path(place, ups, parts[0], parts[1:], m[0])
 
-        # a slice that a step keeps, behind a variable that is bound to the step
+        # what a step was lent, behind a variable that is bound to the step
         for m in re.finditer(rf"\blet ({WORD}) = ({WORD})((?:\.before)*)\.({WORD}) in\b", text):
             if m[2] == "c" or m[2] in contexts:
                 at = self.resolve(place, m[3].count(".before") + contexts.get(m[2], 0), m[4])
                 if at:
-                    text = re.sub(rf"(?<![^\s(){{}};,@«»]){re.escape(m[1])}\.auto\.(\d+)", lambda k, at=at, v=m[1]: f"{v}.auto.{self.kept(at, k[1])}", text)
+                    text = re.sub(rf"(?<![^\s(){{}};,@«»]){re.escape(m[1])}\.(auto|new)((?:\.1)*)\.0", lambda k, at=at, v=m[1]: f"{v}.{k[1]}.{self.lent(at, len(k[2]) // 2)}", text)
 
         heads = "|".join(sorted(map(re.escape, ["c", *contexts, *steps]), key=len, reverse=True))
         text = re.sub(rf"(?<![^\s(){{}};,@«»])({heads})((?:\.{WORD})+)", one, text)
+        # today the fact of a test that is turned round by `!` speaks of what is inside
+        text = re.sub(r"not-(?:true|false) (?:_|\([^()]*\)) (c\.[^\s(),]+\.(?:true|false))(?=[\s),]|$)", r"\1", text)
         for v in contexts:
             text = re.sub(rf"(?<![^\s(){{}};,@«»]){re.escape(v)}(?![^\s(){{}};,@«»])", "c", text)
         for v in steps:
-            if re.search(rf"(?<![^\s(){{}}.;,@«»]){re.escape(v)}(?![^\s(){{}}.;,@«»])", text):
+            if re.search(rf"(?<![^\s(){{}};,@«»]){re.escape(v)}(?![^\s(){{}};,@«»])", text):
                 self.said.append(f"{v} is used whole")
         return text
 
@@ -311,5 +304,4 @@ def main(crate, names, *folders):
             print(f"{folder}: {said}")
 
 
-SLICES = slices()
 main(*sys.argv[1:])

@@ -5,14 +5,14 @@ ghost use Rattle.answers.specs.Answers.{number_of, place_of};
 use matching::Quals;
 
 // What must follow a command: nothing more, or a command or group; true: if that is a group, ELSE may follow it.
-#[derive(Drop)]
+#[derive(Clone, Copy)]
 pub enum Follow {
     Nothing,
     Body(bool),
 }
 
 // The reader's state between two rounds: what was read so far, the place aside. The open groups' words are the last of the work area.
-#[derive(Drop)]
+#[derive(Clone, Copy)]
 pub struct State {
     // The next free word.
     pub k: usize,
@@ -24,7 +24,7 @@ pub struct State {
 }
 
 // What was read, and the place after it; or a refusal, which is passed upward as it is.
-#[derive(Drop)]
+#[derive(Clone, Copy)]
 pub enum Answer {
     // Only the place after it.
     Past(usize),

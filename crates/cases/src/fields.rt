@@ -24,7 +24,7 @@ pub fn next_line(s: &[u8], at: usize) -> usize
 }
 
 // A part of a line.
-#[derive(Drop)]
+#[derive(Clone, Copy)]
 pub struct Part {
     pub start: usize,
     pub end: usize,

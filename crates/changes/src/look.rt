@@ -11,14 +11,14 @@ use editor::State;
 use matching::{Found, Quals};
 
 // The byte at p, or the number to stop with.
-#[derive(Drop)]
+#[derive(Clone, Copy)]
 pub enum Byte {
     Here(u8),
     Lacks(usize),
 }
 
 // The match of a string, its place and its width, or the number to stop with.
-#[derive(Drop)]
+#[derive(Clone, Copy)]
 pub enum Matched {
     At(usize, usize),
     Nowhere(usize),

@@ -12,7 +12,7 @@ ghost use Rattle.changes.specs.Current.{written, EndsAt, HasEnds, Builds, MakesA
 use editor::{Moved, State};
 
 // Where the first line of the current record ends, the old one where it is changed; and where the record does.
-#[derive(Drop)]
+#[derive(Clone, Copy)]
 struct Ends {
     old: usize,
     end: usize,
@@ -92,7 +92,7 @@ fn build_record(rec: &mut [u8], j: &[u8], st: State, c: Ends, line: &[u8], len: 
 }
 
 // The record that the current one becomes: its length; and where the current one ends.
-#[derive(Drop)]
+#[derive(Clone, Copy)]
 pub struct Anew {
     pub n: usize,
     pub end: usize,

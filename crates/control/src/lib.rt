@@ -25,7 +25,7 @@ pub const LEAVING: u32 = 3;
 pub const SEEKING: u32 = 4;
 
 // Where the run stands: how, the index of the next item, how many bodies are open, and what the way of standing needs.
-#[derive(Drop)]
+#[derive(Clone, Copy)]
 pub struct Control {
     pub mode: u32,
     pub at: usize,
@@ -36,7 +36,7 @@ pub struct Control {
 }
 
 // What a step asks of the editor.
-#[derive(Drop)]
+#[derive(Clone, Copy)]
 pub enum Ask {
     // Nothing: a round, or AGP.
     Round,
@@ -57,7 +57,7 @@ pub enum Ask {
 
 // A step that is wanted: what it asks, its place in the script, the index of its item, the lines that DF has passed, and how the run goes on
 // after the answer true and after the answer false.
-#[derive(Drop)]
+#[derive(Clone, Copy)]
 pub struct Wanted {
     pub what: Ask,
     pub place: usize,
@@ -67,14 +67,14 @@ pub struct Wanted {
     pub no: Control,
 }
 
-#[derive(Drop)]
+#[derive(Clone, Copy)]
 pub enum Next {
     Finished,
     Want(Wanted),
 }
 
 // What an item leads to: another point without a step between, or what comes next.
-#[derive(Drop)]
+#[derive(Clone, Copy)]
 pub enum Step {
     On(Control),
     Gives(Next),

@@ -6,7 +6,7 @@ pub mod start;
 pub mod walk;
 
 // The numbers that go with the journal buffer.
-#[derive(Drop)]
+#[derive(Clone, Copy)]
 pub struct State {
     // The gap is from front to back.
     pub front: usize,
@@ -25,7 +25,7 @@ pub struct State {
 }
 
 // What a command comes to: the run goes on, or stops with a number.
-#[derive(Drop)]
+#[derive(Clone, Copy)]
 pub enum Moved {
     On(State),
     Stop(usize, State),

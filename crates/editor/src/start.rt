@@ -24,7 +24,7 @@ fn put_kept(j: &mut [u8], o: usize, t: &[u8], from: usize, n: usize) -> usize
 }
 
 // The start of the opening journal, and the lines of the table.
-#[derive(Drop)]
+#[derive(Clone, Copy)]
 struct Opened {
     at: usize,
     lines: usize,

@@ -24,7 +24,7 @@ pub fn zero_after(j: &[u8], at: usize) -> usize
 }
 
 // Where the text of a line stands.
-#[derive(Drop)]
+#[derive(Clone, Copy)]
 pub struct Text {
     pub from: usize,
     pub n: usize,

@@ -16,7 +16,7 @@ const MOST: usize = 16;
 const SET: usize = 3;
 
 // A line's text as globals leave it: the length of it, or more than 255 bytes, which stops with 25.
-#[derive(Drop)]
+#[derive(Clone, Copy)]
 pub enum Passed {
     Text(usize),
     Long,

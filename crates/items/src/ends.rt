@@ -17,7 +17,7 @@ pub const SEARCH: u32 = 6;
 pub const OPENER: u32 = 7;
 
 // What an item is, and where it ends.
-#[derive(Drop)]
+#[derive(Clone, Copy)]
 pub struct Seen {
     pub class: u32,
     pub next: usize,

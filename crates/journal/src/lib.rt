@@ -14,7 +14,7 @@ use measure::{Checked, Fit};
 use records::View;
 
 // What a reader of a journal answers, and what joining and turning round answer.
-#[derive(Drop)]
+#[derive(Clone, Copy)]
 pub enum Reading {
     // Number 0, and the written length.
     Wrote(usize),

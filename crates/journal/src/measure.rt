@@ -8,7 +8,7 @@ use crate::records;
 use crate::records::{Extent, RecordAt, Span, View};
 
 // The old side's lines and bytes, and the new side's.
-#[derive(Drop)]
+#[derive(Clone, Copy)]
 pub struct Measures {
     pub lines: usize,
     pub old: usize,
@@ -17,14 +17,14 @@ pub struct Measures {
 }
 
 // What the check of a journal finds.
-#[derive(Drop)]
+#[derive(Clone, Copy)]
 pub enum Checked {
     Records(Measures),
     NotRecords,
 }
 
 // Whether a destination has room.
-#[derive(Drop)]
+#[derive(Clone, Copy)]
 pub enum Fit {
     // Enough, for this many bytes.
     Enough(usize),

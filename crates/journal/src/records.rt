@@ -7,7 +7,7 @@ ghost use Rattle.journal.specs.declared.records.MarkAt.TheVariants.{Is, NoMark};
 use text::LineEnd;
 
 // What became of a line.
-#[derive(Drop)]
+#[derive(Clone, Copy)]
 pub enum Mark {
     Kept,
     Changed,
@@ -16,14 +16,14 @@ pub enum Mark {
 }
 
 // What two bytes mark.
-#[derive(Drop)]
+#[derive(Clone, Copy)]
 pub enum MarkAt {
     Is(Mark),
     NoMark,
 }
 
 // A record of a journal, by places: its mark, the LF of its first line, the LF of its last line.
-#[derive(Drop)]
+#[derive(Clone, Copy)]
 pub struct Extent {
     pub at: usize,
     pub mark: Mark,
@@ -32,14 +32,14 @@ pub struct Extent {
 }
 
 // What begins at a place.
-#[derive(Drop)]
+#[derive(Clone, Copy)]
 pub enum RecordAt {
     Found(Extent),
     NoRecord,
 }
 
 // What is read out of a journal.
-#[derive(Drop)]
+#[derive(Clone, Copy)]
 pub enum View {
     OldSide,
     NewSide,
@@ -47,7 +47,7 @@ pub enum View {
 }
 
 // The bytes of a line with its LF, from the first place up to the second.
-#[derive(Drop)]
+#[derive(Clone, Copy)]
 pub enum Span {
     Bytes(usize, usize),
     Nothing,

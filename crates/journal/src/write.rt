@@ -12,7 +12,7 @@ use crate::records;
 use crate::records::{Extent, Mark, RecordAt, Span, View};
 
 // What has gone by: source lines, and whether the last of them is deleted.
-#[derive(Drop)]
+#[derive(Clone, Copy)]
 pub struct Gone {
     pub lines: usize,
     pub gap: bool,

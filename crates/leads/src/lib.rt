@@ -9,7 +9,7 @@ use marks::sweep;
 use needs::need_of;
 
 // A match begins with a byte from low to high, of those from 32 to 127; with none where low is more than high. It has the byte need; 0 for none known.
-#[derive(Drop)]
+#[derive(Clone, Copy)]
 pub struct Leads {
     pub low: u8,
     pub high: u8,

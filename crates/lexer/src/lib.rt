@@ -11,14 +11,14 @@ pub mod targets; // targets.rt: the line numbers of M, D, I and R
 pub mod words; // words.rt: THEN and ELSE
 
 // Digits read: their value, and the place after them.
-#[derive(Drop)]
+#[derive(Clone, Copy)]
 pub struct Count {
     pub value: usize,
     pub next: usize,
 }
 
 // A name read: its letters packed, and the place after it.
-#[derive(Drop)]
+#[derive(Clone, Copy)]
 pub struct Name {
     pub letters: u32,
     pub next: usize,

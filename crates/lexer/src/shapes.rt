@@ -4,7 +4,7 @@ ghost use Rattle.definitions.specs.Commands.{shape_of};
 ghost use Rattle.lexer.specs.Shapes.{shape_in};
 
 // Commands that nothing follows.
-#[derive(Drop)]
+#[derive(Clone, Copy)]
 pub enum Plain {
     Next,
     Previous,
@@ -19,21 +19,21 @@ pub enum Plain {
     Cancel,
 }
 
-#[derive(Drop)]
+#[derive(Clone, Copy)]
 pub enum Seek {
     Forward,
     Backward,
     Deleting,
 }
 
-#[derive(Drop)]
+#[derive(Clone, Copy)]
 pub enum Change {
     After,
     Before,
     Exchange,
 }
 
-#[derive(Drop)]
+#[derive(Clone, Copy)]
 pub enum Shape {
     Plain(Plain),
     // AGP

@@ -7,7 +7,7 @@ ghost use Rattle.lexer.specs.Words.{ElseRead};
 use crate::names::name;
 use crate::spaces::skip_spaces;
 
-#[derive(Drop)]
+#[derive(Clone, Copy)]
 pub enum Else {
     // After ELSE and the spaces that follow it.
     After(usize),

@@ -13,7 +13,7 @@ use patterns::bytes::{ends_row, is_next};
 
 // What flows through an item: where the item begins, and its first mark; and the least place where a match can have begun that has come up to the item,
 // before the byte of the line is read (old) and after it (new).
-#[derive(Drop)]
+#[derive(Clone, Copy)]
 struct Flow {
     at: usize,
     slot: usize,
@@ -22,7 +22,7 @@ struct Flow {
 }
 
 // The bytes from low to high, and where their name ends in the pattern.
-#[derive(Drop)]
+#[derive(Clone, Copy)]
 pub struct Bytes {
     pub low: u8,
     pub high: u8,

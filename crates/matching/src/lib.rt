@@ -19,7 +19,7 @@ use window::text_of;
 
 // The qualifiers of a string. anchor: 0 none, 1 for B, 2 for E, 3 for P. count: 0 for none; where R is given, which stands with no count, what is known of
 // every match: the first byte that it can begin with, 256 times the last, and 65,536 times a byte that it has. from: 0 for all columns. pattern: is R given.
-#[derive(Drop)]
+#[derive(Clone, Copy)]
 pub struct Quals {
     pub anchor: u8,
     pub count: usize,
@@ -52,7 +52,7 @@ pub fn no_qualifiers() -> Quals
 }
 
 // The text that is searched: a part of the line.
-#[derive(Drop)]
+#[derive(Clone, Copy)]
 pub struct Span {
     pub start: usize,
     pub end: usize,

@@ -11,21 +11,21 @@ use journal::records;
 use journal::records::{Extent, Mark, RecordAt, Span};
 
 // Places in both journals.
-#[derive(Drop)]
+#[derive(Clone, Copy)]
 pub struct Places {
     pub first: usize,
     pub second: usize,
 }
 
 // A line with its LF, from the first place up to the second.
-#[derive(Drop)]
+#[derive(Clone, Copy)]
 pub struct Text {
     pub from: usize,
     pub to: usize,
 }
 
 // The texts that a line has: an old one stands in the first journal, a new one in the second.
-#[derive(Drop)]
+#[derive(Clone, Copy)]
 pub enum Texts {
     Both(Text, Text),
     Old(Text),
@@ -35,7 +35,7 @@ pub enum Texts {
 }
 
 // What comes next.
-#[derive(Drop)]
+#[derive(Clone, Copy)]
 pub enum Next {
     // A line, and the places after it.
     Line(Texts, Places),

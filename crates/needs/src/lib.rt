@@ -13,7 +13,7 @@ use marks::{Bytes, after_mismatch, named};
 use patterns::bytes::{ends_row, is_next};
 
 // The place after what was read of the pattern, and a byte that every match of that has; 0 where none is known.
-#[derive(Drop)]
+#[derive(Clone, Copy)]
 struct Need {
     at: usize,
     byte: u8,

@@ -11,14 +11,14 @@ use bytes::{ends_row, is_next};
 use wordset::is_range;
 
 // What is found at a place: a part, up to the place after it, and is it blank (alternatives that are all empty); or the byte that cannot stand.
-#[derive(Drop)]
+#[derive(Clone, Copy)]
 enum Found {
     Past(usize, bool),
     Fault(usize),
 }
 
 // The string is a pattern, or the place of the first byte that cannot stand, which may be its end.
-#[derive(Drop)]
+#[derive(Clone, Copy)]
 pub enum Form {
     Pattern,
     Fault(usize),

@@ -12,7 +12,7 @@ use seeks::Looked;
 use steps::answer_step;
 
 // How the steps end: the number, the steps that were made, the place, and the journal buffer's numbers.
-#[derive(Drop)]
+#[derive(Clone, Copy)]
 pub struct Ended {
     pub number: usize,
     pub steps: usize,

@@ -14,7 +14,7 @@ use editor::Moved;
 use text::Form;
 
 // How a run ends: done, stopped or refused.
-#[derive(Drop)]
+#[derive(Clone, Copy)]
 pub enum Answer {
     Done {
         steps: usize,

@@ -5,7 +5,7 @@ ghost use Rattle.run.specs.Answers.{values_of};
 use crate::Answer;
 
 // Number, steps, furthest source line read, the journal's length, and the place in the script.
-#[derive(Drop)]
+#[derive(Clone, Copy)]
 pub struct Values {
     pub number: usize,
     pub steps: usize,

@@ -6,7 +6,7 @@ use text::copies::lesser;
 use text::upper;
 
 // A kind of bytes.
-#[derive(Drop)]
+#[derive(Clone, Copy)]
 pub enum Kind {
     // This byte.
     Only(u8),

@@ -28,7 +28,7 @@ use reading::read_round;
 use rounds::{finish, line_end, script_end, separator};
 
 // A round, and where it left the reader.
-#[derive(Drop)]
+#[derive(Clone, Copy)]
 pub struct Round {
     pub answer: Answer,
     pub at: usize,

@@ -6,7 +6,7 @@ ghost use Rattle.script.specs.Placed.{Turned, Moves};
 use crate::{Round, read_one};
 use answers::{Answer, State};
 
-#[derive(Drop)]
+#[derive(Clone, Copy)]
 pub struct Reader<'a> {
     pub script: &'a [u8],
     // The next byte.

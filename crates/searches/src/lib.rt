@@ -11,7 +11,7 @@ use matching::search::put_string;
 use strings::qualified_string;
 
 // Where the right part of an operator begins.
-#[derive(Drop)]
+#[derive(Clone, Copy)]
 pub enum Right {
     At(usize),
     Missing,

@@ -9,7 +9,7 @@ ghost use Rattle.seasons.specs.Joined.{measured, found};
 use middle::{Next, Places, Text, Texts};
 
 // What is found of two journals.
-#[derive(Drop)]
+#[derive(Clone, Copy)]
 pub enum Measured {
     // What they leave fits, and has this many bytes.
     Fits(usize),

@@ -14,14 +14,14 @@ use journal::marks::{put_line, put_marked};
 use middle::{Next, Places, Text, Texts};
 
 // The records of a stretch that are written: `--` or `++`.
-#[derive(Drop)]
+#[derive(Clone, Copy)]
 pub enum Kind {
     WhatLeft,
     WhatCame,
 }
 
 // Where a stretch ends, and where the next record goes.
-#[derive(Drop)]
+#[derive(Clone, Copy)]
 pub struct Row {
     pub end: Places,
     pub out: usize,

@@ -11,7 +11,7 @@ ghost use Rattle.seeks.specs.Looks.{test_of, seek_of, eof_stop, where_found, whe
 use editor::{Moved, State};
 
 // What a test comes to, or a search on one line: it holds, it does not, or the run stops with a number.
-#[derive(Drop)]
+#[derive(Clone, Copy)]
 pub enum Looked {
     Yes(State),
     No(State),
@@ -19,14 +19,14 @@ pub enum Looked {
 }
 
 // What a search over lines comes to, and how many steps it made.
-#[derive(Drop)]
+#[derive(Clone, Copy)]
 pub struct Sought {
     pub looked: Looked,
     pub made: usize,
 }
 
 // F, BF, DF.
-#[derive(Drop)]
+#[derive(Clone, Copy)]
 pub enum Way {
     Forward,
     Backward,

@@ -59,7 +59,7 @@ pub fn span_end(j: &[u8], st: State, through: usize) -> Found
 }
 
 // Where a live record stands behind the gap, or the buffer's end where there is none; and how many source lines stand before it.
-#[derive(Drop)]
+#[derive(Clone, Copy)]
 struct Live {
     at: usize,
     past: usize,

@@ -22,7 +22,7 @@ use patterns::Form;
 use qualifiers::read_qualifiers;
 
 // The qualifiers with one more; or that it cannot stand with them, or that there is none such.
-#[derive(Drop)]
+#[derive(Clone, Copy)]
 pub enum Added {
     Now(Quals),
     Clash,

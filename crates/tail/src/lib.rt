@@ -9,7 +9,7 @@ use editor::{Moved, State};
 use globals::Passed;
 
 // How many bytes more the record of a line takes as the globals leave it; or they stop on it.
-#[derive(Drop)]
+#[derive(Clone, Copy)]
 pub enum Growth {
     Bytes(usize),
     Long,

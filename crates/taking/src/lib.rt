@@ -15,7 +15,7 @@ use needs::lacks_byte;
 use wordset::beside::{is_free_at, is_free_before};
 
 // What is asked for: B or P (from the left end of the text), E or P (up to its right end), L, W.
-#[derive(Drop)]
+#[derive(Clone, Copy)]
 pub struct Way {
     pub left: bool,
     pub right: bool,
@@ -24,14 +24,14 @@ pub struct Way {
 }
 
 // The part that is taken: its place in the line, and its width.
-#[derive(Drop)]
+#[derive(Clone, Copy)]
 pub enum Found {
     At(usize, usize),
     Nothing,
 }
 
 // The best match so far: where it begins, 65535 for none, and where it ends.
-#[derive(Drop)]
+#[derive(Clone, Copy)]
 struct Best {
     start: u16,
     end: usize,

@@ -18,7 +18,7 @@ pub fn upper(b: u8) -> u8
 }
 
 // Where a line ends.
-#[derive(Drop)]
+#[derive(Clone, Copy)]
 pub enum LineEnd {
     // The index of its LF.
     At(usize),
@@ -27,7 +27,7 @@ pub enum LineEnd {
 }
 
 // How bytes are made up.
-#[derive(Drop)]
+#[derive(Clone, Copy)]
 pub enum Form {
     // Of lines, this many.
     Lines(usize),

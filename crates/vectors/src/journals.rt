@@ -9,7 +9,7 @@ use cases::fields::{bytes_at, field, number_at};
 use libc::STDOUT_FILENO;
 
 // What is made of journals.
-#[derive(Drop)]
+#[derive(Clone, Copy)]
 pub enum Work {
     Join,
     // Turning round takes the first journal alone.

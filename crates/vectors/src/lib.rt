@@ -15,7 +15,7 @@ const BUFFER: usize = 20480;
 const WORDS: usize = 512;
 
 // What the cases of a file are for.
-#[derive(Drop)]
+#[derive(Clone, Copy)]
 pub enum For {
     Editor,
     Readers,

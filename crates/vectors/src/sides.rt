@@ -8,7 +8,7 @@ use cases::buffers::fill;
 use cases::fields::{bytes_at, field, number_at};
 use libc::STDOUT_FILENO;
 
-#[derive(Drop)]
+#[derive(Clone, Copy)]
 pub enum Side {
     Old,
     New,

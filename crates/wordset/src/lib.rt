@@ -41,14 +41,14 @@ pub fn put_letters_and_digits(w: &mut [u32], k: usize)
 }
 
 // What decoding WORD's string comes to: its set is written, or a `-` or `"` is misused at a place of the script.
-#[derive(Drop)]
+#[derive(Clone, Copy)]
 pub enum Decoded {
     Set,
     Misused(usize),
 }
 
 // A name: the bytes from one to another, and how many bytes the name has; or a `-` or `"` is misused, so many bytes after its first.
-#[derive(Drop)]
+#[derive(Clone, Copy)]
 enum Name {
     Bytes(u8, u8, usize),
     Misused(usize),

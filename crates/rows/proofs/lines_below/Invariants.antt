@@ -1,0 +1,16 @@
+-- `rows::lines_below` meets its contract. The loop's invariant: the lines from i on end where those from `at` on do. Assumes nothing.
+use mathlib.Core.Path.{◌≡◌, refl, sym, ◌∙◌}
+use mathlib.Core.Bool.{true}
+use Prim.Native.Nat.{◌-◌, ◌≤◌}
+use native.Mathlib.Omega.{arith}
+use lib.ListN.{length, get_or}
+use lib.Dec.{leb}
+use borrow.Author.Tests.{le-leb, lt-leb}
+use Rattle.rows.proofs.Places.{next_from, next_here, next-line, next-none}
+use Rattle.rows.proofs.lines_below.Given as goal
+
+abbrev pub invariant-loop-i : goal.invariant-loop-i
+invariant-loop-i l = (l.at ≤ l.i) × (l.i ≤ length l.s) × (next_from (λ b. leb l.limit b) true l.s l.at ≡ next_from (λ b. leb l.limit b) true l.s l.i)
+
+abbrev pub decreases-loop-i : goal.decreases-loop-i
+decreases-loop-i l = length l.s - l.i

@@ -1,0 +1,8 @@
+use mathlib.Core.Path.{ap, ◌∙◌}
+use mathlib.Core.Bool.{not}
+use borrow.Author.Rules.{rules}
+use Rattle.wordset.specs.Sets.{in_set}
+use Rattle.wordset.proofs.beside.is_free_at.Goals as goal
+
+pub returns : goal.returns
+returns c = ap not (c.is_in.ensures ∙ ap (in_set c.args.set.now 0) c.byte_at.ensures)

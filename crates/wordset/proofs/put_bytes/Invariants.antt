@@ -1,0 +1,15 @@
+-- `wordset::put_bytes` meets its contract. The loop's invariant: with the bytes from b on added it is as with all of them. Assumes nothing.
+use mathlib.Core.Path.{◌≡◌, refl, sym, ap, ◌∙◌}
+use mathlib.Core.List.{List}
+use Prim.Native.Nat.{ℕ, suc, ◌+◌, ◌-◌, ◌≤◌}
+use native.Mathlib.Omega.{arith}
+use lib.ListN.{length, length-set}
+use Rattle.wordset.specs.Decoding.{with_bytes}
+use Rattle.wordset.proofs.Setting.{bytes_on, bytes-none}
+use Rattle.wordset.proofs.put_bytes.Given as goal
+
+abbrev pub invariant-loop-b : goal.invariant-loop-b
+invariant-loop-b l = (l.x ≤ l.b) × (length l.w ≡ length l.initial.w) × (with_bytes l.initial.w l.k l.x (suc l.y - l.x) ≡ with_bytes l.w l.k l.b (suc l.y - l.b))
+
+abbrev pub decreases-loop-b : goal.decreases-loop-b
+decreases-loop-b l = suc l.y - l.b
