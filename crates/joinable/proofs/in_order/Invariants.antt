@@ -1,0 +1,16 @@
+-- `joinable::in_order` meets its contract. The loop's invariant is `Ordered`. Assumes nothing.
+use mathlib.Core.Path.{sym, ap, ◌∙◌}
+use mathlib.Core.Bool.{◌&&◌}
+use Prim.Native.Nat.{◌-◌, ◌≤◌}
+use native.Mathlib.Omega.{arith}
+use borrow.Author.Rules.{rules}
+use lib.ListN.{length}
+use Rattle.journal.proofs.Here.{ends-after}
+use Rattle.joinable.proofs.Order.{Ordered, ordered-start, ordered-nowhere, ordered_end, ordered-wrong, ordered-next}
+use Rattle.joinable.proofs.in_order.Given as goal
+
+abbrev pub invariant-loop-at : goal.invariant-loop-at
+invariant-loop-at l = (l.at ≤ length l.j) × Ordered l.j l.at l.came
+
+abbrev pub decreases-loop-at : goal.decreases-loop-at
+decreases-loop-at l = length l.j - l.at
