@@ -135,7 +135,8 @@ class Function:
                         if any(norm(s) == old and p for _, s, p in self.arm_of(place, at)[2]):
                             steps[m[1]] = (ups, parts)
         for v in list(contexts) + list(steps):
-            text = re.sub(rf"[ \t]*\blet {re.escape(v)} = [^\s]+ in(?:\n|\s)", "", text)
+            text = re.sub(rf"[ \t]*\blet {re.escape(v)} = [^\s]+ in(?:(?=\n)|\s)", " ", text)
+            text = re.sub(r"(?m)^ +\n", "", text)
 
         def one(m):
             base = m[1]
@@ -215,6 +216,19 @@ class Function:
                     renames[name] = f"{what}-{got[0]}"
             else:
                 kinds[name] = ("other", None)
+        # what a helper says of a place is written where it is used
+        inline = {}
+        for lines in decls:
+            sig = "\n".join(lines).rstrip("\n")
+            name = re.match(rf"(?:(?:abbrev|pub|unfoldable) )*({WORD})", next(l for l in lines if not l.startswith("--")))[1]
+            tied = re.findall(rf"\(c : tie\.({WORD})", sig)
+            found = [p for p in self.new_place for t in tied if norm(p) == norm(t)]
+            body = re.search(rf"^{re.escape(name)} c =(.*)$", sig, re.S | re.M)
+            if kinds.get(name, ("other",))[0] == "other" and found and body:
+                inline[name] = " ".join(self.body(found[0], body[1]).split())
+        for name, body in list(inline.items()):
+            for other in inline:
+                inline[name] = re.sub(rf"(?<![^\s(){{}};,@«»]){re.escape(other)} c(?:\.before)*(?![^\s(){{}};,@«»])", lambda m, o=other: f"({inline[o]})", inline[name])
         for lines in decls:
             sig = "\n".join(lines)
             first = next(l for l in lines if not l.startswith("--"))
@@ -236,7 +250,10 @@ class Function:
                 params = params.split()
                 if params[:1] != ["c"]:
                     self.said.append(f"{name}: parameters {params}")
+                for other in inline:
+                    body = re.sub(rf"(?<![^\s(){{}};,@«»]){re.escape(other)} c(?:\.before)*(?![^\s(){{}};,@«»])", lambda m, o=other: f"(\x00{o}\x00)", body)
                 body = self.body(place, body)
+                body = re.sub("\x00(\\S+?)\x00", lambda m: inline[m[1]], body)
                 if TRIVIAL.match(body.strip()) and not unfolding:
                     continue
                 for a, b in renames.items():
@@ -260,7 +277,7 @@ class Function:
                 table = {p: v for p, v in zip(params, values) if p != "_"}
                 body = re.sub(rf"(?<![^\s(){{}};,@«»])({WORD})", lambda m: table.get(m[1], m[1]), body)
                 invariants.append(f"{comment}abbrev pub {what_name(kind, new)} : goal.{what_name(kind, new)}\n{unfolding}{what_name(kind, new)} l ={body}\n")
-            else:
+            elif name not in inline:
                 tied = re.findall(rf"tie\.({WORD})((?: (?:invariant|decreases)-loop\S*)*)", sig)
                 for place, rest in tied:
                     match = [p for p in self.new_place if norm(p) == norm(place)]

@@ -1,4 +1,6 @@
 // Lines put in two rows, those that begin with a `-` first, each kind in its order, with no memory but the slice and an array for short parts.
+#![tactic(auto)]
+
 ghost use Rattle.std.specs.Prelude.{◌≡◌, ◌≤◌, length};
 ghost use Rattle.text.specs.Feeds.{line_length};
 ghost use Rattle.gathering.specs.Pieces.{Gathered, middle_of};

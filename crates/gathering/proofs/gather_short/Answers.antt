@@ -1,39 +1,32 @@
 -- `gathering::gather_short` meets its contract. The loop's invariant: the lines before `at` are gathered. Assumes nothing.
 use mathlib.Core.Path.{refl}
-use Prim.Native.Nat.{◌-◌}
 use native.Mathlib.Omega.{arith}
-use lib.ListN.{length}
-use borrow.Author.Rules.{rules}
-use Rattle.gathering.proofs.Passes.{Passed, passed_none, Inside, line-inside, passed-minus, passed-other, passed-all}
+use Rattle.gathering.proofs.Passes.{passed_none, line-inside, passed-minus, passed-other, passed-all}
 use Rattle.gathering.proofs.gather_short.Goals as goal
-
--- the line that was found
-line_of : (c : goal.After-line_after-e → Inside c.loop-at.s c.loop-at.at c.line_after-e.result
-line_of c = line-inside _ _ _ _ _ _ c.loop-at.invariant (omega arith) c.line_after-e.ensures
 
 pub loop-at-init : goal.loop-at-init
 loop-at-init c = passed_none c.args.s.now _ refl
 
 pub overflow_sub-e : goal.overflow_sub-e
-overflow_sub-e c = let h = line_of c in omega arith
+overflow_sub-e c = let h = (line-inside _ _ _ _ _ _ c.loop-at.invariant (omega arith) c.line_after-e.ensures) in omega arith
 
 pub copy_down-requires : goal.copy_down-requires
-copy_down-requires c = let h = line_of c in (omega arith, omega arith)
+copy_down-requires c = let h = (line-inside _ _ _ _ _ _ c.loop-at.invariant (omega arith) c.line_after-e.ensures) in (omega arith, omega arith)
 
 pub overflow_sub-p : goal.overflow_sub-p
-overflow_sub-p c = let h = line_of c in omega arith
+overflow_sub-p c = let h = (line-inside _ _ _ _ _ _ c.loop-at.invariant (omega arith) c.line_after-e.ensures) in omega arith
 
 pub overflow_add-p : goal.overflow_add-p
-overflow_add-p c = let h = line_of c in omega arith
+overflow_add-p c = let h = (line-inside _ _ _ _ _ _ c.loop-at.invariant (omega arith) c.line_after-e.ensures) in omega arith
 
 pub overflow_sub-e-else-s-at-eq45 : goal.overflow_sub-e-else-s-at-eq45
-overflow_sub-e-else-s-at-eq45 c = let h = line_of c in omega arith
+overflow_sub-e-else-s-at-eq45 c = let h = (line-inside _ _ _ _ _ _ c.loop-at.invariant (omega arith) c.line_after-e.ensures) in omega arith
 
 pub copy_in-requires : goal.copy_in-requires
-copy_in-requires c = let h = line_of c in (omega arith, omega arith)
+copy_in-requires c = let h = (line-inside _ _ _ _ _ _ c.loop-at.invariant (omega arith) c.line_after-e.ensures) in (omega arith, omega arith)
 
 pub loop-at-smaller-then-s-at-eq45 : goal.loop-at-smaller-then-s-at-eq45
-loop-at-smaller-then-s-at-eq45 c = let h = line_of c in omega (arith, c.copy_down.auto.d)
+loop-at-smaller-then-s-at-eq45 c = let h = (line-inside _ _ _ _ _ _ c.loop-at.invariant (omega arith) c.line_after-e.ensures) in omega (arith, c.copy_down.auto.d)
 
 pub loop-at-preserved-then-s-at-eq45 : goal.loop-at-preserved-then-s-at-eq45
 loop-at-preserved-then-s-at-eq45 c =
@@ -43,7 +36,7 @@ loop-at-preserved-then-s-at-eq45 c =
     passed-minus _ l.s _ l.p l.at _ l.invariant (omega arith) e _ c.if-s-at-eq45.true d.ensures d.auto.d
 
 pub loop-at-smaller : goal.loop-at-smaller
-loop-at-smaller c = let h = line_of c in omega arith
+loop-at-smaller c = let h = (line-inside _ _ _ _ _ _ c.loop-at.invariant (omega arith) c.line_after-e.ensures) in omega arith
 
 pub loop-at-preserved : goal.loop-at-preserved
 loop-at-preserved c =

@@ -1,10 +1,7 @@
 -- `gathering::gather_short` meets its contract. The loop's invariant: the lines before `at` are gathered. Assumes nothing.
-use mathlib.Core.Path.{refl}
 use Prim.Native.Nat.{◌-◌}
-use native.Mathlib.Omega.{arith}
 use lib.ListN.{length}
-use borrow.Author.Rules.{rules}
-use Rattle.gathering.proofs.Passes.{Passed, passed_none, Inside, line-inside, passed-minus, passed-other, passed-all}
+use Rattle.gathering.proofs.Passes.{Passed}
 use Rattle.gathering.proofs.gather_short.Given as goal
 
 abbrev pub invariant-loop-at : goal.invariant-loop-at

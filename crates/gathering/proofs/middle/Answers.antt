@@ -1,6 +1,5 @@
 -- `gathering::middle` meets its contract. Assumes nothing.
 use native.Mathlib.Omega.{arith}
-use borrow.Author.Rules.{rules}
 use Rattle.gathering.proofs.Cuts.{middle-after, middle-before}
 use Rattle.gathering.proofs.middle.Goals as goal
 
