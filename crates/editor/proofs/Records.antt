@@ -4,7 +4,8 @@ use mathlib.Core.Bool.{Bool, true, false, ◌&&◌}
 use Prim.Native.Nat.{ℕ, suc, ◌+◌, ◌-◌, ◌≤◌, ◌<◌}
 use native.Mathlib.Omega.{arith}
 use native.Mathlib.Nat.{not-suc-le-zero}
-use native.Mathlib.Numerals.{add-one}
+use native.Mathlib.Numerals.{add-one, sub-one}
+use Rattle.text.proofs.LineFeeds.{start-hit}
 use mathlib.Core.List.{List, [], ◌∷◌, ◌++◌, map, reverse_aux, append_assoc, append-nil}
 use lib.ListN.{length, length-append}
 use lib.Seq.{get_or_at}
@@ -234,7 +235,7 @@ starts (r ∷ b) z =
     let q : List ℕ = enc_before b ++ body r in
     let is : enc_before b ++ enc r ≡ q ++ (10 ∷ []) = sym (append_assoc (enc_before b) (body r) (10 ∷ [])) in
     let long : length (q ++ (10 ∷ [])) ≡ suc (length q) = length-append q (10 ∷ []) ∙ add-one (length q) in
-    rw (is, long, line_start, append_assoc q (10 ∷ []) z, get_or_at q 10 z 0 (length q) refl)
+    rw (is, long) (start-hit ((q ++ (10 ∷ [])) ++ z) (suc (length q)) (omega arith) (rw (sub-one, append_assoc q (10 ∷ []) z) (get_or_at q 10 z 0 (length q) refl)))
 
 pub start_of : (r : Record) (b : List Record) (z : List ℕ) → Good r → line_start (enc_before (r ∷ b) ++ z) (length (enc_before (r ∷ b)) - 1) ≡ length (enc_before b)
 unfolding enc_before

@@ -1,0 +1,17 @@
+use mathlib.Core.Path.{◌≡◌, refl, ◌∙◌}
+use mathlib.Core.Logic.{inl, inr, ⊎_elim}
+use mathlib.Core.List.{List}
+use Prim.Native.Nat.{◌-◌}
+use native.Mathlib.Omega.{arith}
+use lib.ListN.{length}
+use Rattle.definitions.specs.Journal.{Record}
+use Rattle.editor.specs.Shows.{Holds, Stays, on_to}
+use Rattle.editor.proofs.Held.{stays_on, stays-still}
+use Rattle.editor.proofs.Walking.{Way, way-start, passable, on-goes, on-stops, on-ends}
+use Rattle.editor.proofs.walk.on_to.Given as goal
+
+abbrev pub invariant-loop-j : goal.invariant-loop-j
+invariant-loop-j l = ((b a : List Record) → Holds l.initial.j l.initial.s b a → Way (on_to l.k) l.j l.s b a) × Stays l.initial.s l.s × (length l.j ≡ length l.initial.j)
+
+abbrev pub decreases-loop-j : goal.decreases-loop-j
+decreases-loop-j l = length l.j - l.s.back
