@@ -1,4 +1,6 @@
 // The end of a run: the journal comes to the start of its buffer, its records arranged (document 02, wish 6), its lines ended.
+#![tactic(auto)]
+
 pub mod arranging;
 pub mod ending;
 

@@ -1,4 +1,6 @@
 // The journal buffer during a run, and the commands on it.
+#![tactic(auto)]
+
 pub mod current;
 pub mod edits;
 pub mod moves;

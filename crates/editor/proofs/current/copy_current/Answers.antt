@@ -1,6 +1,5 @@
 use native.Mathlib.Omega.{arith}
 use Rattle.editor.proofs.CurrentText.{read_short, copies-line}
-use borrow.Author.Rules.{rules}
 use Rattle.editor.proofs.current.copy_current.Goals as goal
 
 pub current_line-text-requires : goal.current_line-text-requires

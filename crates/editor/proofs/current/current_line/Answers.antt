@@ -1,7 +1,6 @@
 use native.Mathlib.Omega.{arith}
 use Rattle.editor.proofs.Walking.{standing}
 use Rattle.editor.proofs.CurrentText.{kept-room, kept_line, other-room, other-line}
-use borrow.Author.Rules.{rules}
 use Rattle.editor.proofs.current.current_line.Goals as goal
 
 pub place_after-to-requires : goal.place_after-to-requires

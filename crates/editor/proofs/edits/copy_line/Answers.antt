@@ -1,5 +1,4 @@
 use Rattle.editor.proofs.CurrentText.{copy-eof, copied-good, copy-on}
-use borrow.Author.Rules.{rules}
 use Rattle.editor.proofs.edits.copy_line.Goals as goal
 
 pub returns-then-at-j : goal.returns-then-at-j

@@ -2,7 +2,6 @@ use lib.ListN.{take, drop}
 use native.Mathlib.Omega.{arith}
 use Rattle.editor.proofs.Inserting.{text-length, text-short}
 use Rattle.editor.proofs.Changing.{one-length, insert-full, insert-on}
-use borrow.Author.Rules.{rules}
 use Rattle.editor.proofs.edits.insert_line.Goals as goal
 
 pub overflow_sub-room : goal.overflow_sub-room

@@ -2,7 +2,6 @@ use mathlib.Core.List.{◌∷◌}
 use Rattle.definitions.specs.Editor.{before_of, after_of, land}
 use Rattle.editor.proofs.Walking.{passable}
 use Rattle.editor.proofs.Moving.{ahead-on}
-use borrow.Author.Rules.{rules}
 use Rattle.editor.proofs.moves.go_ahead.Goals as goal
 
 pub pass_record-s-requires : goal.pass_record-s-requires

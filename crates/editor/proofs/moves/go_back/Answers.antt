@@ -1,12 +1,10 @@
-use mathlib.Core.Path.{◌≡◌, refl, sym, ◌∙◌}
+use mathlib.Core.Path.{refl, sym, ◌∙◌}
 use native.Mathlib.Omega.{arith}
-use lib.ListN.{length}
-use Rattle.definitions.specs.Tape.{Tape}
-use Rattle.definitions.specs.Editor.{Ed, before_of, go_back}
-use Rattle.editor.specs.Shows.{Stays, Shows, rest_of}
+use Rattle.definitions.specs.Editor.{before_of}
+use Rattle.editor.specs.Shows.{rest_of}
 use Rattle.editor.proofs.Held.{stays_on, stays-still}
 use Rattle.editor.proofs.Parts.{came-as}
-use Rattle.editor.proofs.Walking.{Way, way-start, way-away, unpassable, back_in}
+use Rattle.editor.proofs.Walking.{way-start, way-away, unpassable, back_in}
 use Rattle.editor.proofs.Moving.{dead_goes, back_on, back-stop}
 use Rattle.editor.proofs.moves.go_back.Goals as goal
 

@@ -1,5 +1,4 @@
 use Rattle.editor.proofs.Moving.{target-eof, target-line, here-by, target-by}
-use borrow.Author.Rules.{rules}
 use Rattle.editor.proofs.moves.go_to.Goals as goal
 
 pub returns-then-target-eq0 : goal.returns-then-target-eq0

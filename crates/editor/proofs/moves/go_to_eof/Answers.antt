@@ -2,7 +2,6 @@ use mathlib.Core.Path.{refl}
 use native.Mathlib.Omega.{arith}
 use Rattle.editor.proofs.Held.{held-length, held-gap}
 use Rattle.editor.proofs.Moving.{eof-on}
-use borrow.Author.Rules.{rules}
 use Rattle.editor.proofs.moves.go_to_eof.Goals as goal
 
 pub overflow_sub-n : goal.overflow_sub-n

@@ -2,7 +2,6 @@ use mathlib.Core.Path.{sym}
 use Rattle.editor.proofs.Walking.{raised-holds, source-away}
 use Rattle.editor.proofs.Parts.{came-as}
 use Rattle.editor.proofs.Moving.{line-eof, line_dead, line-live}
-use borrow.Author.Rules.{rules}
 use Rattle.editor.proofs.moves.go_to_line.Goals as goal
 
 pub to_source-s-requires : goal.to_source-s-requires

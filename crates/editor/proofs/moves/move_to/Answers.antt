@@ -1,5 +1,4 @@
 use Rattle.editor.proofs.Moving.{move-by}
-use borrow.Author.Rules.{rules}
 use Rattle.editor.proofs.moves.move_to.Goals as goal
 
 pub returns : goal.returns

@@ -1,5 +1,4 @@
 use Rattle.editor.proofs.Moving.{next-eof, next-on}
-use borrow.Author.Rules.{rules}
 use Rattle.editor.proofs.moves.next_line.Goals as goal
 
 pub returns-then-at-j : goal.returns-then-at-j

@@ -1,5 +1,4 @@
 use Rattle.editor.proofs.Moving.{previous-by}
-use borrow.Author.Rules.{rules}
 use Rattle.editor.proofs.moves.previous_line.Goals as goal
 
 pub returns : goal.returns

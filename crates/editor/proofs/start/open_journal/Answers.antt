@@ -2,7 +2,6 @@ use mathlib.Core.Path.{refl, ◌∙◌}
 use native.Mathlib.Omega.{arith}
 use Rattle.theorems.specs.JournalBytes.{table-short}
 use Rattle.editor.proofs.Opening.{opening-read, opened-bytes}
-use borrow.Author.Rules.{rules}
 use Rattle.editor.proofs.start.open_journal.Goals as goal
 
 pub read_to-requires : goal.read_to-requires

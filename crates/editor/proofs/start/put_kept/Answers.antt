@@ -1,7 +1,6 @@
 use native.Mathlib.Omega.{arith}
 use lib.ListN.{length-set}
 use Rattle.editor.proofs.Opening.{put-line}
-use borrow.Author.Rules.{rules}
 use Rattle.editor.proofs.start.put_kept.Goals as goal
 
 pub bounds-j-a-2 : goal.bounds-j-a-2

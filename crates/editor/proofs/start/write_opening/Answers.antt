@@ -1,8 +1,6 @@
-use mathlib.Core.Path.{◌≡◌, refl, ◌∙◌}
+use mathlib.Core.Path.{refl, ◌∙◌}
 use native.Mathlib.Omega.{arith}
-use lib.ListN.{length}
-use Rattle.editor.proofs.Opening.{Writing, writing_start, writing-low, writing-fits, writing-next, writing-done}
-use Prim.Native.Nat.{◌<◌}
+use Rattle.editor.proofs.Opening.{writing_start, writing-low, writing-fits, writing-next, writing-done}
 use Rattle.editor.proofs.start.write_opening.Goals as goal
 
 pub loop-i-init : goal.loop-i-init

@@ -1,8 +1,6 @@
-use mathlib.Core.Path.{◌≡◌, refl, ◌∙◌}
-use native.Mathlib.Omega.{arith}
+use mathlib.Core.Path.{◌≡◌}
 use lib.ListN.{length}
-use Rattle.editor.proofs.Opening.{Writing, writing_start, writing-low, writing-fits, writing-next, writing-done}
-use Prim.Native.Nat.{◌<◌}
+use Rattle.editor.proofs.Opening.{Writing}
 use Rattle.editor.proofs.start.write_opening.Given as goal
 
 abbrev pub invariant-loop-i : goal.invariant-loop-i

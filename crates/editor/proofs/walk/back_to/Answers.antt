@@ -1,12 +1,7 @@
-use mathlib.Core.Path.{◌≡◌, refl, ◌∙◌}
-use mathlib.Core.List.{List}
-use Prim.Native.Nat.{◌<◌}
+use mathlib.Core.Path.{refl, ◌∙◌}
 use native.Mathlib.Omega.{arith}
-use lib.ListN.{length}
-use Rattle.definitions.specs.Journal.{Record}
-use Rattle.editor.specs.Shows.{Holds, Stays, back_to}
 use Rattle.editor.proofs.Held.{stays_on, stays-still}
-use Rattle.editor.proofs.Walking.{Way, way-start, unpassable, past-some, back-goes, back-ends}
+use Rattle.editor.proofs.Walking.{way-start, unpassable, past-some, back-goes, back-ends}
 use Rattle.editor.proofs.walk.back_to.Goals as goal
 
 pub loop-s-init : goal.loop-s-init

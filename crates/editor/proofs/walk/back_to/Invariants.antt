@@ -1,12 +1,9 @@
-use mathlib.Core.Path.{◌≡◌, refl, ◌∙◌}
+use mathlib.Core.Path.{◌≡◌}
 use mathlib.Core.List.{List}
-use Prim.Native.Nat.{◌<◌}
-use native.Mathlib.Omega.{arith}
 use lib.ListN.{length}
 use Rattle.definitions.specs.Journal.{Record}
 use Rattle.editor.specs.Shows.{Holds, Stays, back_to}
-use Rattle.editor.proofs.Held.{stays_on, stays-still}
-use Rattle.editor.proofs.Walking.{Way, way-start, unpassable, past-some, back-goes, back-ends}
+use Rattle.editor.proofs.Walking.{Way}
 use Rattle.editor.proofs.walk.back_to.Given as goal
 
 abbrev pub invariant-loop-s : goal.invariant-loop-s

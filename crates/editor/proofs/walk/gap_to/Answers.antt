@@ -1,6 +1,5 @@
 use native.Mathlib.Omega.{arith}
 use Rattle.editor.proofs.Walking.{gap-inside, gap-room, gap_up, gap_down}
-use borrow.Author.Rules.{rules}
 use Rattle.editor.proofs.walk.gap_to.Goals as goal
 
 pub shift_up-requires : goal.shift_up-requires

@@ -1,13 +1,11 @@
-use mathlib.Core.Path.{◌≡◌, refl, ◌∙◌}
+use mathlib.Core.Path.{◌≡◌}
 use mathlib.Core.List.{List}
 use Prim.Native.Nat.{◌-◌}
-use native.Mathlib.Omega.{arith}
 use lib.ListN.{length}
 use Rattle.definitions.specs.Journal.{Record}
 use Rattle.definitions.specs.Editor.{land}
 use Rattle.editor.specs.Shows.{Holds, Stays}
-use Rattle.editor.proofs.Held.{placed_by, stays_on, stays-still}
-use Rattle.editor.proofs.Walking.{Way, way-start, passable, land-goes, land-ends, land-stops}
+use Rattle.editor.proofs.Walking.{Way}
 use Rattle.editor.proofs.walk.land_live.Given as goal
 
 abbrev pub invariant-loop-j : goal.invariant-loop-j

@@ -1,13 +1,8 @@
-use mathlib.Core.Path.{◌≡◌, refl, ◌∙◌}
-use mathlib.Core.Logic.{inl, inr, ⊎_elim}
-use mathlib.Core.List.{List}
-use Prim.Native.Nat.{◌-◌}
+use mathlib.Core.Path.{refl, ◌∙◌}
+use mathlib.Core.Logic.{inl, inr}
 use native.Mathlib.Omega.{arith}
-use lib.ListN.{length}
-use Rattle.definitions.specs.Journal.{Record}
-use Rattle.editor.specs.Shows.{Holds, Stays, on_to}
 use Rattle.editor.proofs.Held.{stays_on, stays-still}
-use Rattle.editor.proofs.Walking.{Way, way-start, passable, on-goes, on-stops, on-ends}
+use Rattle.editor.proofs.Walking.{way-start, passable, on-goes, on-stops, on-ends}
 use Rattle.editor.proofs.walk.on_to.Goals as goal
 use Rattle.editor.proofs.walk.on_to.Goals.{then-s-k+else-j-at-ne43, else-s-k}
 

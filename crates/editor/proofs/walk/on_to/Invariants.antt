@@ -1,13 +1,10 @@
-use mathlib.Core.Path.{◌≡◌, refl, ◌∙◌}
-use mathlib.Core.Logic.{inl, inr, ⊎_elim}
+use mathlib.Core.Path.{◌≡◌}
 use mathlib.Core.List.{List}
 use Prim.Native.Nat.{◌-◌}
-use native.Mathlib.Omega.{arith}
 use lib.ListN.{length}
 use Rattle.definitions.specs.Journal.{Record}
 use Rattle.editor.specs.Shows.{Holds, Stays, on_to}
-use Rattle.editor.proofs.Held.{stays_on, stays-still}
-use Rattle.editor.proofs.Walking.{Way, way-start, passable, on-goes, on-stops, on-ends}
+use Rattle.editor.proofs.Walking.{Way}
 use Rattle.editor.proofs.walk.on_to.Given as goal
 
 abbrev pub invariant-loop-j : goal.invariant-loop-j

@@ -3,7 +3,6 @@ use native.Mathlib.Nat.{add-zero}
 use native.Mathlib.Omega.{arith}
 use Rattle.editor.proofs.Records.{has-source, no_source}
 use Rattle.editor.proofs.Held.{held-gap, held_more, held-record, passed_first, source-room, pass-old, pass_all}
-use borrow.Author.Rules.{rules}
 use Rattle.editor.proofs.walk.pass_record.Goals as goal
 
 pub shift_line_down-n-requires : goal.shift_line_down-n-requires

@@ -1,7 +1,6 @@
 use mathlib.Core.Path.{ap, ◌∙◌}
 use Rattle.editor.specs.Shows.{raised}
 use Rattle.editor.proofs.Walking.{line-at-eof, line-at-new, line-at-old}
-use borrow.Author.Rules.{rules}
 use Rattle.editor.proofs.walk.read_current.Goals as goal
 use Rattle.editor.proofs.walk.read_current.Goals.{then-at-j+else-j-at-eq43, else-at-j}
 

@@ -1,7 +1,5 @@
-use mathlib.Core.Logic.{⊎_elim}
 use native.Mathlib.Omega.{arith}
 use Rattle.editor.proofs.Walking.{raised_by}
-use borrow.Author.Rules.{rules}
 use Rattle.editor.proofs.walk.read_to.Goals as goal
 use Rattle.editor.proofs.walk.read_to.Goals.{then-a-to, else-a-to}
 

@@ -1,7 +1,6 @@
 use native.Mathlib.Omega.{arith}
 use Rattle.editor.proofs.Records.{three-bytes}
 use Rattle.editor.proofs.Sizes.{stands-inside, zero-after-mark, size-inserted, size-changed, size-plain}
-use borrow.Author.Rules.{rules}
 use Rattle.editor.proofs.walk.source_bytes.Goals as goal
 
 pub bounds-j-at : goal.bounds-j-at

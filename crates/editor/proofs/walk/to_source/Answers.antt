@@ -1,5 +1,4 @@
 use Rattle.editor.proofs.Walking.{source-walks}
-use borrow.Author.Rules.{rules}
 use Rattle.editor.proofs.walk.to_source.Goals as goal
 
 pub on_to-requires : goal.on_to-requires

@@ -3,7 +3,6 @@ use native.Mathlib.Nat.{sub-zero}
 use native.Mathlib.Omega.{arith}
 use Rattle.editor.proofs.Records.{some_bytes, has-source, no_source}
 use Rattle.editor.proofs.Held.{held-gap, held-lo, held-less, held-length, unpassed-first, source-past, some-past, unpass-old, unpass-all}
-use borrow.Author.Rules.{rules}
 use Rattle.editor.proofs.walk.unpass_record.Goals as goal
 
 pub shift_line_up-lo-requires : goal.shift_line_up-lo-requires
