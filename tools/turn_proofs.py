@@ -91,6 +91,7 @@ class Function:
         """The new path for c.before..step.rest."""
         if self.member and step == "requires" and rest[:1] in (["0"], ["1"]):
             return ".".join(["c", "decreases" if rest[0] == "0" else "requires"] + rest[1:])
+        step = "well_formed" if step == "well-formed" else step
         if step in ("args", "requires", "ranges", "lifetimes", "well_formed", "type_inv"):
             return "c." + ".".join([step] + rest)
         at = self.resolve(place, ups, step)
@@ -236,14 +237,16 @@ class Function:
                     continue
                 comment, unfolding, params, body = parts.groups()
                 params = params.split()
-                if params[:1] != ["c"]:
+                if params not in (["c"], ["c", "κs"]):
                     self.said.append(f"{name}: parameters {params}")
                 body = self.body(place, body)
                 if TRIVIAL.match(body.strip()) and not unfolding:
                     continue
                 for a, b in renames.items():
                     body = re.sub(rf"(?<![^\s(){{}};,@«»]){re.escape(a)}(?=[ )\n](?!=))(?=\s+c\b)", b, body)
-                answers.append(f"{comment}pub {new} : goal.{new}\n{unfolding}{new} c ={body}\n")
+                more = "".join(f" {q}" for q in params[1:] if q != "κs")
+                body = body if body[:1] in (" ", "\n") else " " + body
+                answers.append(f"{comment}pub {new} : goal.{new}\n{unfolding}{new} c{more} ={body}\n")
             elif kind in ("invariant", "decreases"):
                 if not got:
                     continue
@@ -342,7 +345,9 @@ def turn_cycle(names, crate, folder):
                 body = f.body(place, body)
                 if TRIVIAL.match(body.strip()) and not unfolding:
                     continue
-                answers.append(f"{comment}pub {m}-{new} : goal.{m}-{new}\n{unfolding}{m}-{new} t c ={body}\n")
+                more = "".join(f" {q}" for q in ps[1:] if q != "κs")
+                body = body if body[:1] in (" ", "\n") else " " + body
+                answers.append(f"{comment}pub {m}-{new} : goal.{m}-{new}\n{unfolding}{m}-{new} t c{more} ={body}\n")
             else:
                 what, loop = kind.split("-", 1)
                 got = loops.get(norm(loop))
