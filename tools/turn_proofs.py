@@ -40,9 +40,9 @@ def blocks(text):
 
 
 class Function:
-    def __init__(self, names, crate, folder):
-        self.crate, self.folder = crate, folder
-        key = f"Rattle-{crate}-proofs.{folder.replace('/', '.')}.Lts"
+    def __init__(self, names, crate, folder, member=None):
+        self.crate, self.folder, self.member = crate, folder, member
+        key = f"Rattle-{crate}-proofs.{folder.replace('/', '.')}.Lts" + (f"-{member}" if member else "")
         self.x = names.get(key)
         self.said = []
         if self.x:
@@ -89,6 +89,9 @@ class Function:
 
     def path(self, place, ups, step, rest, whole):
         """The new path for c.before..step.rest."""
+        if self.member and step == "requires" and rest[:1] in (["0"], ["1"]):
+            return ".".join(["c", "decreases" if rest[0] == "0" else "requires"] + rest[1:])
+        step = "well_formed" if step == "well-formed" else step
         if step in ("args", "requires", "ranges", "lifetimes", "well_formed", "type_inv"):
             return "c." + ".".join([step] + rest)
         at = self.resolve(place, ups, step)
@@ -163,7 +166,7 @@ class Function:
         heads = "|".join(sorted(map(re.escape, ["c", *contexts, *steps]), key=len, reverse=True))
         text = re.sub(rf"(?<![^\s(){{}};,@«»])({heads})((?:\.{WORD})+)", one, text)
         # today the fact of a test that is turned round by `!` speaks of what is inside
-        text = re.sub(r"not-(?:true|false) (?:_|\([^()]*\)) (c\.[^\s(),]+\.(?:true|false))(?=[\s),]|$)", r"\1", text)
+        text = re.sub(r"not-(?:true|false) (?:_|\([^()]*\)) ([^\s(),]+\.(?:true|false))(?=[\s),]|$)", r"\1", text)
         for v in contexts:
             text = re.sub(rf"(?<![^\s(){{}};,@«»]){re.escape(v)}(?![^\s(){{}};,@«»])", "c", text)
         for v in steps:
@@ -248,7 +251,7 @@ class Function:
                     continue
                 comment, unfolding, params, body = parts.groups()
                 params = params.split()
-                if params[:1] != ["c"]:
+                if params not in (["c"], ["c", "κs"]):
                     self.said.append(f"{name}: parameters {params}")
                 for other in inline:
                     body = re.sub(rf"(?<![^\s(){{}};,@«»]){re.escape(other)} c(?:\.before)*(?![^\s(){{}};,@«»])", lambda m, o=other: f"(\x00{o}\x00)", body)
@@ -258,7 +261,9 @@ class Function:
                     continue
                 for a, b in renames.items():
                     body = re.sub(rf"(?<![^\s(){{}};,@«»]){re.escape(a)}(?=[ )\n](?!=))(?=\s+c\b)", b, body)
-                answers.append(f"{comment}pub {new} : goal.{new}\n{unfolding}{new} c ={body}\n")
+                more = "".join(f" {q}" for q in params[1:] if q != "κs")
+                body = body if body[:1] in (" ", "\n") else " " + body
+                answers.append(f"{comment}pub {new} : goal.{new}\n{unfolding}{new} c{more} ={body}\n")
             elif kind in ("invariant", "decreases"):
                 if not got:
                     continue
@@ -301,6 +306,103 @@ class Function:
         return self.said
 
 
+def turn_cycle(names, crate, folder):
+    """Turns proofs/+CYCLE/Proof.antt and the files of its members, each with a module over the measure's value t."""
+    base = f"crates/{crate}/proofs/{folder}"
+    module = f"Rattle.{crate}.proofs.{folder.replace('/', '.')}"
+    title = [l for l in open(f"{base}/Proof.antt", encoding="utf-8").read().split("\n") if l.startswith("--")][:1]
+    said, members, params, uses, invariants, answers = [], {}, {}, [], [], []
+    for file in sorted(os.listdir(f"{base}/Proof")):
+        text = open(f"{base}/Proof/{file}", encoding="utf-8").read()
+        found = re.search(r"^use \S*\.Lts-(\S+) as lts$", text, re.M)
+        if found:
+            members[found[1]] = text
+    turned = {m: Function(names, crate, folder, m) for m in members}
+    for f in turned.values():
+        params.update({c.split("::")[-1]: vs for c, vs in f.x["params"].items()})
+    calls = open(f"{base}/Proof/Calls.antt", encoding="utf-8").read()
+    uses += [l for l in calls.split("\n") if l.startswith("use ") and not re.search(r"Reads|Kinds|Lts-|borrow\.Fn\.", l)]
+
+    def argument(m, vs):
+        ones = m[1].count("1")
+        return f"l.{vs[ones]}"
+
+    for m in members:
+        found = re.search(rf"^μ-{m} κs a = (.*)$", calls, re.M)
+        if not found:
+            said.append(f"no measure of {m}")
+            continue
+        body = re.sub(r"\ba\.((?:1\.)*)0(?![\w])", lambda k: argument(k, params[m]), found[1])
+        invariants.append(f"abbrev pub decreases-{m} : goal.decreases-{m}\ndecreases-{m} l = {body}\n")
+    for m, text in members.items():
+        f = turned[m]
+        text = re.sub(r"^module _ \(t : ℕ\) where\n", "", text, flags=re.M)
+        text = re.sub(r"^  ", "", text, flags=re.M)
+        head, decls = blocks(text)
+        uses += [l for l in head if l.startswith("use ") and not re.search(r"\.Lts-| as reads$|\.Proof\.Calls\.", l)]
+        needs = {norm(o): (n, f.x["asked_at"][i][0]) for i, (o, n) in enumerate(f.x["needs"])}
+        loops = {norm(o): (n, vs, ch) for ((o, n), vs), ch in zip(f.x["loops"], f.x["changed"])}
+        for lines in decls:
+            sig = "\n".join(lines).rstrip("\n")
+            parts = re.match(rf"((?:--[^\n]*\n)*)(?:abbrev |pub )*({WORD})\s*:\s*lts\.({WORD})[^\n]*\n((?:unfolding[^\n]*\n)*)\2((?: [^=\n]+?)?) =(.*)$", sig, re.S)
+            if not parts:
+                said.append(f"{m}: odd: {sig[:100]}")
+                answers.append(sig + "\n")
+                continue
+            comment, name, kind, unfolding, ps, body = parts.groups()
+            ps = ps.split()
+            if kind.startswith("Need-"):
+                got = needs.get(norm(kind[5:]))
+                if not got:
+                    said.append(f"{m}: goal {kind} is gone")
+                    continue
+                new, place = got
+                if ps not in (["c"], ["c", "κs"]):
+                    said.append(f"{m}: {name}: parameters {ps}")
+                body = f.body(place, body)
+                if TRIVIAL.match(body.strip()) and not unfolding:
+                    continue
+                more = "".join(f" {q}" for q in ps[1:] if q != "κs")
+                body = body if body[:1] in (" ", "\n") else " " + body
+                answers.append(f"{comment}pub {m}-{new} : goal.{m}-{new}\n{unfolding}{m}-{new} t c{more} ={body}\n")
+            else:
+                what, loop = kind.split("-", 1)
+                got = loops.get(norm(loop))
+                if not got:
+                    said.append(f"{m}: loop {kind} is gone")
+                    continue
+                new, variables, changed = got
+                now = [v for v, c in zip(variables, changed) if c]
+                if len(ps) != len(variables) + len(now):
+                    said.append(f"{m}: {name}: {len(ps)} parameters, {variables} {now}")
+                values = [f"l.initial.{v}" if c else f"l.{v}" for v, c in zip(variables, changed)] + [f"l.{v}" for v in now]
+                table = {p: v for p, v in zip(ps, values) if p != "_"}
+                body = re.sub(rf"(?<![^\s(){{}};,@«»])({WORD})", lambda k: table.get(k[1], k[1]), body)
+                invariants.append(f"{comment}abbrev pub {what}-{m}-{new} : goal.{what}-{m}-{new}\n{unfolding}{what}-{m}-{new} l ={body}\n")
+        said += [f"{m}: {s}" for s in f.said]
+    own = one_use(uses)
+    write(f"{base}/Invariants.antt", title, own + [f"use {module}.Given as goal"], invariants)
+    write(f"{base}/Answers.antt", title, own + [f"use {module}.Goals as goal"], answers)
+    for file in os.listdir(f"{base}/Proof"):
+        os.remove(f"{base}/Proof/{file}")
+    os.rmdir(f"{base}/Proof")
+    os.remove(f"{base}/Proof.antt")
+    return said
+
+
+def one_use(lines):
+    """The use lines, one for each module."""
+    table, plain = {}, []
+    for l in lines:
+        m = re.match(r"use (\S+)\.\{(.*)\}$", l)
+        if not m:
+            plain += [l] if l not in plain else []
+            continue
+        have = table.setdefault(m[1], [])
+        have += [n for n in m[2].split(", ") if n not in have]
+    return [f"use {k}.{{{', '.join(v)}}}" for k, v in table.items()] + plain
+
+
 def what_name(kind, new):
     return f"{kind}-{new}"
 
@@ -317,7 +419,8 @@ def main(crate, names, *folders):
     if not folders:
         folders = sorted(os.path.relpath(d, top) for d, _, fs in os.walk(top) if "Proof.antt" in fs)
     for folder in folders:
-        for said in Function(table, crate, folder).turn():
+        cycle = os.path.exists(f"{top}/{folder}/Proof/Calls.antt")
+        for said in turn_cycle(table, crate, folder) if cycle else Function(table, crate, folder).turn():
             print(f"{folder}: {said}")
 
 

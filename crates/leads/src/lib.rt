@@ -1,4 +1,6 @@
 // What is known of every match of a pattern before a line is looked at: the bytes that it can begin with, as a range, and a byte that it has.
+#![tactic(auto)]
+
 ghost use Rattle.std.specs.Prelude.{◌≡◌, ◌≤◌, length};
 ghost use Rattle.definitions.specs.Patterns.{Pattern};
 ghost use Rattle.marks.specs.Sweeping.{Reads};

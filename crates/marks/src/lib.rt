@@ -1,4 +1,6 @@
 // How a byte of the line moves the marks of a pattern: one walk over the pattern's bytes, from the left.
+#![tactic(auto)]
+
 pub mod idle;
 
 ghost use Rattle.std.specs.Prelude.{◌≡◌, false, cond, ◌++◌, ℕ, ◌≤◌, ◌<◌, min, length, drop};

@@ -1,4 +1,6 @@
 // A byte that every match of a pattern has, and whether a line lacks it.
+#![tactic(auto)]
+
 ghost use Rattle.std.specs.Prelude.{◌≡◌, false, ℕ, ◌≤◌, length};
 ghost use Rattle.definitions.specs.WordSet.{Named};
 ghost use Rattle.definitions.specs.Reader.{is_next};

@@ -1,4 +1,6 @@
 // Patterns, for the qualifier R: is a string one, or which byte cannot stand in it. All of the string is the pattern.
+#![tactic(auto)]
+
 pub mod bytes;
 
 ghost use Rattle.std.specs.Prelude.{◌≡◌, ◌||◌, suc, ◌+◌, ◌≤◌, ◌<◌, length};

@@ -1,8 +1,6 @@
 -- `patterns::after_plain` meets its contract. Assumes nothing.
 use mathlib.Core.Path.{sym, ◌∙◌}
 use native.Mathlib.Omega.{arith}
-use borrow.Author.Rules.{rules}
-use borrow.Author.Tests.{not-true, not-false}
 use Rattle.patterns.proofs.Places.{next-within}
 use Rattle.patterns.proofs.Characters.{plain-alone, plain-no-range, plain-range}
 use Rattle.patterns.proofs.after_plain.Goals as goal

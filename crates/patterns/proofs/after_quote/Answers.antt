@@ -1,6 +1,5 @@
 -- `patterns::after_quote` meets its contract. Assumes nothing.
 use native.Mathlib.Omega.{arith}
-use borrow.Author.Rules.{rules}
 use Rattle.patterns.proofs.Characters.{quote-none, quote-some}
 use Rattle.patterns.proofs.after_quote.Goals as goal
 

@@ -1,7 +1,6 @@
 -- `patterns::character` meets its contract. Assumes nothing.
 use mathlib.Core.Path.{sym, ◌∙◌}
 use native.Mathlib.Omega.{arith}
-use borrow.Author.Rules.{rules}
 use Rattle.patterns.proofs.Characters.{character-none, character-quoted, character-sign, character-plain}
 use Rattle.patterns.proofs.character.Goals as goal
 

@@ -1,7 +1,6 @@
 -- `patterns::close_bracket` meets its contract. Assumes nothing.
 use mathlib.Core.Path.{sym, ◌∙◌}
 use native.Mathlib.Omega.{arith}
-use borrow.Author.Tests.{not-true, not-false}
 use Rattle.patterns.proofs.Places.{next-within}
 use Rattle.patterns.proofs.Closing.{not-closed, closed-blank, closed}
 use Rattle.patterns.proofs.close_bracket.Goals as goal

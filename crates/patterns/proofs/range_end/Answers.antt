@@ -1,7 +1,6 @@
 -- `patterns::range_end` meets its contract. Assumes nothing.
 use mathlib.Core.Path.{sym, ◌∙◌}
 use native.Mathlib.Omega.{arith}
-use borrow.Author.Rules.{rules}
 use Rattle.patterns.proofs.Characters.{range_none, range-is, range_other}
 use Rattle.patterns.proofs.range_end.Goals as goal
 

@@ -1,5 +1,4 @@
 -- `patterns::read` meets its contract. Assumes nothing.
-use borrow.Author.Rules.{rules}
 use Rattle.patterns.proofs.Whole.{whole-fault, something-left, all-blank, is-pattern}
 use Rattle.patterns.proofs.read.Goals as goal
 

@@ -1,7 +1,6 @@
 -- `patterns::single` meets its contract. Assumes nothing.
 use mathlib.Core.Path.{sym, ◌∙◌}
 use native.Mathlib.Omega.{arith}
-use borrow.Author.Rules.{rules}
 use Rattle.patterns.proofs.Places.{next-within}
 use Rattle.patterns.proofs.Characters.{single-mismatch, single-match}
 use Rattle.patterns.proofs.single.Goals as goal

@@ -1,7 +1,6 @@
 -- `patterns::bytes::ends_row` meets its contract. Assumes nothing.
 use mathlib.Core.Path.{sym}
 use native.Mathlib.Omega.{arith}
-use borrow.Author.Rules.{rules}
 use Rattle.patterns.proofs.Places.{row_ends, row-ends-by}
 use Rattle.patterns.proofs.bytes.ends_row.Goals as goal
 

@@ -1,7 +1,6 @@
 -- `patterns::bytes::is_next` meets its contract. Assumes nothing.
 use mathlib.Core.Path.{sym}
 use native.Mathlib.Omega.{arith}
-use borrow.Author.Rules.{rules}
 use Rattle.patterns.proofs.Places.{none-next, is-next}
 use Rattle.patterns.proofs.bytes.is_next.Goals as goal
 
