@@ -1,4 +1,6 @@
 // Whether a journal can be joined and turned round: bytes that are a journal, arranged, with at most 65,535 lines on either side (document 02, wish 7).
+#![tactic(auto)]
+
 ghost use Rattle.std.specs.Prelude.{◌≡◌, List};
 ghost use Rattle.std.proofs.Math.Option.{some};
 ghost use Rattle.definitions.specs.Journal.{Record, records_of};

@@ -1,4 +1,6 @@
 // Two journals gone through by the lines of the middle table: the first journal's new side, the second's old side.
+#![tactic(auto)]
+
 ghost use Rattle.std.specs.Prelude.{◌≡◌, ◌-◌, ◌<◌, ◌≤◌, length};
 ghost use Rattle.definitions.specs.Bytes.{eq_line};
 ghost use Rattle.text.specs.Lines.{part};

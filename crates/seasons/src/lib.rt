@@ -1,4 +1,6 @@
 // One journal for two seasons: of a journal from old to middle and one from middle to new that from old to new (document 02, wish 7).
+#![tactic(auto)]
+
 mod measure;
 mod write;
 

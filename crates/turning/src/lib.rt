@@ -1,5 +1,7 @@
 // A journal turned round (document 02, wish 7). In an arranged journal a stretch is its `--` records, then its `++` records. Turned round, what came is what
 // leaves, so it is written first; nothing is moved afterwards. A record turned round has its length, so both journals have their stretches at the same places.
+#![tactic(auto)]
+
 ghost use Rattle.std.specs.Prelude.{◌≡◌, true, List, ◌∷◌, ◌+◌, ◌≤◌, length};
 ghost use Rattle.std.proofs.Math.Option.{some};
 ghost use Rattle.definitions.specs.Journal.{Record, record_bytes, record_length, journal_bytes, journal_length, records_of};

@@ -1,6 +1,5 @@
 -- `joinable::came_after` meets its contract. By the mark. Assumes nothing.
 use Rattle.joinable.specs.Joinable.{came_after}
-use borrow.Author.Rules.{rules}
 use Rattle.joinable.proofs.came_after.Goals as goal
 
 pub returns-in-Kept : goal.returns-in-Kept

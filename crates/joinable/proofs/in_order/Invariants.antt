@@ -1,12 +1,7 @@
 -- `joinable::in_order` meets its contract. The loop's invariant is `Ordered`. Assumes nothing.
-use mathlib.Core.Path.{sym, ap, ◌∙◌}
-use mathlib.Core.Bool.{◌&&◌}
 use Prim.Native.Nat.{◌-◌, ◌≤◌}
-use native.Mathlib.Omega.{arith}
-use borrow.Author.Rules.{rules}
 use lib.ListN.{length}
-use Rattle.journal.proofs.Here.{ends-after}
-use Rattle.joinable.proofs.Order.{Ordered, ordered-start, ordered-nowhere, ordered_end, ordered-wrong, ordered-next}
+use Rattle.joinable.proofs.Order.{Ordered}
 use Rattle.joinable.proofs.in_order.Given as goal
 
 abbrev pub invariant-loop-at : goal.invariant-loop-at

@@ -1,6 +1,5 @@
 -- `joinable::is_left` meets its contract. By the mark. Assumes nothing.
 use Rattle.joinable.specs.Joinable.{is_left}
-use borrow.Author.Rules.{rules}
 use Rattle.joinable.proofs.is_left.Goals as goal
 
 pub returns-in-Kept : goal.returns-in-Kept

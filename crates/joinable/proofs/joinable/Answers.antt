@@ -2,7 +2,6 @@
 use mathlib.Core.Path.{sym, ◌∙◌}
 use native.Mathlib.Omega.{arith}
 use Rattle.joinable.proofs.Taken.{taken_none, taken-records, taken-many, taken-by}
-use borrow.Author.Rules.{rules}
 use Rattle.joinable.proofs.joinable.Goals as goal
 
 pub returns-in_default : goal.returns-in_default
