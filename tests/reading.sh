@@ -19,7 +19,7 @@ while read -r name; do
         theorems/*) crate=theorems module=${module#theorems/} ;;
     esac
     stands "$word" "crates/$crate/specs/$module.antt" "^[^-]*(^|[ (])$word( [^=]*)? :( |\$)"
-done < <(names '(theorems/)?[A-Z][A-Za-z0-9]*\.[A-Za-z][A-Za-z0-9-]*')
+done < <(names '(theorems/)?[A-Z][A-Za-z0-9]*\.[A-Za-z][A-Za-z0-9_-]*')
 
 # functions and types of the code: crate::name, crate::module::name
 while read -r name; do
