@@ -283,7 +283,7 @@ class Function:
                 body = re.sub(rf"(?<![^\s(){{}};,@«»])({WORD})", lambda m: table.get(m[1], m[1]), body)
                 invariants.append(f"{comment}abbrev pub {what_name(kind, new)} : goal.{what_name(kind, new)}\n{unfolding}{what_name(kind, new)} l ={body}\n")
             elif name not in inline:
-                tied = re.findall(rf"tie\.({WORD})((?: (?:invariant|decreases)-loop\S*)*)", sig)
+                tied = re.findall(rf"tie\.({WORD})((?: (?:invariant|decreases)-loop[^\s()]*)*)", sig)
                 for place, rest in tied:
                     match = [p for p in self.new_place if norm(p) == norm(place)]
                     if match:

@@ -1,4 +1,6 @@
 // Which part of a line a pattern takes, found by one walk over the line.
+#![tactic(auto)]
+
 ghost use Rattle.std.specs.Prelude.{◌≡◌, false, cond, ◌≤◌, ◌<◌, length, ltb};
 ghost use Rattle.definitions.specs.Matching.{text, stands_in, taken};
 ghost use Rattle.definitions.specs.Patterns.{Pattern};
