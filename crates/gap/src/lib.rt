@@ -1,4 +1,6 @@
 // A buffer with a gap of zeros: bytes are moved over the gap, which stays zero.
+#![tactic(auto)]
+
 ghost use Rattle.std.specs.Prelude.{◌≡◌, ◌+◌, ◌-◌, ◌≤◌, ◌<◌, length, drop};
 ghost use Rattle.text.specs.Feeds.{line_length, line_start};
 ghost use Rattle.gap.specs.Gap.{ZeroGap, moved_down, moved_up, cleared};

@@ -1,4 +1,6 @@
 // The records of a journal, and its readers: old side, new side and listing.
+#![tactic(auto)]
+
 pub mod marks;
 pub mod measure;
 pub mod records;

@@ -1,4 +1,6 @@
 // Two neighbouring parts of a slice change places, with no memory but the slice.
+#![tactic(auto)]
+
 ghost use Rattle.std.specs.Prelude.{◌≡◌, ◌+◌, ◌≤◌, length};
 ghost use Rattle.rotation.specs.Rotation.{exchanged, rotated};
 

@@ -1,4 +1,6 @@
 // Lines by their first bytes: the next line that begins with a byte, and how far lines go that begin with bytes of one kind.
+#![tactic(auto)]
+
 ghost use Rattle.std.specs.Prelude.{◌≡◌, true, false, ◌+◌, ◌≤◌, length, drop, eqb, leb};
 ghost use Rattle.rows.specs.Rows.{line_where};
 

@@ -1,4 +1,6 @@
 // Scans of a slice: how far the bytes from a place on are of one kind. What the readers of scripts, lines and cases share.
+#![tactic(auto)]
+
 ghost use Rattle.std.specs.Prelude.{◌≡◌, ◌+◌, ◌-◌, ◌≤◌, length, drop, eqb};
 ghost use Rattle.scans.specs.Leading.{leading, is_of};
 

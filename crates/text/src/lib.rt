@@ -1,4 +1,6 @@
 // Bytes and lines: upper case, where a line ends, the forms of tables and scripts, comparing and copying.
+#![tactic(auto)]
+
 pub mod copies;
 pub mod feeds;
 pub mod runs;

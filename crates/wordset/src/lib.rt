@@ -1,4 +1,6 @@
 // Which bytes count for W, as a set in three words: a bit for each byte from 32 to 127.
+#![tactic(auto)]
+
 pub mod beside;
 
 ghost use Rattle.std.specs.Prelude.{◌≡◌, true, [], ◌∷◌, suc, ◌+◌, ◌-◌, ◌≤◌, ◌<◌, length, take, drop, get_or};

@@ -1,10 +1,8 @@
-use mathlib.Core.Path.{◌≡◌, refl}
-use Prim.Native.Nat.{◌+◌, ◌-◌, ◌≤◌, ◌<◌}
-use native.Mathlib.Omega.{arith}
-use lib.ListN.{length, length-set}
-use lib.Seq.{paste, paste-zero}
-use Rattle.gap.specs.Gap.{zeros, cleared}
-use Rattle.gap.proofs.Laws.{clear_step}
+use mathlib.Core.Path.{◌≡◌}
+use Prim.Native.Nat.{◌-◌, ◌≤◌}
+use lib.ListN.{length}
+use lib.Seq.{paste}
+use Rattle.gap.specs.Gap.{zeros}
 use Rattle.gap.proofs.clear.Given as goal
 
 abbrev pub invariant-loop-i : goal.invariant-loop-i

@@ -1,7 +1,6 @@
 -- `gap::shift_down` meets its contract: the bytes are copied down, and those of them that are left are cleared. Assumes nothing.
 use mathlib.Core.Path.{◌∙◌}
 use native.Mathlib.Omega.{arith}
-use borrow.Author.Rules.{rules}
 use Rattle.gap.proofs.Laws.{down-copied}
 use Rattle.gap.proofs.shift_down.Goals as goal
 

@@ -2,7 +2,6 @@
 use Prim.Native.Nat.{◌-◌, ◌≤◌}
 use native.Mathlib.Omega.{arith}
 use lib.ListN.{length, drop, length-drop}
-use borrow.Author.Rules.{rules}
 use Rattle.text.specs.Feeds.{line_length}
 use Rattle.text.proofs.LineFeeds.{line-fits}
 use Rattle.gap.proofs.shift_line_down.Goals as goal

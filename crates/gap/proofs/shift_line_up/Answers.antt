@@ -1,7 +1,6 @@
 -- `gap::shift_line_up` meets its contract. Assumes nothing.
 use Prim.Native.Nat.{◌-◌}
 use native.Mathlib.Omega.{arith}
-use borrow.Author.Rules.{rules}
 use Rattle.text.proofs.LineFeeds.{start_fits}
 use Rattle.gap.proofs.shift_line_up.Goals as goal
 

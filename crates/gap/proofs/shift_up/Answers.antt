@@ -1,7 +1,6 @@
 -- `gap::shift_up` meets its contract: the bytes are copied up, and those of them that are left are cleared. Assumes nothing.
 use mathlib.Core.Path.{◌∙◌}
 use native.Mathlib.Omega.{arith}
-use borrow.Author.Rules.{rules}
 use Rattle.gap.proofs.Laws.{up-copied}
 use Rattle.gap.proofs.shift_up.Goals as goal
 

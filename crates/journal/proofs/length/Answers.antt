@@ -1,6 +1,5 @@
 -- `journal::length` meets its contract. By the answer. Assumes nothing.
 use Rattle.journal.specs.Reading.{reading_length}
-use borrow.Author.Rules.{rules}
 use Rattle.journal.proofs.length.Goals as goal
 
 pub returns-in-Wrote : goal.returns-in-Wrote

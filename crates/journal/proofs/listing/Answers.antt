@@ -1,7 +1,6 @@
 -- `journal::listing` meets its contract. It is what `read` ensures. Assumes nothing.
 use Rattle.definitions.specs.Listing.{listing, listing_to}
 use Rattle.journal.specs.Views.{out_of}
-use borrow.Author.Rules.{rules}
 use Rattle.journal.proofs.listing.Goals as goal
 
 pub returns : goal.returns

@@ -1,7 +1,6 @@
 -- `journal::new_side` meets its contract. It is what `read` ensures. Assumes nothing.
 use Rattle.definitions.specs.Listing.{new_side_to}
 use Rattle.journal.specs.Views.{out_of}
-use borrow.Author.Rules.{rules}
 use Rattle.journal.proofs.new_side.Goals as goal
 
 pub returns : goal.returns

@@ -1,6 +1,5 @@
 -- `journal::number` meets its contract. By the answer. Assumes nothing.
 use Rattle.journal.specs.Reading.{reading_number}
-use borrow.Author.Rules.{rules}
 use Rattle.journal.proofs.number.Goals as goal
 
 pub returns-in-Wrote : goal.returns-in-Wrote

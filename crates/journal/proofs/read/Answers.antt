@@ -1,7 +1,6 @@
 -- `journal::read` meets its contract. One law for each way out. Assumes nothing.
 use mathlib.Core.Path.{sym, ◌∙◌}
 use Rattle.journal.proofs.Answers.{read-malformed, read_short, read-room, read-written}
-use borrow.Author.Rules.{rules}
 use Rattle.journal.proofs.read.Goals as goal
 
 pub returns-in_default : goal.returns-in_default

@@ -1,9 +1,8 @@
 -- `rotation::exchange` meets its contract. The loop's invariant: the first i bytes are exchanged. Assumes nothing.
 use mathlib.Core.Path.{◌≡◌, refl}
-use Prim.Native.Nat.{◌+◌, ◌-◌, ◌≤◌, ◌<◌}
+use Prim.Native.Nat.{◌+◌, ◌<◌}
 use native.Mathlib.Omega.{arith}
 use lib.ListN.{length, length-set}
-use Rattle.rotation.specs.Rotation.{exchanged}
 use Rattle.rotation.proofs.Laws.{exchange-zero, exchange-step}
 use Rattle.rotation.proofs.exchange.Goals as goal
 

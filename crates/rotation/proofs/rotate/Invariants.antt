@@ -1,12 +1,9 @@
 -- `rotation::rotate` meets its contract. The loop's invariant: what is left to do leads to the bytes wanted. Assumes nothing.
-use mathlib.Core.Path.{◌≡◌, refl, ◌∙◌}
+use mathlib.Core.Path.{◌≡◌}
 use mathlib.Core.List.{◌++◌}
-use Prim.Native.Nat.{◌+◌, ◌≤◌}
-use native.Mathlib.Omega.{arith}
-use borrow.Author.Rules.{rules}
-use lib.ListN.{length, take, drop, length-drop}
+use Prim.Native.Nat.{◌+◌}
+use lib.ListN.{length, take, drop}
 use Rattle.rotation.specs.Rotation.{rotated}
-use Rattle.rotation.proofs.Laws.{lent-end, put-end-length, turn-left, turn-right, turns-done, turns-done-left}
 use Rattle.rotation.proofs.rotate.Given as goal
 
 abbrev pub invariant-loop-l : goal.invariant-loop-l

@@ -1,10 +1,8 @@
 -- `rows::begins_in` meets its contract. The loop's invariant: whether it begins after one of the first k bytes. Assumes nothing.
 use mathlib.Core.Path.{◌≡◌, sym}
-use Prim.Native.Nat.{◌-◌, ◌≤◌}
 use native.Mathlib.Omega.{arith}
-use lib.ListN.{drop}
 use lib.Dec.{eqb}
-use Rattle.rows.proofs.Places.{among, among_none, among_next}
+use Rattle.rows.proofs.Places.{among_none, among_next}
 use Rattle.rows.proofs.begins_in.Goals as goal
 
 pub loop-k-init : goal.loop-k-init

@@ -1,10 +1,9 @@
 -- `rows::begins_in` meets its contract. The loop's invariant: whether it begins after one of the first k bytes. Assumes nothing.
-use mathlib.Core.Path.{◌≡◌, sym}
+use mathlib.Core.Path.{◌≡◌}
 use Prim.Native.Nat.{◌-◌, ◌≤◌}
-use native.Mathlib.Omega.{arith}
 use lib.ListN.{drop}
 use lib.Dec.{eqb}
-use Rattle.rows.proofs.Places.{among, among_none, among_next}
+use Rattle.rows.proofs.Places.{among}
 use Rattle.rows.proofs.begins_in.Given as goal
 
 abbrev pub invariant-loop-k : goal.invariant-loop-k

@@ -1,11 +1,8 @@
 -- `rows::by_bytes` meets its contract. The loop's invariant: the next such line from i on is the one from `at` on. Assumes nothing.
-use mathlib.Core.Path.{◌≡◌, refl, sym, ◌∙◌}
-use mathlib.Core.Bool.{false}
-use Prim.Native.Nat.{◌-◌, ◌≤◌}
+use mathlib.Core.Path.{refl, sym, ◌∙◌}
 use native.Mathlib.Omega.{arith}
-use lib.ListN.{length}
 use lib.Dec.{eqb}
-use Rattle.rows.proofs.Places.{next_from, pair-hit, pair-miss, pair-none}
+use Rattle.rows.proofs.Places.{pair-hit, pair-miss, pair-none}
 use Rattle.rows.proofs.by_bytes.Goals as goal
 
 pub loop-i-init : goal.loop-i-init

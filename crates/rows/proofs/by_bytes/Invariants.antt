@@ -1,11 +1,10 @@
 -- `rows::by_bytes` meets its contract. The loop's invariant: the next such line from i on is the one from `at` on. Assumes nothing.
-use mathlib.Core.Path.{◌≡◌, refl, sym, ◌∙◌}
+use mathlib.Core.Path.{◌≡◌}
 use mathlib.Core.Bool.{false}
 use Prim.Native.Nat.{◌-◌, ◌≤◌}
-use native.Mathlib.Omega.{arith}
 use lib.ListN.{length}
 use lib.Dec.{eqb}
-use Rattle.rows.proofs.Places.{next_from, pair-hit, pair-miss, pair-none}
+use Rattle.rows.proofs.Places.{next_from}
 use Rattle.rows.proofs.by_bytes.Given as goal
 
 abbrev pub invariant-loop-i : goal.invariant-loop-i

@@ -1,12 +1,11 @@
 -- `rows::line_with` meets its contract. The loop's invariant: the next such line after place i is the one from `at` on. Assumes nothing.
-use mathlib.Core.Path.{◌≡◌, sym, ◌∙◌}
+use mathlib.Core.Path.{sym, ◌∙◌}
 use mathlib.Core.Bool.{true, false}
-use Prim.Native.Nat.{◌-◌, ◌≤◌}
 use native.Mathlib.Omega.{arith}
-use lib.ListN.{length, get_or}
+use lib.ListN.{get_or}
 use lib.Dec.{eqb}
 use borrow.Author.Tests.{eq-eqb, ne_eqb}
-use Rattle.rows.proofs.Places.{next_from, next_fits, next-none, next_here, next-inside, next-over}
+use Rattle.rows.proofs.Places.{next_fits, next-none, next_here, next-inside, next-over}
 use Rattle.rows.proofs.line_with.Goals as goal
 
 pub returns-then-s-at : goal.returns-then-s-at

@@ -1,12 +1,11 @@
 -- `rows::lines_below` meets its contract. The loop's invariant: the lines from i on end where those from `at` on do. Assumes nothing.
-use mathlib.Core.Path.{◌≡◌, refl, sym, ◌∙◌}
+use mathlib.Core.Path.{refl, sym, ◌∙◌}
 use mathlib.Core.Bool.{true}
-use Prim.Native.Nat.{◌-◌, ◌≤◌}
 use native.Mathlib.Omega.{arith}
-use lib.ListN.{length, get_or}
+use lib.ListN.{get_or}
 use lib.Dec.{leb}
 use borrow.Author.Tests.{le-leb, lt-leb}
-use Rattle.rows.proofs.Places.{next_from, next_here, next-line, next-none}
+use Rattle.rows.proofs.Places.{next_here, next-line, next-none}
 use Rattle.rows.proofs.lines_below.Goals as goal
 
 pub loop-i-init : goal.loop-i-init

@@ -1,12 +1,8 @@
 -- `scans::eight_are_of` meets its contract. The loop's invariant: whether the first k bytes are all of the kind. Assumes nothing.
-use mathlib.Core.Path.{◌≡◌, sym, ◌∙◌}
-use mathlib.Core.Bool.{◌&&◌}
-use Prim.Native.Nat.{◌-◌, ◌≤◌}
+use mathlib.Core.Path.{◌≡◌, sym}
 use native.Mathlib.Omega.{arith}
-use lib.ListN.{drop}
-use borrow.Author.Rules.{rules}
 use Rattle.scans.specs.Leading.{is_of}
-use Rattle.scans.proofs.Runs.{all_pass, pass-none, pass-next}
+use Rattle.scans.proofs.Runs.{pass-none, pass-next}
 use Rattle.scans.proofs.eight_are_of.Goals as goal
 
 pub loop-k-init : goal.loop-k-init

@@ -1,12 +1,9 @@
 -- `scans::eight_are_of` meets its contract. The loop's invariant: whether the first k bytes are all of the kind. Assumes nothing.
-use mathlib.Core.Path.{◌≡◌, sym, ◌∙◌}
-use mathlib.Core.Bool.{◌&&◌}
+use mathlib.Core.Path.{◌≡◌}
 use Prim.Native.Nat.{◌-◌, ◌≤◌}
-use native.Mathlib.Omega.{arith}
 use lib.ListN.{drop}
-use borrow.Author.Rules.{rules}
 use Rattle.scans.specs.Leading.{is_of}
-use Rattle.scans.proofs.Runs.{all_pass, pass-none, pass-next}
+use Rattle.scans.proofs.Runs.{all_pass}
 use Rattle.scans.proofs.eight_are_of.Given as goal
 
 abbrev pub invariant-loop-k : goal.invariant-loop-k

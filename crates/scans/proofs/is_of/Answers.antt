@@ -1,6 +1,5 @@
 use borrow.Author.Tests.{eq-eqb, ne_eqb}
 use Rattle.scans.specs.Leading.{is_of}
-use borrow.Author.Rules.{rules}
 use Rattle.scans.proofs.is_of.Goals as goal
 
 pub returns-in-Only : goal.returns-in-Only

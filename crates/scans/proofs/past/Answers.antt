@@ -1,10 +1,7 @@
-use mathlib.Core.Path.{◌≡◌, sym, ◌∙◌}
-use Prim.Native.Nat.{◌-◌, ◌≤◌}
+use mathlib.Core.Path.{sym, ◌∙◌}
 use native.Mathlib.Omega.{arith}
-use borrow.Author.Rules.{rules}
-use borrow.Author.Tests.{not-true, not-false}
 use Rattle.scans.specs.Leading.{is_of}
-use Rattle.scans.proofs.Runs.{reach, reach-end, reach-stop, reach-on}
+use Rattle.scans.proofs.Runs.{reach-end, reach-stop, reach-on}
 use Rattle.scans.proofs.past.Goals as goal
 
 pub returns-then-not-is_of : goal.returns-then-not-is_of

@@ -1,10 +1,7 @@
-use mathlib.Core.Path.{◌≡◌, sym, ◌∙◌}
+use mathlib.Core.Path.{◌≡◌}
 use Prim.Native.Nat.{◌-◌, ◌≤◌}
-use native.Mathlib.Omega.{arith}
-use borrow.Author.Rules.{rules}
-use borrow.Author.Tests.{not-true, not-false}
 use Rattle.scans.specs.Leading.{is_of}
-use Rattle.scans.proofs.Runs.{reach, reach-end, reach-stop, reach-on}
+use Rattle.scans.proofs.Runs.{reach}
 use Rattle.scans.proofs.past.Given as goal
 
 abbrev pub invariant-loop-i : goal.invariant-loop-i

@@ -1,12 +1,8 @@
 -- `scans::past_long` meets its contract. The loop's invariant: the run from place i ends where the one from the start does. Assumes nothing.
-use mathlib.Core.Path.{◌≡◌, refl, sym, ◌∙◌}
-use Prim.Native.Nat.{◌+◌, ◌-◌, ◌≤◌}
-use mathlib.Core.Logic.{⊎_elim}
+use mathlib.Core.Path.{refl, sym, ◌∙◌}
 use native.Mathlib.Omega.{arith}
-use borrow.Author.Rules.{rules}
-use borrow.Author.Tests.{not-false}
 use Rattle.scans.specs.Leading.{is_of}
-use Rattle.scans.proofs.Runs.{reach, reach-over}
+use Rattle.scans.proofs.Runs.{reach-over}
 use Rattle.scans.proofs.past_long.Goals as goal
 use Rattle.scans.proofs.past_long.Goals.{then-end-ge8+else-loop-i-test, then-end-ge8+then-loop-i-test+then-not-eight_are_of, else-end-ge8}
 

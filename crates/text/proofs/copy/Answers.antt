@@ -1,5 +1,5 @@
 -- `text::copy` meets its contract: a whole copy. Assumes nothing.
-use Rattle.std.proofs.Common.{◌∙◌, rules}
+use Rattle.std.proofs.Common.{◌∙◌}
 use Rattle.text.proofs.Buffer.{laid-paste}
 use Rattle.text.proofs.copy.Goals as goal
 

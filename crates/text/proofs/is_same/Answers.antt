@@ -1,4 +1,4 @@
-use Rattle.std.proofs.Common.{sym, length-take-le, rules}
+use Rattle.std.proofs.Common.{sym, length-take-le}
 use Rattle.text.proofs.is_same.Goals as goal
 
 pub slice_bounds-same-end-2 : goal.slice_bounds-same-end-2

@@ -1,5 +1,5 @@
 -- `text::is_script` meets its contract. One law for each way out. Assumes nothing.
-use Rattle.std.proofs.Common.{sym, ◌∙◌, arith, rules}
+use Rattle.std.proofs.Common.{sym, ◌∙◌, arith}
 use Rattle.text.proofs.Forms.{script-long, script-lines, script-not}
 use Rattle.text.proofs.is_script.Goals as goal
 

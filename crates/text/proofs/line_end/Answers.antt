@@ -1,5 +1,5 @@
 -- `text::line_end` meets its contract: the first byte that is not text ends the line, or none does. Assumes nothing.
-use Rattle.std.proofs.Common.{◌+◌, sym, arith, rules}
+use Rattle.std.proofs.Common.{◌+◌, sym, arith}
 use Rattle.text.proofs.Ends.{end-outside, end-at, end-other, end-stop}
 use Rattle.text.proofs.line_end.Goals as goal
 

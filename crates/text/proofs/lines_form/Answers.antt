@@ -1,8 +1,7 @@
 -- `text::lines_form` meets its contract. The loop's invariant: the form of all is that of what is left, after `n` lines. Assumes nothing.
-use Rattle.std.proofs.Common.{◌≡◌, ◌-◌, ◌≤◌, length, drop, sym, ◌∙◌, arith, rules}
-use Rattle.text.specs.Lines.{lines_form}
+use Rattle.std.proofs.Common.{sym, ◌∙◌, arith}
 use Rattle.text.proofs.Ends.{ended}
-use Rattle.text.proofs.Forms.{form_after, form-start, form-step, form-bad, form-end}
+use Rattle.text.proofs.Forms.{form-start, form-step, form-bad, form-end}
 use Rattle.text.proofs.lines_form.Goals as goal
 
 pub loop-at-init : goal.loop-at-init

@@ -1,8 +1,7 @@
 -- `text::lines_form` meets its contract. The loop's invariant: the form of all is that of what is left, after `n` lines. Assumes nothing.
-use Rattle.std.proofs.Common.{◌≡◌, ◌-◌, ◌≤◌, length, drop, sym, ◌∙◌, arith, rules}
+use Rattle.std.proofs.Common.{◌≡◌, ◌-◌, ◌≤◌, length, drop}
 use Rattle.text.specs.Lines.{lines_form}
-use Rattle.text.proofs.Ends.{ended}
-use Rattle.text.proofs.Forms.{form_after, form-start, form-step, form-bad, form-end}
+use Rattle.text.proofs.Forms.{form_after}
 use Rattle.text.proofs.lines_form.Given as goal
 
 abbrev pub invariant-loop-at : goal.invariant-loop-at

@@ -1,7 +1,6 @@
 -- `text::same` meets its contract. The loop's invariant: the two are equal if they are from `i` on. Assumes nothing.
-use Rattle.std.proofs.Common.{◌≡◌, ◌-◌, length, drop, sym, refl, ◌∙◌, arith}
+use Rattle.std.proofs.Common.{◌≡◌, ◌-◌, length, drop}
 use Rattle.definitions.specs.Bytes.{eq_line}
-use Rattle.text.proofs.Forms.{same-all, same_next, same_not, length-not}
 use Rattle.text.proofs.same.Given as goal
 
 abbrev pub invariant-loop-i : goal.invariant-loop-i

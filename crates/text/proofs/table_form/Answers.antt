@@ -1,5 +1,5 @@
 -- `text::table_form` meets its contract. One law for each way out. Assumes nothing.
-use Rattle.std.proofs.Common.{sym, ◌∙◌, rules}
+use Rattle.std.proofs.Common.{sym, ◌∙◌}
 use Rattle.text.proofs.Forms.{table-lines, table-many, table-not}
 use Rattle.text.proofs.table_form.Goals as goal
 

@@ -1,9 +1,7 @@
 -- `wordset::decode` meets its contract. The loop's invariant: the string is read up to i. Assumes nothing.
 use mathlib.Core.Path.{sym, ◌∙◌}
-use Prim.Native.Nat.{◌-◌}
 use native.Mathlib.Omega.{arith}
-use borrow.Author.Rules.{rules}
-use Rattle.wordset.proofs.Reading.{ReadTo, read_none, put-over, put-length, read_all, misused-within, read-misused, bytes-text, bytes-within, read-on}
+use Rattle.wordset.proofs.Reading.{read_none, put-over, put-length, read_all, misused-within, read-misused, bytes-text, bytes-within, read-on}
 use Rattle.wordset.proofs.decode.Goals as goal
 
 pub loop-i-init : goal.loop-i-init

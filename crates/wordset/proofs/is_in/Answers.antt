@@ -4,7 +4,6 @@ use Prim.Native.Nat.{ℕ, ◌-◌, ◌/◌, ◌%◌}
 use native.Mathlib.Nat.{zero-add}
 use native.Mathlib.Omega.{arith}
 use lib.ListN.{get_or}
-use borrow.Author.Rules.{rules}
 use Rattle.wordset.specs.Sets.{has_bit}
 use Rattle.wordset.proofs.Setting.{in-below, in-beyond, in-range}
 use Rattle.wordset.proofs.is_in.Goals as goal

@@ -1,7 +1,6 @@
 -- `wordset::name_at` meets its contract: one law for each way out. Assumes nothing.
 use mathlib.Core.Path.{sym, ◌∙◌}
 use native.Mathlib.Omega.{arith}
-use borrow.Author.Rules.{rules}
 use Rattle.wordset.proofs.Naming.{quoted-none, quoted-some, first-minus, plain-last, plain_byte, range_none, range-some, range_other}
 use Rattle.wordset.proofs.name_at.Goals as goal
 

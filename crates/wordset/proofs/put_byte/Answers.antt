@@ -1,7 +1,6 @@
 -- `wordset::put_byte` meets its contract. Assumes nothing.
 use Prim.Native.Nat.{◌%◌}
 use native.Mathlib.Omega.{arith}
-use borrow.Author.Rules.{rules}
 use Rattle.wordset.proofs.Bits.{shifted}
 use Rattle.wordset.proofs.put_byte.Goals as goal
 

@@ -1,11 +1,8 @@
 -- `wordset::put_bytes` meets its contract. The loop's invariant: with the bytes from b on added it is as with all of them. Assumes nothing.
-use mathlib.Core.Path.{◌≡◌, refl, sym, ap, ◌∙◌}
-use mathlib.Core.List.{List}
-use Prim.Native.Nat.{ℕ, suc, ◌+◌, ◌-◌, ◌≤◌}
-use native.Mathlib.Omega.{arith}
-use lib.ListN.{length, length-set}
+use mathlib.Core.Path.{◌≡◌}
+use Prim.Native.Nat.{suc, ◌-◌, ◌≤◌}
+use lib.ListN.{length}
 use Rattle.wordset.specs.Decoding.{with_bytes}
-use Rattle.wordset.proofs.Setting.{bytes_on, bytes-none}
 use Rattle.wordset.proofs.put_bytes.Given as goal
 
 abbrev pub invariant-loop-b : goal.invariant-loop-b

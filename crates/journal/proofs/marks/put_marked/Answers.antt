@@ -1,6 +1,5 @@
 -- `journal::marks::put_marked` meets its contract. The mark, then the line. Assumes nothing.
 use native.Mathlib.Omega.{arith}
-use borrow.Author.Rules.{rules}
 use Rattle.text.specs.Lines.{part}
 use Rattle.text.proofs.Parts.{part_length}
 use Rattle.journal.proofs.Writing.{marked-done}

@@ -1,14 +1,8 @@
 -- `journal::measure::check` meets its contract. The loop's invariant: the verdict on all is that on what is left, with `m` measured. Assumes nothing.
-use mathlib.Core.Path.{◌≡◌, sym, ◌∙◌}
-use Prim.Native.Nat.{◌-◌, ◌≤◌}
+use mathlib.Core.Path.{sym, ◌∙◌}
 use native.Mathlib.Omega.{arith}
-use borrow.Author.Rules.{rules}
-use lib.ListN.{length, drop}
-use Rattle.definitions.specs.Journal.{records_of}
-use Rattle.journal.specs.Records.{records_from}
-use Rattle.journal.specs.Measuring.{AtMost, checked}
 use Rattle.journal.proofs.Here.{here, in_order, found-again, ends-after}
-use Rattle.journal.proofs.Measures.{checked_from, nothing-small, counted-small, check-start, check-nowhere, check-equal, check-step, check-end, verdict-good, verdict-bad}
+use Rattle.journal.proofs.Measures.{nothing-small, counted-small, check-start, check-nowhere, check-equal, check-step, check-end, verdict-good, verdict-bad}
 use Rattle.journal.proofs.measure.check.Goals as goal
 
 pub loop-at-init : goal.loop-at-init

@@ -1,14 +1,11 @@
 -- `journal::measure::check` meets its contract. The loop's invariant: the verdict on all is that on what is left, with `m` measured. Assumes nothing.
-use mathlib.Core.Path.{◌≡◌, sym, ◌∙◌}
+use mathlib.Core.Path.{◌≡◌}
 use Prim.Native.Nat.{◌-◌, ◌≤◌}
-use native.Mathlib.Omega.{arith}
-use borrow.Author.Rules.{rules}
 use lib.ListN.{length, drop}
 use Rattle.definitions.specs.Journal.{records_of}
 use Rattle.journal.specs.Records.{records_from}
 use Rattle.journal.specs.Measuring.{AtMost, checked}
-use Rattle.journal.proofs.Here.{here, in_order, found-again, ends-after}
-use Rattle.journal.proofs.Measures.{checked_from, nothing-small, counted-small, check-start, check-nowhere, check-equal, check-step, check-end, verdict-good, verdict-bad}
+use Rattle.journal.proofs.Measures.{checked_from}
 use Rattle.journal.proofs.measure.check.Given as goal
 
 abbrev pub invariant-loop-at : goal.invariant-loop-at

@@ -3,7 +3,6 @@ use mathlib.Core.Path.{ap, ◌∙◌}
 use native.Mathlib.Omega.{arith}
 use Rattle.journal.specs.Measuring.{span_lines, span_length, with_record}
 use Rattle.journal.proofs.Measures.{counted-small, counted_is}
-use borrow.Author.Rules.{rules}
 use Rattle.journal.proofs.measure.count.Goals as goal
 
 pub overflow_add-result : goal.overflow_add-result

@@ -1,7 +1,6 @@
 -- `journal::measure::fits` meets its contract. By the view. Assumes nothing.
 use mathlib.Core.Path.{◌∙◌}
 use Rattle.journal.specs.Measuring.{length_by}
-use borrow.Author.Rules.{rules}
 use Rattle.journal.proofs.measure.fits.Goals as goal
 
 pub returns-in-OldSide : goal.returns-in-OldSide

@@ -2,7 +2,6 @@
 use mathlib.Core.Path.{sym}
 use native.Mathlib.Omega.{arith}
 use Rattle.journal.proofs.Measures.{room-enough, room-lacking}
-use borrow.Author.Rules.{rules}
 use Rattle.journal.proofs.measure.listing_room.Goals as goal
 
 pub returns-then-size-shown : goal.returns-then-size-shown

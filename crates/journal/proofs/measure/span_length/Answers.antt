@@ -1,7 +1,6 @@
 -- `journal::measure::span_length` meets its contract. By the span. Assumes nothing.
 use native.Mathlib.Omega.{arith}
 use Rattle.journal.specs.Measuring.{span_length}
-use borrow.Author.Rules.{rules}
 use Rattle.journal.proofs.measure.span_length.Goals as goal
 
 pub returns-then-from-to : goal.returns-then-from-to

@@ -1,6 +1,5 @@
 -- `journal::measure::span_lines` meets its contract. By the span. Assumes nothing.
 use Rattle.journal.specs.Measuring.{span_lines}
-use borrow.Author.Rules.{rules}
 use Rattle.journal.proofs.measure.span_lines.Goals as goal
 
 pub returns-in-Bytes : goal.returns-in-Bytes

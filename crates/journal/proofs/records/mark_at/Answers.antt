@@ -2,7 +2,6 @@
 use mathlib.Core.Path.{sym, ◌∙◌}
 use native.Mathlib.Omega.{arith}
 use Rattle.journal.proofs.Places.{mark-none, mark-one, mark-two}
-use borrow.Author.Rules.{rules}
 use Rattle.journal.proofs.records.mark_at.Goals as goal
 
 pub returns-then-j-at : goal.returns-then-j-at

@@ -1,6 +1,5 @@
 use borrow.Author.Tests.{ne_eqb}
 use Rattle.journal.specs.Records.{mark_of}
-use borrow.Author.Rules.{rules}
 use Rattle.journal.proofs.records.mark_of.Goals as goal
 
 pub returns-in-61 : goal.returns-in-61

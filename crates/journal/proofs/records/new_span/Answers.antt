@@ -1,5 +1,4 @@
 use Rattle.journal.specs.Records.{new_span}
-use borrow.Author.Rules.{rules}
 use Rattle.journal.proofs.records.new_span.Goals as goal
 
 pub returns-in-Kept : goal.returns-in-Kept

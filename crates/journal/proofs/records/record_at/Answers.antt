@@ -4,7 +4,6 @@ use mathlib.Core.Path.{sym, ◌∙◌}
 use native.Mathlib.Omega.{arith}
 use Rattle.text.proofs.Ends.{ended}
 use Rattle.journal.proofs.Places.{mark-there, no-mark, no-first, no_second, found-kept, found-changed, found-deleted, found-inserted}
-use borrow.Author.Rules.{rules}
 use Rattle.journal.proofs.records.record_at.Goals as goal
 
 pub returns-in_default : goal.returns-in_default

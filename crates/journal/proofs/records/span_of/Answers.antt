@@ -1,7 +1,6 @@
 -- `journal::records::span_of` meets its contract. By the view. Assumes nothing.
 use mathlib.Core.Path.{◌∙◌}
 use Rattle.journal.specs.Records.{view_span}
-use borrow.Author.Rules.{rules}
 use Rattle.journal.proofs.records.span_of.Goals as goal
 
 pub returns-in-OldSide : goal.returns-in-OldSide

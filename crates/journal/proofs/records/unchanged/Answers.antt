@@ -2,7 +2,6 @@
 use mathlib.Core.Path.{◌∙◌}
 use native.Mathlib.Omega.{arith}
 use Rattle.journal.proofs.Here.{here, changed-last, equal-kept, equal-changed, equal-deleted, equal-inserted}
-use borrow.Author.Rules.{rules}
 use Rattle.journal.proofs.records.unchanged.Goals as goal
 
 pub overflow_add-from : goal.overflow_add-from

@@ -1,7 +1,6 @@
 -- `journal::write::column` meets its contract. By the test. Assumes nothing.
 use borrow.Author.Tests.{lt-ltb, le-ltb}
 use Rattle.journal.specs.Views.{column_of}
-use borrow.Author.Rules.{rules}
 use Rattle.journal.proofs.write.column.Goals as goal
 
 pub returns-then-n-unit : goal.returns-then-n-unit

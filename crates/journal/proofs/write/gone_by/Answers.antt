@@ -1,6 +1,5 @@
 -- `journal::write::gone_by` meets its contract. By the mark. Assumes nothing.
 use Rattle.journal.specs.Views.{gone_by}
-use borrow.Author.Rules.{rules}
 use Rattle.journal.proofs.write.gone_by.Goals as goal
 
 pub returns-in-Kept : goal.returns-in-Kept

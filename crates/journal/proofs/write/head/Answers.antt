@@ -1,7 +1,6 @@
 -- `journal::write::head` meets its contract. By the mark. Assumes nothing.
 use mathlib.Core.Path.{◌∙◌}
 use Rattle.journal.specs.Views.{head_of}
-use borrow.Author.Rules.{rules}
 use Rattle.journal.proofs.write.head.Goals as goal
 
 pub returns-in-Kept : goal.returns-in-Kept

@@ -1,6 +1,5 @@
 -- `journal::write::original` meets its contract. Column by column. Assumes nothing.
 use Rattle.journal.specs.Views.{original_head}
-use borrow.Author.Rules.{rules}
 use Rattle.journal.proofs.write.original.Goals as goal
 
 pub returns : goal.returns

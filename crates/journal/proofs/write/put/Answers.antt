@@ -3,7 +3,6 @@ use mathlib.Core.Path.{sym, ◌∙◌}
 use native.Mathlib.Omega.{arith}
 use Rattle.journal.proofs.Here.{here, in_order}
 use Rattle.journal.proofs.Writing.{span-within, put-none, put-head-room, put-line-room, put_next, put-done}
-use borrow.Author.Rules.{rules}
 use Rattle.journal.proofs.write.put.Goals as goal
 
 pub span_of-span-requires : goal.span_of-span-requires

@@ -1,6 +1,5 @@
 -- `journal::write::put_head` meets its contract. By the view. Assumes nothing.
 use Rattle.journal.proofs.Writing.{head-old, head-new, head-room, head-listing}
-use borrow.Author.Rules.{rules}
 use Rattle.journal.proofs.write.put_head.Goals as goal
 
 pub copy-requires : goal.copy-requires

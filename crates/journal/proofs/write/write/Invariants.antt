@@ -1,11 +1,8 @@
 -- `journal::write::write` meets its contract. The loop's invariant is `Going`. Assumes nothing.
-use mathlib.Core.Path.{◌≡◌, refl, sym, ◌∙◌}
+use mathlib.Core.Path.{◌≡◌}
 use Prim.Native.Nat.{◌-◌, ◌≤◌}
-use native.Mathlib.Omega.{arith}
-use borrow.Author.Rules.{rules}
 use lib.ListN.{length}
-use Rattle.journal.proofs.Here.{here, found-again, ends-after}
-use Rattle.journal.proofs.Going.{Going, going_start, going-few, going-room, going-nowhere, going_next, going_end}
+use Rattle.journal.proofs.Going.{Going}
 use Rattle.journal.proofs.write.write.Given as goal
 
 abbrev pub invariant-loop-at : goal.invariant-loop-at

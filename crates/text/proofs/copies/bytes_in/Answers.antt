@@ -1,5 +1,5 @@
-use Rattle.std.proofs.Common.{◌≡◌, ◌+◌, ◌-◌, ◌<◌, ◌≤◌, length, drop, refl, arith, length-set}
-use lib.Seq.{paste, paste-zero}
+use Rattle.std.proofs.Common.{◌≡◌, ◌+◌, ◌<◌, ◌≤◌, length, drop, refl, arith, length-set}
+use lib.Seq.{paste-zero}
 use Rattle.text.proofs.Pastes.{copy_step}
 use Rattle.text.proofs.copies.bytes_in.Goals as goal
 

@@ -1,6 +1,5 @@
-use Rattle.std.proofs.Common.{◌≡◌, ◌+◌, ◌-◌, ◌<◌, ◌≤◌, length, drop, refl, arith, length-set}
-use lib.Seq.{paste, paste-zero}
-use Rattle.text.proofs.Pastes.{copy_step}
+use Rattle.std.proofs.Common.{◌≡◌, ◌-◌, ◌≤◌, length, drop}
+use lib.Seq.{paste}
 use Rattle.text.proofs.copies.bytes_in.Given as goal
 
 abbrev pub invariant-loop-i : goal.invariant-loop-i

@@ -1,6 +1,6 @@
 -- `text::copies::copy_in` meets its contract. The loop's invariant: the first i bytes are copied. Assumes nothing.
-use Rattle.std.proofs.Common.{◌≡◌, ◌-◌, ◌≤◌, length, drop, refl, ◌∙◌, arith, rules}
-use lib.Seq.{paste, paste-zero}
+use Rattle.std.proofs.Common.{◌≡◌, drop, refl, ◌∙◌, arith}
+use lib.Seq.{paste-zero}
 use Rattle.text.proofs.Pastes.{paste-on}
 use Rattle.text.proofs.copies.copy_in.Goals as goal
 

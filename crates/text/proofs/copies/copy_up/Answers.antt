@@ -1,7 +1,7 @@
 -- `text::copies::copy_up` meets its contract. The loop's invariant: the bytes behind the first `left` are copied. Assumes nothing.
-use Rattle.std.proofs.Common.{◌≡◌, ◌+◌, ◌-◌, ◌≤◌, length, drop, refl, ◌∙◌, add-zero, arith, rules}
+use Rattle.std.proofs.Common.{◌≡◌, ◌+◌, ◌-◌, drop, refl, ◌∙◌, add-zero, arith}
 use native.Mathlib.Nat.{sub-zero}
-use lib.Seq.{paste, paste-zero}
+use lib.Seq.{paste-zero}
 use Rattle.text.proofs.Pastes.{paste-up}
 use Rattle.text.proofs.copies.copy_up.Goals as goal
 

@@ -1,8 +1,6 @@
 -- `text::copies::copy_up` meets its contract. The loop's invariant: the bytes behind the first `left` are copied. Assumes nothing.
-use Rattle.std.proofs.Common.{◌≡◌, ◌+◌, ◌-◌, ◌≤◌, length, drop, refl, ◌∙◌, add-zero, arith, rules}
-use native.Mathlib.Nat.{sub-zero}
-use lib.Seq.{paste, paste-zero}
-use Rattle.text.proofs.Pastes.{paste-up}
+use Rattle.std.proofs.Common.{◌≡◌, ◌+◌, ◌-◌, ◌≤◌, length, drop}
+use lib.Seq.{paste}
 use Rattle.text.proofs.copies.copy_up.Given as goal
 
 abbrev pub invariant-loop-left : goal.invariant-loop-left

@@ -1,5 +1,5 @@
 -- `text::copies::piece_within` meets its contract: what is copied by way of the array is copied. Assumes nothing.
-use Rattle.std.proofs.Common.{◌∙◌, arith, rules}
+use Rattle.std.proofs.Common.{◌∙◌, arith}
 use Rattle.text.proofs.Pastes.{paste-through}
 use Rattle.text.proofs.copies.piece_within.Goals as goal
 

@@ -1,6 +1,5 @@
 -- `text::feeds::feed_in` meets its contract. The loop's invariant: whether one is among the first k bytes. Assumes nothing.
-use Rattle.std.proofs.Common.{◌≡◌, ◌-◌, ◌≤◌, take, drop, sym, ◌∙◌, ⊎_elim, arith}
-use Rattle.text.specs.Feeds.{has_feed}
+use Rattle.std.proofs.Common.{◌≡◌, sym, ◌∙◌, arith}
 use Rattle.text.proofs.LineFeeds.{feed-none, feed-found, feed-missed}
 use Rattle.text.proofs.feeds.feed_in.Goals as goal
 use Rattle.text.proofs.feeds.feed_in.Goals.{then-s-at-eq10, else-s-at-eq10}

@@ -1,7 +1,6 @@
 -- `text::feeds::feed_in` meets its contract. The loop's invariant: whether one is among the first k bytes. Assumes nothing.
-use Rattle.std.proofs.Common.{◌≡◌, ◌-◌, ◌≤◌, take, drop, sym, ◌∙◌, ⊎_elim, arith}
+use Rattle.std.proofs.Common.{◌≡◌, ◌-◌, ◌≤◌, take, drop}
 use Rattle.text.specs.Feeds.{has_feed}
-use Rattle.text.proofs.LineFeeds.{feed-none, feed-found, feed-missed}
 use Rattle.text.proofs.feeds.feed_in.Given as goal
 
 abbrev pub invariant-loop-k : goal.invariant-loop-k

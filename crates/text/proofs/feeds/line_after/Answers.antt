@@ -1,5 +1,5 @@
 -- `text::feeds::line_after` meets its contract. Assumes nothing.
-use Rattle.std.proofs.Common.{arith, rules}
+use Rattle.std.proofs.Common.{arith}
 use Rattle.text.proofs.LineFeeds.{line-ends, line-open}
 use Rattle.text.proofs.feeds.line_after.Goals as goal
 

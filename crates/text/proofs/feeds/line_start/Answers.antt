@@ -1,6 +1,5 @@
 -- `text::feeds::line_start` meets its contract. The loop's invariant: the line of place i has the same start. Assumes nothing.
-use Rattle.std.proofs.Common.{◌≡◌, ◌+◌, ◌-◌, ◌≤◌, sym, refl, ◌∙◌, arith}
-use Rattle.text.specs.Feeds.{line_start}
+use Rattle.std.proofs.Common.{◌≡◌, ◌+◌, ◌-◌, sym, refl, ◌∙◌, arith}
 use Rattle.text.proofs.LineFeeds.{start-over}
 use Rattle.text.proofs.feeds.line_start.Goals as goal
 

@@ -1,7 +1,6 @@
 -- `text::feeds::line_start` meets its contract. The loop's invariant: the line of place i has the same start. Assumes nothing.
-use Rattle.std.proofs.Common.{◌≡◌, ◌+◌, ◌-◌, ◌≤◌, sym, refl, ◌∙◌, arith}
+use Rattle.std.proofs.Common.{◌≡◌, ◌≤◌}
 use Rattle.text.specs.Feeds.{line_start}
-use Rattle.text.proofs.LineFeeds.{start-over}
 use Rattle.text.proofs.feeds.line_start.Given as goal
 
 abbrev pub invariant-loop-i : goal.invariant-loop-i

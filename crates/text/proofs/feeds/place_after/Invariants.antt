@@ -1,7 +1,6 @@
 -- `text::feeds::place_after` meets its contract. The loop's invariant: the next c from i on is the next from `at` on. Assumes nothing.
-use Rattle.std.proofs.Common.{◌≡◌, ◌+◌, ◌-◌, ◌≤◌, length, drop, sym, ◌∙◌, arith}
+use Rattle.std.proofs.Common.{◌≡◌, ◌+◌, ◌-◌, ◌≤◌, length, drop}
 use Rattle.text.specs.Feeds.{place_of}
-use Rattle.text.proofs.LineFeeds.{place-hit, place-miss, place_none, place-over}
 use Rattle.text.proofs.feeds.place_after.Given as goal
 
 abbrev pub invariant-loop-i : goal.invariant-loop-i

@@ -1,7 +1,6 @@
 -- `text::feeds::start_by_bytes` meets its contract. The loop's invariant: the line of place i has the same start. Assumes nothing.
-use Rattle.std.proofs.Common.{◌≡◌, ◌≤◌, sym, refl, ◌∙◌, arith}
+use Rattle.std.proofs.Common.{◌≡◌, ◌≤◌}
 use Rattle.text.specs.Feeds.{line_start}
-use Rattle.text.proofs.LineFeeds.{start-hit, start-miss, start-zero}
 use Rattle.text.proofs.feeds.start_by_bytes.Given as goal
 
 abbrev pub invariant-loop-i : goal.invariant-loop-i

@@ -1,5 +1,5 @@
 -- `text::runs::four_at` meets its contract. Assumes nothing.
-use Rattle.std.proofs.Common.{arith, rules}
+use Rattle.std.proofs.Common.{arith}
 use Rattle.text.proofs.Words.{word-join}
 use Rattle.text.proofs.runs.four_at.Goals as goal
 

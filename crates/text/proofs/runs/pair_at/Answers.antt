@@ -1,5 +1,5 @@
 -- `text::runs::pair_at` meets its contract. Assumes nothing.
-use Rattle.std.proofs.Common.{◌+◌, arith, rules}
+use Rattle.std.proofs.Common.{◌+◌, arith}
 use Rattle.text.proofs.Words.{word-one, word-join}
 use Rattle.text.proofs.runs.pair_at.Goals as goal
 

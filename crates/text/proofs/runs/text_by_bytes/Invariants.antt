@@ -1,9 +1,6 @@
 -- `text::runs::text_by_bytes` meets its contract. The loop's invariant: all is text so far. Assumes nothing.
-use Rattle.std.proofs.Common.{◌≡◌, ◌+◌, ◌-◌, ◌≤◌, take, drop, sym, refl, ◌∙◌, arith}
+use Rattle.std.proofs.Common.{◌≡◌, ◌+◌, ◌-◌, ◌≤◌, take, drop}
 use Rattle.text.specs.Words.{text_run}
-use Rattle.text.proofs.Texts.{run-here, run-next, run_none}
-use Rattle.theorems.specs.Lines.{text_of}
-use Rattle.text.proofs.Ends.{text-low, text-high}
 use Rattle.text.proofs.runs.text_by_bytes.Given as goal
 
 abbrev pub invariant-loop-i : goal.invariant-loop-i

@@ -1,5 +1,5 @@
 -- `text::runs::text_in_word` meets its contract: the test of eight bytes. Assumes nothing.
-use Rattle.std.proofs.Common.{◌≡◌, ℕ, ◌+◌, ◌<◌, length, get_or, take, drop, arith, length-drop, length-take-le, get_or-drop, get_or-take, rules}
+use Rattle.std.proofs.Common.{◌≡◌, ℕ, ◌+◌, ◌<◌, length, get_or, take, drop, arith, length-drop, length-take-le, get_or-drop, get_or-take}
 use lib.Bits.{bit_and, bit_or}
 use lib.Count.{trailing_le}
 use Rattle.text.proofs.Words.{text-test-eight}

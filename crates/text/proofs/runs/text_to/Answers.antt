@@ -1,6 +1,5 @@
 -- `text::runs::text_to` meets its contract. The loop's invariant: all is text so far. Assumes nothing.
-use Rattle.std.proofs.Common.{◌≡◌, ◌+◌, ◌-◌, ◌≤◌, take, drop, sym, refl, ◌∙◌, arith}
-use Rattle.text.specs.Words.{text_run}
+use Rattle.std.proofs.Common.{sym, refl, ◌∙◌, arith}
 use Rattle.text.proofs.Texts.{run-stops, run-goes-on}
 use Rattle.text.proofs.runs.text_to.Goals as goal
 

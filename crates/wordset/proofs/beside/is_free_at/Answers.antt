@@ -1,6 +1,5 @@
 use mathlib.Core.Path.{ap, ◌∙◌}
 use mathlib.Core.Bool.{not}
-use borrow.Author.Rules.{rules}
 use Rattle.wordset.specs.Sets.{in_set}
 use Rattle.wordset.proofs.beside.is_free_at.Goals as goal
 
