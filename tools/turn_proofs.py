@@ -45,6 +45,7 @@ class Function:
         key = f"Rattle-{crate}-proofs.{folder.replace('/', '.')}.Lts" + (f"-{member}" if member else "")
         self.x = names.get(key)
         self.said = []
+        self.opens = False
         if self.x:
             x = self.x
             self.parent = {p[0]: p[1] for p in x["places"]}
@@ -113,6 +114,11 @@ class Function:
                     best = (new, path)
             if best:
                 return ".".join(["c", arm[0], best[0]] + rest[len(best[1]) :])
+            own = next((n for n, s, p in arm[2] if norm(s) == old and not p), None)
+            if own and rest and re.match(r"keys\d+$|rest$", rest[0]):
+                whole = ".".join(["c", arm[0], own] + rest)
+                self.opens = self.opens or rest[0] != "rest"
+                return f"(opened {whole})" if rest[0] != "rest" else whole
             if any(norm(s) == old and p for _, s, p in arm[2]):
                 self.said.append(f"arm {arm[0]}: {whole}")
                 return ".".join(["c", arm[0]] + rest)
@@ -300,6 +306,7 @@ class Function:
             write(f"{base}/Invariants.antt", title, uses + [f"use {module}.Given as goal"], own + invariants)
         if answers or any(n not in lower for n, s in helpers):
             extra = [f"use {module}.Invariants.{{{', '.join(lower)}}}"] if lower else []
+            extra += ["use borrow.Enum.Refused.{opened}"] if self.opens else []
             keep = [s for n, s in helpers if n not in lower]
             write(f"{base}/Answers.antt", title, uses + extra + [f"use {module}.Goals as goal"], keep + answers)
         os.remove(file)
