@@ -3,7 +3,7 @@ ghost use Rattle.std.specs.Prelude.{◌≡◌, ◌<◌, ◌≤◌, min, length};
 ghost use Rattle.text.specs.Buffer.{laid};
 ghost use Rattle.cases.specs.Hex.{digit_of, hex_digit, bytes_for, digits_for};
 
-use libc::STDOUT_FILENO;
+use std::io;
 
 // The value of a hexadecimal digit; 0 of any other byte.
 pub fn digit(b: u8) -> u8
@@ -67,13 +67,12 @@ fn to_hex(s: &[u8], out: &mut [u8]) -> usize
 }
 
 // Writes bytes as hexadecimal digits, by way of `hex`; `-` for none.
-pub fn write_hex(s: &[u8], hex: &mut [u8])
+pub fn write_hex<R: Print>(rt: &R, s: &[u8], hex: &mut [u8]) -> io::Result<()>
     ensures { hex.new ≡ laid hex.old 0 (digits_for (length hex.old) s.now) }
 {
     if s.len() == 0 {
-        io::write_all(STDOUT_FILENO, b"-");
-        return;
+        return rt.write_all(b"-");
     }
     let n = to_hex(s, hex);
-    io::write_all(STDOUT_FILENO, &hex[0..n]);
+    rt.write_all(&hex[0..n])
 }

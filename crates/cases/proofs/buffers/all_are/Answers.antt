@@ -1,0 +1,5 @@
+use Rattle.cases.proofs.Same.{all-reach}
+use Rattle.cases.proofs.buffers.all_are.Goals as goal
+
+pub returns : goal.returns
+returns c = all-reach _ _ _ c.past.ensures.0
