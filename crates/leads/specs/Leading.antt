@@ -1,9 +1,8 @@
--- The bytes that a match of a pattern can begin with, as a range, and a byte that every match has. Where no match is begun, a place of the line with a byte
--- outside the range is passed at once; a line without the byte has no match. Assumes nothing.
-use Rattle.std.specs.Prelude.{◌≡◌, Bool, true, false, cond, not, ◌&&◌, ◌||◌, List, ℕ, zero, suc, ◌≤◌, ◌<◌, get_or, leb, ltb}
+-- The bytes that a match of a pattern can begin with, as a range. Where no match is begun, a place of the line with a byte outside it is passed at once.
+-- Assumes nothing.
+use Rattle.std.specs.Prelude.{◌≡◌, Bool, true, false, not, ◌&&◌, ◌||◌, List, ℕ, zero, suc, ◌≤◌, ◌<◌, get_or, leb, ltb}
 use Rattle.definitions.specs.Patterns.{Pattern}
 use Rattle.marks.specs.Sweeping.{takes_none, begins}
-use Rattle.needs.specs.Needing.{need_of}
 use Rattle.leads.specs.declared.Leads.{Leads}
 
 -- a match can begin with b, or be empty, and so begin anywhere
@@ -20,13 +19,9 @@ unfoldable pub last_lead : Pattern → ℕ → ℕ
 last_lead p zero = zero
 last_lead p (suc n) = elim (may_begin p n) [ true ↦ n | false ↦ last_lead p n ]
 
--- a byte before 128 that every match has; 0 where none is known
-unfoldable pub needed : Pattern → ℕ
-needed p = cond (ltb (need_of p) 128) (need_of p) 0
-
--- the bytes from 32 to 127 that a match can begin with, from the first to the last, and the byte that it has
+-- the bytes from 32 to 127 that a match can begin with, from the first to the last
 unfoldable pub leads_of : Pattern → Leads
-leads_of p = record { low = first_lead p 32 96; high = last_lead p 128; need = needed p }
+leads_of p = record { low = first_lead p 32 96; high = last_lead p 128 }
 
 -- may a match begin with the byte, by the range; of bytes that are no text nothing is known
 unfoldable pub is_lead : Leads → ℕ → Bool

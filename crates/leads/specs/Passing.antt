@@ -1,14 +1,13 @@
--- Laws of leads, for callers: a byte that is passed begins no match, and bytes without the one that every match has hold none. Assumes nothing.
-use Rattle.std.specs.Prelude.{◌≡◌, refl, Bool, true, false, cond, not, ◌&&◌, ◌||◌, List, ℕ, zero, suc, ◌≤◌, ◌<◌, eqb, leb, ltb}
+-- Laws of leads, for callers: a byte that is passed begins no match. Assumes nothing.
+use Rattle.std.specs.Prelude.{◌≡◌, refl, Bool, true, false, not, ◌&&◌, ◌||◌, ℕ, zero, suc, ◌≤◌, ◌<◌, eqb, leb, ltb}
 use Rattle.std.proofs.Common.{sym, ap, ◌∙◌, arith}
 use Rattle.std.proofs.Math.Bool.{and-false}
 use Rattle.std.proofs.lemmas.Bool.{false≢true}
 use borrow.Author.Tests.{eqb-true, eqb-false, ltb-true, leb-true, leb-false, lt-ltb, le-ltb, le-leb, lt-leb}
 use Rattle.definitions.specs.Patterns.{Pattern}
 use Rattle.marks.specs.Sweeping.{takes_none, begins}
-use Rattle.needs.specs.Needing.{need_of, lacks}
 use Rattle.leads.specs.declared.Leads.{Leads}
-use Rattle.leads.specs.Leading.{may_begin, first_lead, last_lead, needed, leads_of, is_lead}
+use Rattle.leads.specs.Leading.{may_begin, first_lead, last_lead, leads_of, is_lead}
 
 module _ (r : Leads) (b : ℕ) where
   pub lead-below : b < 32 → is_lead r b ≡ true
@@ -66,22 +65,3 @@ lead-false p b e = neither (takes_none p) (begins p b) (outside p b e)
     neither : (s t : Bool) → (s || t) ≡ false → (s ≡ false) × (t ≡ false)
     neither true t f = absurd (false≢true (sym f))
     neither false t f = (refl, f)
-
--- ---- the byte that every match has
-
-pub need-most : (p : Pattern) → needed p ≤ 127
-unfolding needed
-need-most p = go (ltb (need_of p) 128) refl
-  where
-    go : (t : Bool) → ltb (need_of p) 128 ≡ t → cond t (need_of p) 0 ≤ 127
-    go true e = omega (arith, ltb-true (need_of p) 128 e)
-    go false e = omega arith
-
--- bytes that lack the one that is kept lack the one that every match has
-pub need-lacked : (p : Pattern) (s : List ℕ) → lacks (leads_of p).need s ≡ true → lacks (need_of p) s ≡ true
-unfolding leads_of needed lacks
-need-lacked p s h = go (ltb (need_of p) 128) h
-  where
-    go : (t : Bool) → lacks (cond t (need_of p) 0) s ≡ true → lacks (need_of p) s ≡ true
-    go true e = e
-    go false e = absurd (false≢true e)

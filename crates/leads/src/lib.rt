@@ -1,21 +1,19 @@
-// What is known of every match of a pattern before a line is looked at: the bytes that it can begin with, as a range, and a byte that it has.
+// The bytes that a match of a pattern can begin with, as a range.
 #![tactic(auto)]
 
 ghost use Rattle.std.specs.Prelude.{◌≡◌, ◌≤◌, length};
 ghost use Rattle.definitions.specs.Patterns.{Pattern};
 ghost use Rattle.marks.specs.Sweeping.{Reads};
-ghost use Rattle.leads.specs.Leading.{may_begin, first_lead, last_lead, needed, leads_of, is_lead, NextLead};
+ghost use Rattle.leads.specs.Leading.{may_begin, first_lead, last_lead, leads_of, is_lead, NextLead};
 
 use marks::idle::is_idle;
 use marks::sweep;
-use needs::need_of;
 
-// A match begins with a byte from low to high, of those from 32 to 127; with none where low is more than high. It has the byte need; 0 for none known.
+// The bytes from low to high, of those from 32 to 127; none where low is more than high.
 #[derive(Clone, Copy)]
 pub struct Leads {
     pub low: u8,
     pub high: u8,
-    pub need: u8,
 }
 
 // May a match begin with the byte. Of bytes that are no text nothing is known.
@@ -92,26 +90,13 @@ fn last_lead(pattern: &[u8]) -> u8
     0
 }
 
-// A byte before 128 that every match has; 0 where none is known.
-fn needed_byte(pattern: &[u8]) -> u8
-    requires { (p : Pattern) × Reads pattern.now p }
-    ensures { (result ≤ 127) × ((p : Pattern) → Reads pattern.now p → result ≡ needed p) }
-{
-    let b = need_of(pattern);
-    if b < 128 {
-        return b;
-    }
-    0
-}
-
-// The bytes that a match of the pattern can begin with, from the first to the last, and one that it has.
+// The bytes that a match of the pattern can begin with, from the first to the last.
 pub fn leads_of(pattern: &[u8]) -> Leads
     requires { (length pattern.now ≤ 255) × ((p : Pattern) × Reads pattern.now p) }
-    ensures { (result.low ≤ 128) × (result.high ≤ 127) × (result.need ≤ 127) × ((p : Pattern) → Reads pattern.now p → result ≡ leads_of p) }
+    ensures { (result.low ≤ 128) × (result.high ≤ 127) × ((p : Pattern) → Reads pattern.now p → result ≡ leads_of p) }
 {
     Leads {
         low: first_lead(pattern),
         high: last_lead(pattern),
-        need: needed_byte(pattern),
     }
 }

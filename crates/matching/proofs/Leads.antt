@@ -1,13 +1,12 @@
--- Laws of the number of what is known of a pattern's matches, and of what its qualifiers ask for. Assumes nothing.
-use mathlib.Core.Path.{◌≡◌, refl, ap, ap₂, ◌∙◌}
+-- Laws of the number of what a pattern's matches can begin with, and of what its qualifiers ask for. Assumes nothing.
+use mathlib.Core.Path.{◌≡◌, refl, ap₂}
 use mathlib.Core.Bool.{Bool, true, false, not}
-use Prim.Native.Nat.{ℕ, zero, suc, ◌+◌, ◌*◌, ◌/◌, ◌%◌, ◌≤◌}
+use Prim.Native.Nat.{ℕ, zero, suc, ◌+◌, ◌/◌, ◌%◌, ◌≤◌}
 use native.Mathlib.Omega.{arith}
 use lib.Dec.{eqb, ltb}
 use borrow.Author.Tests.{lt-ltb, ne_eqb}
 use Rattle.definitions.specs.Patterns.{Pattern}
-use Rattle.leads.specs.Leading.{may_begin, first_lead, last_lead, needed, leads_of}
-use Rattle.leads.specs.Passing.{need-most}
+use Rattle.leads.specs.Leading.{may_begin, first_lead, last_lead, leads_of}
 use Rattle.leads.specs.declared.Leads.{Leads}
 use Rattle.taking.specs.Ways.{anchor_by}
 use Rattle.matching.specs.Quals.{anchor_of, lead_number}
@@ -32,18 +31,16 @@ last-most p (suc n) = go (may_begin p n) (last-most p n)
     go true h = omega arith
     go false h = omega (arith, h)
 
-pub number_small : (p : Pattern) → lead_number (leads_of p) ≤ 16777215
+pub number_small : (p : Pattern) → lead_number (leads_of p) ≤ 65535
 unfolding lead_number leads_of
-number_small p = omega (arith, first-most p 32 96, last-most p 128, need-most p)
+number_small p = omega (arith, first-most p 32 96, last-most p 128)
 
-pub leads-back : (p : Pattern) (n : ℕ) → n ≡ lead_number (leads_of p) → ◌≡◌ {A = Leads} (record { low = n % 256; high = n / 256 % 256; need = n / 65536 }) (leads_of p)
+pub leads-back : (p : Pattern) (n : ℕ) → n ≡ lead_number (leads_of p) → ◌≡◌ {A = Leads} (record { low = n % 256; high = n / 256 }) (leads_of p)
 unfolding lead_number leads_of
 leads-back p n e =
     let low : n % 256 ≡ first_lead p 32 96 = omega (arith, e, first-most p 32 96) in
-    let rest : n / 256 ≡ last_lead p 128 + 256 * needed p = omega (arith, e, first-most p 32 96) in
-    let high : n / 256 % 256 ≡ last_lead p 128 = ap (λ (m : ℕ). m % 256) rest ∙ (omega (arith, last-most p 128)) in
-    let need : n / 65536 ≡ needed p = omega (arith, e, first-most p 32 96, last-most p 128) in
-    ap₂ (λ (a b : ℕ). record { low = a; high = b; need = n / 65536 }) low high ∙ ap (λ (c : ℕ). record { low = first_lead p 32 96; high = last_lead p 128; need = c }) need
+    let high : n / 256 ≡ last_lead p 128 = omega (arith, e, first-most p 32 96) in
+    ap₂ (λ (a b : ℕ). record { low = a; high = b }) low high
 
 -- ---- B, E and P
 

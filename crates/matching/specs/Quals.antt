@@ -31,11 +31,11 @@ qualifiers_of q =
 abbrev pub plain : Quals
 plain = record { anchor = 0; count = 0; last = false; negated = false; word = false; fold = false; skip = false; from = 0; to = 0; pattern = false }
 
--- what is known of every match of a pattern, as a number
+-- the bytes that a match of a pattern can begin with, as a number
 unfoldable pub lead_number : Leads → ℕ
-lead_number r = r.low + 256 * r.high + 65536 * r.need
+lead_number r = r.low + 256 * r.high
 
--- where R is given, the string is a pattern, and `count` holds what is known of its matches
+-- where R is given, the string is a pattern, and `count` holds the bytes that its matches can begin with
 abbrev pub Formed : Quals → Line → Type 0
 Formed q s = q.pattern ≡ true → (pat : Pattern) × Reads s pat × (q.count ≡ lead_number (leads_of pat))
 

@@ -35,7 +35,7 @@ flags_of (qualifiers anchor k last n w u skip cols pattern) =
 unfoldable pub first_word : Qualifiers → ℕ → ℕ
 first_word q start = 4 * (flags_of q + 512 * start)
 
--- the string's length, and the count, or the number of what is known of a pattern's matches
+-- the string's length, and the count, or the number of what a pattern's matches can begin with
 unfoldable pub second_word : Qualifiers → ℕ → ℕ → ℕ
 second_word (qualifiers anchor k last n w u skip cols pattern) len led = len + 256 * (k + led)
 
@@ -46,7 +46,7 @@ unfoldable pub column_words : Columns → List ℕ
 column_words all_columns = []
 column_words (columns n m) = (n + 65536 * m) ∷ []
 
--- a string of the script, from `start` and of length `len`, with its qualifiers and the number of what is known of a pattern's matches
+-- a string of the script, from `start` and of length `len`, with its qualifiers and the number of what a pattern's matches can begin with
 unfoldable pub string_words : Qualifiers → ℕ → ℕ → ℕ → List ℕ
 string_words q start len led = first_word q start ∷ second_word q len led ∷ column_words (columns_in q)
 
@@ -54,7 +54,7 @@ unfoldable pub led_by : Got Pattern → ℕ
 led_by (got pat c) = lead_number (leads_of pat)
 led_by (refused n at) = 0
 
--- the number of what is known of the string's matches; 0 where it is no pattern
+-- the number of what the matches of the string can begin with; 0 where it is no pattern
 unfoldable pub led_of : Qualifiers → Line → ℕ
 led_of (qualifiers anchor k last n w u skip cols true) s = led_by (read_pattern 0 s)
 led_of (qualifiers anchor k last n w u skip cols false) s = 0
@@ -148,14 +148,14 @@ pub record Readable (script words : List ℕ) (k : ℕ) : Type 0 where
 
 -- ---- writing the words
 
--- the number of what is known of the matches, where R is given
+-- the number of what the matches can begin with, where R is given
 unfoldable pub led_in : Quals → ℕ
 led_in q = cond q.pattern q.count 0
 
 -- what the words have room for
 pub record Writable (q : Quals) (start len : ℕ) : Type 0 where
   pub anchored : q.anchor ≤ 3
-  pub counted : q.count ≤ 16777215
+  pub counted : q.count ≤ 65535
   pub first : q.from ≤ 65535
   pub last : q.to ≤ 65535
   pub starts : start ≤ 65535

@@ -17,8 +17,8 @@ use scan::{from_left, from_right};
 pub use taking::Found;
 use window::text_of;
 
-// The qualifiers of a string. anchor: 0 none, 1 for B, 2 for E, 3 for P. count: 0 for none; where R is given, which stands with no count, what is known of
-// every match: the first byte that it can begin with, 256 times the last, and 65,536 times a byte that it has. from: 0 for all columns. pattern: is R given.
+// The qualifiers of a string. anchor: 0 none, 1 for B, 2 for E, 3 for P. count: 0 for none; where R is given, which stands with no count, the bytes that a
+// match can begin with: the first of them, and 256 times the last. from: 0 for all columns. pattern: is R given.
 #[derive(Clone, Copy)]
 pub struct Quals {
     pub anchor: u8,

@@ -39,8 +39,7 @@ pub fn find_pattern(set: &[u32], line: &[u8], start: usize, end: usize, q: Quals
 {
     let leads = Leads {
         low: (q.count % 256) as u8,
-        high: (q.count / 256 % 256) as u8,
-        need: (q.count / 65536) as u8,
+        high: (q.count / 256) as u8,
     };
     taking::find(set, leads, line, start, end, s, way_of(q))
 }

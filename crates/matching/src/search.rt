@@ -173,9 +173,9 @@ pub fn first_word(q: Quals, start: usize) -> u32
     4 * (flags_of(q) + 512 * (start as u32))
 }
 
-// The word of the string's length and of the count, or of what is known of every match of a pattern.
+// The word of the string's length and of the count, or of the bytes that a pattern's matches can begin with.
 pub fn second_word(q: Quals, len: usize) -> u32
-    requires { (q.count ≤ 16777215) × (len ≤ 255) }
+    requires { (q.count ≤ 65535) × (len ≤ 255) }
     ensures { result ≡ second_word (qualifiers_of q) len (led_in q) }
 {
     len as u32 + 256 * (q.count as u32)

@@ -136,7 +136,7 @@ module _ (q : Quals) where
       unfolding add_count qualifiers_of unless
       count-now k high =
           now _ q _ (rw (is_zero q.anchor no-anchor, no_pattern, eq-eqb q.count 0 k))
-          (λ s. record { fits = record { anchor = s.fits.anchor; count = omega arith; from = s.fits.from; to = s.fits.to }; uncounted = λ p. absurd (false≢true (sym no_pattern ∙ p)) })
+          (λ s. record { fits = record { anchor = s.fits.anchor; count = high; from = s.fits.from; to = s.fits.to }; uncounted = λ p. absurd (false≢true (sym no_pattern ∙ p)) })
 
   -- ---- flags
 

@@ -44,10 +44,10 @@ module _ (q : Quals) (l : Line) (small : Small q) where
   pub too_long : 255 < length l → Finished q l q
   too_long long = as-given (λ short. absurd (omega arith))
 
-  pub numbered-finished : (pat : Pattern) (r : Leads) → q.pattern ≡ true → Reads l pat → r ≡ leads_of pat → r.low ≤ 128 → r.high ≤ 127 → r.need ≤ 127
-      → Finished q l (numbered q (r.low + 256 * r.high + 65536 * r.need))
+  pub numbered-finished : (pat : Pattern) (r : Leads) → q.pattern ≡ true → Reads l pat → r ≡ leads_of pat → r.low ≤ 128 → r.high ≤ 127
+      → Finished q l (numbered q (r.low + 256 * r.high))
   unfolding qualifiers_of lead_number
-  numbered-finished pat r p reads is low high need = record {
+  numbered-finished pat r p reads is low high = record {
     same = rw p;
     from = refl;
     fits = record { anchor = small.fits.anchor; count = omega arith; from = small.fits.from; to = small.fits.to };

@@ -16,14 +16,14 @@ use Rattle.lexer.specs.Answers.{Refuses}
 use Rattle.strings.specs.declared.Added.{Added}
 use Rattle.strings.specs.declared.Added.TheVariants.{Now, Clash, Unknown}
 
--- the numbers of qualifiers that a script can give, or that are kept for a pattern in the count's place
+-- the numbers of qualifiers that a script can give
 pub record Fits (q : Quals) : Type 0 where
   pub anchor : q.anchor ≤ 3
-  pub count : q.count ≤ 16777215
+  pub count : q.count ≤ 65535
   pub from : q.from ≤ 65535
   pub to : q.to ≤ 65535
 
--- the same while they are read: of a pattern no count is given, and nothing is known yet of its matches
+-- the same while they are read: of a pattern no count is given, and it is not known yet what its matches can begin with
 pub record Small (q : Quals) : Type 0 where
   pub fits : Fits q
   pub uncounted : q.pattern ≡ true → q.count ≡ 0
@@ -102,7 +102,7 @@ Short s = (d i : ℕ) → length (string_next d (cursor_at s i)) ≤ 255
 unfoldable pub bytes_then : Qualifiers → ℕ → Line → Cursor → Got Qualified
 bytes_then q start l c = cond (is_pattern q) (pattern_or (read_pattern start l) (got (qualified q l) c)) (got (qualified q l) c)
 
--- r are the qualifiers q of the string l, with what is known of the matches of a pattern (W9.1)
+-- r are the qualifiers q of the string l, with what the matches of a pattern can begin with (W9.1)
 pub record Finished (q : Quals) (l : Line) (r : Quals) : Type 0 where
   pub same : qualifiers_of r ≡ qualifiers_of q
   pub from : r.from ≡ q.from

@@ -39,7 +39,7 @@ fn wants_bytes(q: Quals) -> bool
     q.word
 }
 
-// The qualifiers of a pattern: for a count, which R does not stand with, what is known of every match. A pattern is no longer than a line.
+// The qualifiers of a pattern: for a count, which R does not stand with, the bytes that a match can begin with. A pattern is no longer than a line.
 fn with_leads(q: Quals, pattern: &[u8]) -> Quals
     requires { Small q × (q.pattern ≡ true) × ((p : Pattern) × Reads pattern.now p) }
     ensures { Finished q pattern.now result }
@@ -49,7 +49,7 @@ fn with_leads(q: Quals, pattern: &[u8]) -> Quals
     }
     let leads = leads_of(pattern);
     let mut more = q;
-    more.count = (leads.low as usize) + 256 * (leads.high as usize) + 65536 * (leads.need as usize);
+    more.count = (leads.low as usize) + 256 * (leads.high as usize);
     more
 }
 

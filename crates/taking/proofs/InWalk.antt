@@ -39,7 +39,7 @@ all-idle (m ∷ ms) k (suc n) h e =
 pub none-size : {ms : List ℕ} → ms ≡ no_marks 256 → length ms ≡ 256
 none-size none = ap length none ∙ none-length 256
 
--- what the walk is asked for: a part of the line, a pattern with the bytes s, and what is known of its matches
+-- what the walk is asked for: a part of the line, a pattern with the bytes s, and the bytes that its matches begin with
 pub record Asked (l : Line) (start end : ℕ) (s : List ℕ) (leads : Leads) : Type 0 where
   pub from : start ≤ end
   pub inside : end ≤ length l
@@ -69,7 +69,7 @@ module _ {l : Line} {start end : ℕ} {s : List ℕ} {leads : Leads} (a : Asked 
   few-slots : (p : Pattern) → Reads s p → slots p ≤ 255
   few-slots p h = omega (arith, slots-short s p h, a.few)
 
-  pub leads-of : (p : Pattern) → Reads s p → leads ≡ leads_of p
+  leads-of : (p : Pattern) → Reads s p → leads ≡ leads_of p
   leads-of p h = subst (λ (q : Pattern). leads ≡ leads_of q) (reads_same s p a.pattern.0 h a.pattern.1) a.pattern.2
 
   pub begins : (isWord : ℕ → Bool) (way : Way) (ms : List ℕ) → ms ≡ no_marks 256 → Come isWord way l start end s leads ms (record { start = 65535; end = 0 }) start

@@ -13,7 +13,6 @@ ghost use Rattle.taking.specs.Walking.{AtPlace};
 use leads::{Leads, leads_with, next_lead};
 use marks::idle::is_idle;
 use marks::sweep;
-use needs::lacks_byte;
 use wordset::beside::{is_free_at, is_free_before};
 
 // What is asked for: B or P (from the left end of the text), E or P (up to its right end), L, W.
@@ -176,8 +175,8 @@ fn walk_line(
     answer(best)
 }
 
-// The part of the line from `start` to `end` that the pattern takes, where the bytes of the set count for W. The leads are what is known of every match:
-// a line without the byte that it has is not walked.
+// The part of the line from `start` to `end` that the pattern takes, where the bytes of the set count for W. The leads are the bytes that a match can
+// begin with.
 pub fn find(
     set: &[u32],
     leads: Leads,
@@ -190,9 +189,6 @@ pub fn find(
     requires { (3 ≤ length set.now) × (start ≤ end) × (end ≤ length line.now) × (length line.now ≤ 255) × (length pattern.now ≤ 255) × ((p : Pattern) × Reads pattern.now p × (leads ≡ leads_of p)) }
     ensures { (p : Pattern) → Reads pattern.now p → found_of result ≡ taken (anchor_of way) way.last (stands_in (in_set set.now 0) way.word p line.now) (text start end) }
 {
-    if lacks_byte(leads.need, line, start, end) {
-        return Found::Nothing;
-    }
     let mut marks = [65535u16; 256];
     walk_line(set, leads, line, start, end, pattern, way, &mut marks)
 }

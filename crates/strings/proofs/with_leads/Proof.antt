@@ -22,20 +22,11 @@ mul-more c = search rules
 add-more : tie.Need-overflow-add-more
 add-more c = search rules
 
-cast-more-3 : tie.Need-overflow-cast-more-3
-cast-more-3 c = search rules
-
-mul-more-2 : tie.Need-overflow-mul-more-2
-mul-more-2 c = search rules
-
-add-more-2 : tie.Need-overflow-add-more-2
-add-more-2 c = search rules
-
 returns-2 : tie.Need-returns-2
 returns-2 c =
-    let start = c.before.before.before.before.before.before in
-    let leads = c.before.before.before.leads-of.ensures in
-    numbered-finished start.args.q start.args.pattern.now start.requires.0 start.requires.2.0 _ start.requires.1 start.requires.2.1 (leads.3 _ start.requires.2.1) leads.0 leads.1 leads.2
+    let start = c.before.before.before.before.before in
+    let leads = c.before.before.leads-of.ensures in
+    numbered-finished start.args.q start.args.pattern.now start.requires.0 start.requires.2.0 _ start.requires.1 start.requires.2.1 (leads.2 _ start.requires.2.1) leads.0 leads.1
 
 pub with-leads-spec : {M : Type 1} → statement M
-with-leads-spec = tie.close (tie.spec returns leads-of-requires cast-more cast-more-2 mul-more add-more cast-more-3 mul-more-2 add-more-2 returns-2)
+with-leads-spec = tie.close (tie.spec returns leads-of-requires cast-more cast-more-2 mul-more add-more returns-2)

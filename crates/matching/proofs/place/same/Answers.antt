@@ -1,0 +1,32 @@
+-- At each turn: what is left of the string, against what is left of the line. Assumes nothing.
+use mathlib.Core.Path.{◌≡◌, sym, ◌∙◌}
+use mathlib.Core.Bool.{false}
+use Prim.Native.Nat.{◌+◌, ◌-◌, ◌≤◌}
+use native.Mathlib.Omega.{arith}
+use native.Mathlib.Nat.{add-zero}
+use lib.ListN.{length, drop}
+use borrow.Author.Rules.{rules}
+use Rattle.definitions.specs.Matching.{stands_first}
+use Rattle.matching.proofs.Strings.{whole, plain-differs, plain-agrees}
+use Rattle.matching.proofs.place.same.Goals as goal
+
+pub loop-k-init : goal.loop-k-init
+loop-k-init c = (omega arith, rw add-zero)
+
+pub returns-then-s-k : goal.returns-then-s-k
+returns-then-s-k c =
+    let l = c.loop-k in
+    let a = c.args in
+    sym (l.invariant.1 ∙ plain-differs a.s.now a.line.now a.at l.k (omega arith) (omega arith) c.if-s-k.true)
+
+pub loop-k-preserved : goal.loop-k-preserved
+loop-k-preserved c =
+    let l = c.loop-k in
+    let a = c.args in
+    (omega arith, l.invariant.1 ∙ plain-agrees a.s.now a.line.now a.at l.k (omega arith) (omega arith) c.if-s-k.false)
+
+pub returns : goal.returns
+returns c =
+    let l = c.loop-k in
+    let a = c.args in
+    sym (l.invariant.1 ∙ whole false a.s.now a.line.now a.at l.k (omega arith))

@@ -1,0 +1,17 @@
+-- At each turn: what is left of the string, against what is left of the line. Assumes nothing.
+use mathlib.Core.Path.{◌≡◌, sym, ◌∙◌}
+use mathlib.Core.Bool.{true}
+use Prim.Native.Nat.{◌+◌, ◌-◌, ◌≤◌}
+use native.Mathlib.Omega.{arith}
+use native.Mathlib.Nat.{add-zero}
+use lib.ListN.{length, drop}
+use borrow.Author.Rules.{rules}
+use Rattle.definitions.specs.Matching.{stands_first}
+use Rattle.matching.proofs.Strings.{whole, upper-differs, upper-agrees}
+use Rattle.matching.proofs.place.same_folded.Given as goal
+
+abbrev pub invariant-loop-k : goal.invariant-loop-k
+invariant-loop-k l = (l.k ≤ length l.s) × (stands_first true l.s (drop l.at l.line) ≡ stands_first true (drop l.k l.s) (drop (l.at + l.k) l.line))
+
+abbrev pub decreases-loop-k : goal.decreases-loop-k
+decreases-loop-k l = length l.s - l.k

@@ -1,0 +1,15 @@
+-- At each turn the whole search comes to what is left of it (`LeftTurn`). Assumes nothing.
+use mathlib.Core.Path.{sym, ◌∙◌}
+use Prim.Native.Nat.{◌-◌}
+use native.Mathlib.Omega.{arith}
+use lib.ListN.{length}
+use borrow.Author.Rules.{rules}
+use Rattle.wordset.specs.Sets.{in_set}
+use Rattle.matching.proofs.Sides.{LeftTurn, left-begins, left-inside, left-found, left-missed, left-skipped, left-skip-falls, left-too-few, left-next, left-reached}
+use Rattle.matching.proofs.scan.from_left.Given as goal
+
+abbrev pub invariant-loop-start : goal.invariant-loop-start
+invariant-loop-start l = LeftTurn (in_set l.set 0) l.word l.fold l.s l.line l.start l.end l.count l.k l.i
+
+abbrev pub decreases-loop-start : goal.decreases-loop-start
+decreases-loop-start l = l.end - length l.s - l.i
