@@ -1,4 +1,6 @@
 // Qualified strings and patterns, and where they occur on a line.
+#![tactic(auto)]
+
 mod pattern;
 mod place;
 mod scan;

@@ -1,4 +1,3 @@
-use borrow.Author.Rules.{rules}
 use Rattle.matching.proofs.Finding.{by-string, by-pattern}
 use Rattle.matching.proofs.find.Goals as goal
 

@@ -1,4 +1,3 @@
-use borrow.Author.Rules.{rules}
 use Rattle.matching.proofs.Finding.{too_short, found-counted, found-start, found-end, found-whole, not-whole}
 use Rattle.matching.proofs.find_string.Goals as goal
 

@@ -1,4 +1,3 @@
-use borrow.Author.Rules.{rules}
 use Rattle.matching.proofs.Finding.{is_found_lem, is-missed}
 use Rattle.matching.proofs.matches_line.Goals as goal
 

@@ -1,5 +1,4 @@
 use mathlib.Core.Path.{sym, ◌∙◌}
-use borrow.Author.Rules.{rules}
 use Rattle.matching.proofs.Counts.{only_here, not-only}
 use Rattle.matching.proofs.only_at.Goals as goal
 

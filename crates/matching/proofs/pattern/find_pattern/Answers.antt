@@ -1,5 +1,4 @@
 use native.Mathlib.Omega.{arith}
-use borrow.Author.Rules.{rules}
 use Rattle.matching.proofs.Leads.{number_small, leads-back}
 use Rattle.matching.proofs.Finding.{found-taken}
 use Rattle.matching.proofs.pattern.find_pattern.Goals as goal

@@ -1,5 +1,4 @@
 use mathlib.Core.Path.{sym, ◌∙◌}
-use borrow.Author.Rules.{rules}
 use Rattle.matching.proofs.Bytes.{joined, apart_by}
 use Rattle.matching.proofs.place.apart.Goals as goal
 

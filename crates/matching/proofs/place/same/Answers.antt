@@ -1,12 +1,8 @@
 -- At each turn: what is left of the string, against what is left of the line. Assumes nothing.
-use mathlib.Core.Path.{◌≡◌, sym, ◌∙◌}
+use mathlib.Core.Path.{sym, ◌∙◌}
 use mathlib.Core.Bool.{false}
-use Prim.Native.Nat.{◌+◌, ◌-◌, ◌≤◌}
 use native.Mathlib.Omega.{arith}
 use native.Mathlib.Nat.{add-zero}
-use lib.ListN.{length, drop}
-use borrow.Author.Rules.{rules}
-use Rattle.definitions.specs.Matching.{stands_first}
 use Rattle.matching.proofs.Strings.{whole, plain-differs, plain-agrees}
 use Rattle.matching.proofs.place.same.Goals as goal
 

@@ -1,6 +1,4 @@
 use mathlib.Core.Path.{sym, ◌∙◌}
-use borrow.Author.Tests.{not-true, not-false}
-use borrow.Author.Rules.{rules}
 use Rattle.matching.proofs.Strings.{not-here, here-apart, here}
 use Rattle.matching.proofs.place.stands.Goals as goal
 

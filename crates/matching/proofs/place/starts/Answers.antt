@@ -1,5 +1,4 @@
 use mathlib.Core.Path.{◌∙◌}
-use borrow.Author.Rules.{rules}
 use Rattle.matching.proofs.Strings.{as-asked}
 use Rattle.matching.proofs.place.starts.Goals as goal
 

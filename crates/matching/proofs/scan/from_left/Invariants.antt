@@ -1,11 +1,8 @@
 -- At each turn the whole search comes to what is left of it (`LeftTurn`). Assumes nothing.
-use mathlib.Core.Path.{sym, ◌∙◌}
 use Prim.Native.Nat.{◌-◌}
-use native.Mathlib.Omega.{arith}
 use lib.ListN.{length}
-use borrow.Author.Rules.{rules}
 use Rattle.wordset.specs.Sets.{in_set}
-use Rattle.matching.proofs.Sides.{LeftTurn, left-begins, left-inside, left-found, left-missed, left-skipped, left-skip-falls, left-too-few, left-next, left-reached}
+use Rattle.matching.proofs.Sides.{LeftTurn}
 use Rattle.matching.proofs.scan.from_left.Given as goal
 
 abbrev pub invariant-loop-start : goal.invariant-loop-start

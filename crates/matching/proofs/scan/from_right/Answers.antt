@@ -1,10 +1,8 @@
 -- At each turn the whole search comes to what is left of it (`RightTurn`). Assumes nothing.
 use mathlib.Core.Path.{sym, ◌∙◌}
-use Prim.Native.Nat.{◌-◌}
 use native.Mathlib.Omega.{arith}
 use borrow.Author.Rules.{rules}
-use Rattle.wordset.specs.Sets.{in_set}
-use Rattle.matching.proofs.Sides.{RightTurn, right-begins, right-inside, right-found, right-missed, right-skipped, right-skip-falls, right-too-few, right-next, right-next-falls}
+use Rattle.matching.proofs.Sides.{right-begins, right-inside, right-found, right-missed, right-skipped, right-skip-falls, right-too-few, right-next, right-next-falls}
 use Rattle.matching.proofs.scan.from_right.Goals as goal
 
 pub loop-start-init : goal.loop-start-init

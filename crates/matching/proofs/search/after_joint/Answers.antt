@@ -1,6 +1,5 @@
 use mathlib.Core.Path.{sym}
 use native.Mathlib.Omega.{arith}
-use borrow.Author.Rules.{rules}
 use Rattle.matching.proofs.Words.{and-on, and-past, or-past, or-on}
 use Rattle.matching.proofs.search.after_joint.Goals as goal
 

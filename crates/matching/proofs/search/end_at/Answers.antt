@@ -1,5 +1,4 @@
 use mathlib.Core.Path.{sym}
-use borrow.Author.Rules.{rules}
 use Rattle.matching.specs.Words.{flags_at}
 use Rattle.matching.proofs.Words.{ends-soon, ends-late}
 use Rattle.matching.proofs.search.end_at.Goals as goal

@@ -1,4 +1,3 @@
-use borrow.Author.Rules.{rules}
 use Rattle.matching.proofs.Writing.{first-written}
 use Rattle.matching.proofs.search.first_word.Goals as goal
 

@@ -1,10 +1,7 @@
 -- At each turn the test goes on to what the search says (`Turn`). Assumes nothing.
-use Prim.Native.Nat.{◌-◌}
 use native.Mathlib.Omega.{arith}
-use Rattle.wordset.specs.Sets.{in_set}
-use Rattle.matching.specs.Words.{Readable}
-use Rattle.matching.proofs.Running.{line_says, line-tested}
-use Rattle.matching.proofs.Turns.{Turn, begins, finds, reads, tested, steps, joined}
+use Rattle.matching.proofs.Running.{line-tested}
+use Rattle.matching.proofs.Turns.{begins, finds, reads, tested, steps, joined}
 use Rattle.matching.proofs.search.holds.Goals as goal
 
 pub loop-at-init : goal.loop-at-init

@@ -1,10 +1,9 @@
 -- At each turn the test goes on to what the search says (`Turn`). Assumes nothing.
 use Prim.Native.Nat.{◌-◌}
-use native.Mathlib.Omega.{arith}
 use Rattle.wordset.specs.Sets.{in_set}
 use Rattle.matching.specs.Words.{Readable}
-use Rattle.matching.proofs.Running.{line_says, line-tested}
-use Rattle.matching.proofs.Turns.{Turn, begins, finds, reads, tested, steps, joined}
+use Rattle.matching.proofs.Running.{line_says}
+use Rattle.matching.proofs.Turns.{Turn}
 use Rattle.matching.proofs.search.holds.Given as goal
 
 abbrev pub invariant-loop-at : goal.invariant-loop-at

@@ -1,11 +1,9 @@
 -- At each turn the walk goes on to what the search says at EOF (`Turn`). Assumes nothing.
-use Prim.Native.Nat.{◌-◌}
 use native.Mathlib.Omega.{arith}
 use mathlib.Core.Path.{ap}
-use Rattle.matching.specs.Words.{HasQuals}
 use Rattle.matching.specs.declared.Quals.{Quals}
-use Rattle.matching.proofs.Running.{eof_says, eof-tested}
-use Rattle.matching.proofs.Turns.{Turn, begins, finds, reads, tested, steps, joined}
+use Rattle.matching.proofs.Running.{eof-tested}
+use Rattle.matching.proofs.Turns.{begins, finds, reads, tested, steps, joined}
 use Rattle.matching.proofs.search.holds_at_eof.Goals as goal
 
 pub loop-at-init : goal.loop-at-init

@@ -1,5 +1,4 @@
 use mathlib.Core.Path.{refl}
-use borrow.Author.Rules.{rules}
 use Rattle.matching.specs.Words.{length_at}
 use Rattle.matching.proofs.search.length_at.Goals as goal
 

@@ -1,6 +1,5 @@
 use native.Mathlib.Omega.{arith}
 use lib.ListN.{length-set}
-use borrow.Author.Rules.{rules}
 use Rattle.matching.proofs.Writing.{put_two, put_three, at-least-two, then-three}
 use Rattle.matching.proofs.search.put_string.Goals as goal
 

@@ -1,7 +1,6 @@
 use mathlib.Core.Path.{refl}
 use Prim.Native.Nat.{◌+◌}
 use native.Mathlib.Omega.{arith}
-use borrow.Author.Rules.{rules}
 use Rattle.matching.specs.Words.{flags_at}
 use Rattle.matching.proofs.Words.{read-quals}
 use Rattle.matching.proofs.search.quals_at.Goals as goal

@@ -1,4 +1,3 @@
-use borrow.Author.Rules.{rules}
 use Rattle.matching.proofs.Writing.{second-written}
 use Rattle.matching.proofs.search.second_word.Goals as goal
 

@@ -1,6 +1,5 @@
 use mathlib.Core.Path.{refl}
 use native.Mathlib.Omega.{arith}
-use borrow.Author.Rules.{rules}
 use Rattle.matching.specs.Words.{start_at}
 use Rattle.matching.proofs.search.start_at.Goals as goal
 

@@ -1,5 +1,4 @@
 use mathlib.Core.Path.{◌∙◌}
-use borrow.Author.Rules.{rules}
 use Rattle.matching.proofs.Words.{read-matches, read-formed, read_short}
 use Rattle.matching.proofs.search.string_holds.Goals as goal
 
