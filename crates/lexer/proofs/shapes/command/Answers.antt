@@ -2,220 +2,172 @@ use Rattle.definitions.specs.Reader.{packed, packed_from}
 use Rattle.definitions.specs.Commands.{command_table, look_up, shape_of}
 use Rattle.lexer.specs.Shapes.{shape_in, plain_of, seek_of, change_of}
 use Rattle.lexer.proofs.Rows.{in-no-row}
-use Rattle.lexer.proofs.shapes.command.Statement.{statement}
-use Rattle.lexer.proofs.shapes.command.Tie as tie
+use Rattle.lexer.proofs.shapes.command.Goals as goal
 
-returns : tie.Need-returns
+pub returns-in-77 : goal.returns-in-77
 unfolding shape_of look_up command_table packed packed_from shape_in plain_of seek_of change_of
-returns c = rw c.match.keys1
+returns-in-77 c = rw c.in-77.is
 
-returns-2 : tie.Need-returns-2
+pub returns-in-78 : goal.returns-in-78
 unfolding shape_of look_up command_table packed packed_from shape_in plain_of seek_of change_of
-returns-2 c = rw c.match.keys2
+returns-in-78 c = rw c.in-78.is
 
-returns-3 : tie.Need-returns-3
+pub returns-in-80 : goal.returns-in-80
 unfolding shape_of look_up command_table packed packed_from shape_in plain_of seek_of change_of
-returns-3 c = rw c.match.keys3
+returns-in-80 c = rw c.in-80.is
 
-returns-4 : tie.Need-returns-4
+pub returns-in-70 : goal.returns-in-70
 unfolding shape_of look_up command_table packed packed_from shape_in plain_of seek_of change_of
-returns-4 c = rw c.match.keys4
+returns-in-70 c = rw c.in-70.is
 
-returns-5 : tie.Need-returns-5
+pub returns-in-16966 : goal.returns-in-16966
 unfolding shape_of look_up command_table packed packed_from shape_in plain_of seek_of change_of
-returns-5 c = rw c.match.keys5
+returns-in-16966 c = rw c.in-16966.is
 
-returns-6 : tie.Need-returns-6
+pub returns-in-17478 : goal.returns-in-17478
 unfolding shape_of look_up command_table packed packed_from shape_in plain_of seek_of change_of
-returns-6 c = rw c.match.keys6
+returns-in-17478 c = rw c.in-17478.is
 
-returns-7 : tie.Need-returns-7
+pub returns-in-68 : goal.returns-in-68
 unfolding shape_of look_up command_table packed packed_from shape_in plain_of seek_of change_of
-returns-7 c = rw c.match.keys7
+returns-in-68 c = rw c.in-68.is
 
-returns-8 : tie.Need-returns-8
+pub returns-in-18771 : goal.returns-in-18771
 unfolding shape_of look_up command_table packed packed_from shape_in plain_of seek_of change_of
-returns-8 c = rw c.match.keys8
+returns-in-18771 c = rw c.in-18771.is
 
-returns-9 : tie.Need-returns-9
+pub returns-in-18755 : goal.returns-in-18755
 unfolding shape_of look_up command_table packed packed_from shape_in plain_of seek_of change_of
-returns-9 c = rw c.match.keys9
+returns-in-18755 c = rw c.in-18755.is
 
-returns-10 : tie.Need-returns-10
+pub returns-in-73 : goal.returns-in-73
 unfolding shape_of look_up command_table packed packed_from shape_in plain_of seek_of change_of
-returns-10 c = rw c.match.keys10
+returns-in-73 c = rw c.in-73.is
 
-returns-11 : tie.Need-returns-11
+pub returns-in-82 : goal.returns-in-82
 unfolding shape_of look_up command_table packed packed_from shape_in plain_of seek_of change_of
-returns-11 c = rw c.match.keys11
+returns-in-82 c = rw c.in-82.is
 
-returns-12 : tie.Need-returns-12
+pub returns-in-65 : goal.returns-in-65
 unfolding shape_of look_up command_table packed packed_from shape_in plain_of seek_of change_of
-returns-12 c = rw c.match.keys12
+returns-in-65 c = rw c.in-65.is
 
-returns-13 : tie.Need-returns-13
+pub returns-in-66 : goal.returns-in-66
 unfolding shape_of look_up command_table packed packed_from shape_in plain_of seek_of change_of
-returns-13 c = rw c.match.keys13
+returns-in-66 c = rw c.in-66.is
 
-returns-14 : tie.Need-returns-14
+pub returns-in-69 : goal.returns-in-69
 unfolding shape_of look_up command_table packed packed_from shape_in plain_of seek_of change_of
-returns-14 c = rw c.match.keys14
+returns-in-69 c = rw c.in-69.is
 
-returns-15 : tie.Need-returns-15
+pub returns-in-16720 : goal.returns-in-16720
 unfolding shape_of look_up command_table packed packed_from shape_in plain_of seek_of change_of
-returns-15 c = rw c.match.keys15
+returns-in-16720 c = rw c.in-16720.is
 
-returns-16 : tie.Need-returns-16
+pub returns-in-16976 : goal.returns-in-16976
 unfolding shape_of look_up command_table packed packed_from shape_in plain_of seek_of change_of
-returns-16 c = rw c.match.keys16
+returns-in-16976 c = rw c.in-16976.is
 
-returns-17 : tie.Need-returns-17
+pub returns-in-17744 : goal.returns-in-17744
 unfolding shape_of look_up command_table packed packed_from shape_in plain_of seek_of change_of
-returns-17 c = rw c.match.keys17
+returns-in-17744 c = rw c.in-17744.is
 
-returns-18 : tie.Need-returns-18
+pub returns-in-20545 : goal.returns-in-20545
 unfolding shape_of look_up command_table packed packed_from shape_in plain_of seek_of change_of
-returns-18 c = rw c.match.keys18
+returns-in-20545 c = rw c.in-20545.is
 
-returns-19 : tie.Need-returns-19
+pub returns-in-20546 : goal.returns-in-20546
 unfolding shape_of look_up command_table packed packed_from shape_in plain_of seek_of change_of
-returns-19 c = rw c.match.keys19
+returns-in-20546 c = rw c.in-20546.is
 
-returns-20 : tie.Need-returns-20
+pub returns-in-20562 : goal.returns-in-20562
 unfolding shape_of look_up command_table packed packed_from shape_in plain_of seek_of change_of
-returns-20 c = rw c.match.keys20
+returns-in-20562 c = rw c.in-20562.is
 
-returns-21 : tie.Need-returns-21
+pub returns-in-21313 : goal.returns-in-21313
 unfolding shape_of look_up command_table packed packed_from shape_in plain_of seek_of change_of
-returns-21 c = rw c.match.keys21
+returns-in-21313 c = rw c.in-21313.is
 
-returns-22 : tie.Need-returns-22
+pub returns-in-21314 : goal.returns-in-21314
 unfolding shape_of look_up command_table packed packed_from shape_in plain_of seek_of change_of
-returns-22 c = rw c.match.keys22
+returns-in-21314 c = rw c.in-21314.is
 
-returns-23 : tie.Need-returns-23
+pub returns-in-17228 : goal.returns-in-17228
 unfolding shape_of look_up command_table packed packed_from shape_in plain_of seek_of change_of
-returns-23 c = rw c.match.keys23
+returns-in-17228 c = rw c.in-17228.is
 
-returns-24 : tie.Need-returns-24
+pub returns-in-18245 : goal.returns-in-18245
 unfolding shape_of look_up command_table packed packed_from shape_in plain_of seek_of change_of
-returns-24 c = rw c.match.keys24
+returns-in-18245 c = rw c.in-18245.is
 
-returns-25 : tie.Need-returns-25
+pub returns-in-18241 : goal.returns-in-18241
 unfolding shape_of look_up command_table packed packed_from shape_in plain_of seek_of change_of
-returns-25 c = rw c.match.keys25
+returns-in-18241 c = rw c.in-18241.is
 
-returns-26 : tie.Need-returns-26
+pub returns-in-18242 : goal.returns-in-18242
 unfolding shape_of look_up command_table packed packed_from shape_in plain_of seek_of change_of
-returns-26 c = rw c.match.keys26
+returns-in-18242 c = rw c.in-18242.is
 
-returns-27 : tie.Need-returns-27
+pub returns-in-17223 : goal.returns-in-17223
 unfolding shape_of look_up command_table packed packed_from shape_in plain_of seek_of change_of
-returns-27 c = rw c.match.keys27
+returns-in-17223 c = rw c.in-17223.is
 
-returns-28 : tie.Need-returns-28
+pub returns-in-1464816196 : goal.returns-in-1464816196
 unfolding shape_of look_up command_table packed packed_from shape_in plain_of seek_of change_of
-returns-28 c = rw c.match.keys28
+returns-in-1464816196 c = rw c.in-1464816196.is
 
-returns-29 : tie.Need-returns-29
+pub returns-in-62 : goal.returns-in-62
 unfolding shape_of look_up command_table packed packed_from shape_in plain_of seek_of change_of
-returns-29 c = rw c.match.keys29
+returns-in-62 c = rw c.in-62.is
 
-returns-30 : tie.Need-returns-30
+pub returns-in-60 : goal.returns-in-60
 unfolding shape_of look_up command_table packed packed_from shape_in plain_of seek_of change_of
-returns-30 c = rw c.match.keys30
+returns-in-60 c = rw c.in-60.is
 
-returns-31 : tie.Need-returns-31
+pub returns-in-35 : goal.returns-in-35
 unfolding shape_of look_up command_table packed packed_from shape_in plain_of seek_of change_of
-returns-31 c = rw c.match.keys31
+returns-in-35 c = rw c.in-35.is
 
-returns-32 : tie.Need-returns-32
+pub returns-in-36 : goal.returns-in-36
 unfolding shape_of look_up command_table packed packed_from shape_in plain_of seek_of change_of
-returns-32 c = rw c.match.keys32
+returns-in-36 c = rw c.in-36.is
 
-returns-33 : tie.Need-returns-33
+pub returns-in-37 : goal.returns-in-37
 unfolding shape_of look_up command_table packed packed_from shape_in plain_of seek_of change_of
-returns-33 c = rw c.match.keys33
+returns-in-37 c = rw c.in-37.is
 
-returns-34 : tie.Need-returns-34
+pub returns-in-5394516 : goal.returns-in-5394516
 unfolding shape_of look_up command_table packed packed_from shape_in plain_of seek_of change_of
-returns-34 c = rw c.match.keys34
+returns-in-5394516 c = rw c.in-5394516.is
 
-returns-35 : tie.Need-returns-35
+pub returns-in-18758 : goal.returns-in-18758
 unfolding shape_of look_up command_table packed packed_from shape_in plain_of seek_of change_of
-returns-35 c = rw c.match.keys35
+returns-in-18758 c = rw c.in-18758.is
 
-returns-36 : tie.Need-returns-36
+pub returns-in-21836 : goal.returns-in-21836
 unfolding shape_of look_up command_table packed packed_from shape_in plain_of seek_of change_of
-returns-36 c = rw c.match.keys36
+returns-in-21836 c = rw c.in-21836.is
 
-returns-37 : tie.Need-returns-37
+pub returns-in-1229342031 : goal.returns-in-1229342031
 unfolding shape_of look_up command_table packed packed_from shape_in plain_of seek_of change_of
-returns-37 c = rw c.match.keys37
+returns-in-1229342031 c = rw c.in-1229342031.is
 
-returns-38 : tie.Need-returns-38
+pub returns-in-22344 : goal.returns-in-22344
 unfolding shape_of look_up command_table packed packed_from shape_in plain_of seek_of change_of
-returns-38 c = rw c.match.keys38
+returns-in-22344 c = rw c.in-22344.is
 
-returns-39 : tie.Need-returns-39
+pub returns-in-21844 : goal.returns-in-21844
 unfolding shape_of look_up command_table packed packed_from shape_in plain_of seek_of change_of
-returns-39 c = rw c.match.keys39
+returns-in-21844 c = rw c.in-21844.is
 
-returns-40 : tie.Need-returns-40
+pub returns-in-4278096 : goal.returns-in-4278096
 unfolding shape_of look_up command_table packed packed_from shape_in plain_of seek_of change_of
-returns-40 c = rw c.match.keys40
+returns-in-4278096 c = rw c.in-4278096.is
 
-returns-41 : tie.Need-returns-41
+pub returns-in-87 : goal.returns-in-87
 unfolding shape_of look_up command_table packed packed_from shape_in plain_of seek_of change_of
-returns-41 c = rw c.match.keys41
+returns-in-87 c = rw c.in-87.is
 
-returns-42 : tie.Need-returns-42
+pub returns-in_default : goal.returns-in_default
 unfolding shape_of command_table packed packed_from shape_in
-returns-42 c = in-no-row (Unit {0}) command_table c.before.args.letters c.match.rest
-
-pub command-spec : {M : Type 1} → statement M
-command-spec =
-    tie.close
-    (tie.spec
-    returns
-    returns-2
-    returns-3
-    returns-4
-    returns-5
-    returns-6
-    returns-7
-    returns-8
-    returns-9
-    returns-10
-    returns-11
-    returns-12
-    returns-13
-    returns-14
-    returns-15
-    returns-16
-    returns-17
-    returns-18
-    returns-19
-    returns-20
-    returns-21
-    returns-22
-    returns-23
-    returns-24
-    returns-25
-    returns-26
-    returns-27
-    returns-28
-    returns-29
-    returns-30
-    returns-31
-    returns-32
-    returns-33
-    returns-34
-    returns-35
-    returns-36
-    returns-37
-    returns-38
-    returns-39
-    returns-40
-    returns-41
-    returns-42)
+returns-in_default c = in-no-row (Unit {0}) command_table c.args.letters c.in_default.in_default-own.rest
