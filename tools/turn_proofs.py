@@ -155,6 +155,7 @@ class Function:
         if self.member and step == "requires" and rest[:1] in (["0"], ["1"]):
             return ".".join(["c", "decreases" if rest[0] == "0" else "requires"] + rest[1:])
         step = "well_formed" if step == "well-formed" else step
+        step = re.sub("_lem$", "", step)
         if step in ("args", "requires", "ranges", "lifetimes", "well_formed", "type_inv"):
             return "c." + ".".join([step] + rest)
         at = self.resolve(place, ups, step)
