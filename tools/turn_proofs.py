@@ -39,6 +39,55 @@ def blocks(text):
     return head, decls
 
 
+def clauses():
+    """For each function of src/, by its path, the names of its ensures, where it has several."""
+    found = {}
+    for folder, folders, files in os.walk("crates"):
+        folders[:] = [f for f in folders if f != "out"]
+        for file in files:
+            if not file.endswith(".rt") or "/src" not in folder:
+                continue
+            crate, _, inner = folder[len("crates/") :].partition("/src")
+            module = [p for p in inner.split("/") if p] + ([] if file in ("lib.rt", "main.rt") else [file[:-3]])
+            text = open(os.path.join(folder, file), encoding="utf-8").read()
+            for m in re.finditer(r"\bfn (\w+)[^{]*?(?:\n\s+(?:requires|ensures)[^\n]*)*\n?\{", text):
+                names = re.findall(r"(?m)^\s+ensures (\w+) \{", m[0])
+                if len(names) > 1:
+                    found["::".join([crate, *module, m[1]])] = names
+    return found
+
+
+def parts(text):
+    """The parts of a term in round brackets, or None."""
+    text = text.strip()
+    if not text.startswith("(") or not text.endswith(")"):
+        return None
+    out, depth, at = [], 0, 1
+    for i, sign in enumerate(text):
+        depth += (sign in "([") - (sign in ")]")
+        if depth == 0 and i < len(text) - 1:
+            return None
+        if sign == "," and depth == 1:
+            out.append(text[at:i].strip())
+            at = i + 1
+    last = text[at:-1].strip()
+    return out + ([last] if last else [])
+
+
+def named(body, names):
+    """An answer for several clauses, as a record by their names."""
+    lets, rest = "", body
+    while True:
+        m = re.match(r"\s*let .*? in(?=\s)", rest, re.S)
+        if not m or m[0].count("let ") != 1:
+            break
+        lets, rest = lets + m[0], rest[m.end() :]
+    terms = parts(rest)
+    if terms and len(terms) == len(names):
+        return lets + " record { " + "; ".join(f"{n} = {t}" for n, t in zip(names, terms)) + " }"
+    return lets + f" let all = {rest.strip()} in record {{ " + "; ".join(f"{n} = all.{i}" for i, n in enumerate(names)) + " }"
+
+
 class Function:
     def __init__(self, names, crate, folder, member=None):
         self.crate, self.folder, self.member = crate, folder, member
@@ -99,6 +148,9 @@ class Function:
         if at is None:
             self.said.append(f"no step {step} in {whole}")
             return whole
+        names = CLAUSES.get(self.callee[at] or "")
+        if names and rest[:1] == ["ensures"] and rest[1:2] and rest[1].isdigit() and int(rest[1]) < len(names):
+            rest = ["ensures", names[int(rest[1])]] + rest[2:]
         if rest[:1] in (["auto"], ["new"]):
             ones = 0
             while rest[1 + ones : 2 + ones] == ["1"]:
@@ -115,10 +167,10 @@ class Function:
             if best:
                 return ".".join(["c", arm[0], best[0]] + rest[len(best[1]) :])
             own = next((n for n, s, p in arm[2] if norm(s) == old and not p), None)
-            if own and rest and re.match(r"keys\d+$|rest$", rest[0]):
-                whole = ".".join(["c", arm[0], own] + rest)
-                self.opens = self.opens or rest[0] != "rest"
-                return f"(opened {whole})" if rest[0] != "rest" else whole
+            if own and rest:
+                whole, keys = ".".join(["c", arm[0], own] + rest), arm[0].startswith("in_default") and re.match(r"keys\d+$", rest[0])
+                self.opens = self.opens or bool(keys)
+                return f"(opened {whole})" if keys else whole
             if any(norm(s) == old and p for _, s, p in arm[2]):
                 self.said.append(f"arm {arm[0]}: {whole}")
                 return ".".join(["c", arm[0]] + rest)
@@ -168,6 +220,13 @@ class Function:
                 at = self.resolve(place, m[3].count(".before") + contexts.get(m[2], 0), m[4])
                 if at:
                     text = re.sub(rf"(?<![^\s(){{}};,@«»]){re.escape(m[1])}\.(auto|new)((?:\.1)*)\.0", lambda k, at=at, v=m[1]: f"{v}.{k[1]}.{self.lent(at, len(k[2]) // 2)}", text)
+                    for i, name in enumerate(CLAUSES.get(self.callee[at] or "", [])):
+                        text = re.sub(rf"(?<![^\s(){{}};,@«»]){re.escape(m[1])}\.ensures\.{i}(?!\d)", f"{m[1]}.ensures.{name}", text)
+        for m in re.finditer(rf"\blet ({WORD}) = ({WORD})((?:\.before)*)\.({WORD})\.ensures in\b", text):
+            if m[2] == "c" or m[2] in contexts:
+                at = self.resolve(place, m[3].count(".before") + contexts.get(m[2], 0), m[4])
+                for i, name in enumerate(CLAUSES.get(self.callee[at] or "", []) if at else []):
+                    text = re.sub(rf"(?<![^\s(){{}};,@«»]){re.escape(m[1])}\.{i}(?!\d)", f"{m[1]}.{name}", text)
 
         heads = "|".join(sorted(map(re.escape, ["c", *contexts, *steps]), key=len, reverse=True))
         text = re.sub(rf"(?<![^\s(){{}};,@«»])({heads})((?:\.{WORD})+)", one, text)
@@ -269,6 +328,9 @@ class Function:
                 body = re.sub("\x00(\\S+?)\x00", lambda m: inline[m[1]], body)
                 if TRIVIAL.match(body.strip()) and not unfolding:
                     continue
+                names = CLAUSES.get("::".join([self.crate, *self.folder.split("/")]))
+                if names and new.startswith("returns"):
+                    body = named(body, names)
                 for a, b in renames.items():
                     body = re.sub(rf"(?<![^\s(){{}};,@«»]){re.escape(a)}(?=[ )\n](?!=))(?=\s+c\b)", b, body)
                 more = "".join(f" {q}" for q in params[1:] if q != "κs")
@@ -435,4 +497,5 @@ def main(crate, names, *folders):
             print(f"{folder}: {said}")
 
 
+CLAUSES = clauses()
 main(*sys.argv[1:])

@@ -1,5 +1,7 @@
 // The lexer: the small parts of a script. A reader takes the script and a place, a byte offset from 0, and answers what
 // stands there and the place after it.
+#![tactic(auto)]
+
 pub mod bytes; // bytes.rt: kinds of bytes, the byte at a place
 pub mod lines; // lines.rt: the lines that I and R insert
 pub mod names; // names.rt: command names, packed in a number

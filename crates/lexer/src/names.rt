@@ -35,8 +35,8 @@ fn one_less(left: usize) -> usize
 // The letters that stand next: the first four, upper-cased, packed with the first one highest.
 pub fn name(s: &[u8], at: usize) -> Name
     requires { at ≤ length s.now }
-    ensures at_value { «name_of» (cursor_at s.now at) ≡ token result.letters (cursor_at s.now result.next) }
-    ensures at_le_next { (at ≤ result.next) × (result.next ≤ length s.now) }
+    ensures read { «name_of» (cursor_at s.now at) ≡ token result.letters (cursor_at s.now result.next) }
+    ensures within { (at ≤ result.next) × (result.next ≤ length s.now) }
 {
     let mut n: u32 = 0;
     let mut left: usize = 4;

@@ -26,8 +26,8 @@ fn with_digit(n: usize, b: u8) -> usize
 // The digits that stand next. A value over 65,535, which no number of a script has, counts as 65,536.
 pub fn digits(s: &[u8], at: usize) -> Count
     requires { at ≤ length s.now }
-    ensures at_value { capped («digits_of» (cursor_at s.now at)) ≡ token result.value (cursor_at s.now result.next) }
-    ensures at_le_next { (at ≤ result.next) × (result.next ≤ length s.now) × (result.value ≤ 65536) }
+    ensures read { capped («digits_of» (cursor_at s.now at)) ≡ token result.value (cursor_at s.now result.next) }
+    ensures within { (at ≤ result.next) × (result.next ≤ length s.now) × (result.value ≤ 65536) }
 {
     let mut n: usize = 0;
     let mut i = at;

@@ -9,8 +9,8 @@ use scans::{Kind, past};
 // Past the spaces.
 pub fn skip_spaces(s: &[u8], at: usize) -> usize
     requires { at ≤ length s.now }
-    ensures at_value { skip_spaces (cursor_at s.now at) ≡ cursor_at s.now result }
-    ensures lower_bound { (at ≤ result) × (result ≤ length s.now) }
+    ensures place { skip_spaces (cursor_at s.now at) ≡ cursor_at s.now result }
+    ensures within { (at ≤ result) × (result ≤ length s.now) }
 {
     past(s, at, s.len(), Kind::Only(32))
 }
@@ -18,8 +18,8 @@ pub fn skip_spaces(s: &[u8], at: usize) -> usize
 // To the line's end, where its LF stands.
 pub fn skip_comment(s: &[u8], at: usize) -> usize
     requires { at ≤ length s.now }
-    ensures at_value { skip_comment (cursor_at s.now at) ≡ cursor_at s.now result }
-    ensures lower_bound { (at ≤ result) × (result ≤ length s.now) }
+    ensures place { skip_comment (cursor_at s.now at) ≡ cursor_at s.now result }
+    ensures within { (at ≤ result) × (result ≤ length s.now) }
 {
     past(s, at, s.len(), Kind::Not(10))
 }
@@ -27,8 +27,8 @@ pub fn skip_comment(s: &[u8], at: usize) -> usize
 // Past spaces, comments and line ends.
 pub fn skip_blank(s: &[u8], at: usize) -> usize
     requires { at ≤ length s.now }
-    ensures at_value { skip_blank (cursor_at s.now at) ≡ cursor_at s.now result }
-    ensures lower_bound { (at ≤ result) × (result ≤ length s.now) }
+    ensures place { skip_blank (cursor_at s.now at) ≡ cursor_at s.now result }
+    ensures within { (at ≤ result) × (result ≤ length s.now) }
 {
     let mut i = at;
     loop {

@@ -12,9 +12,9 @@ use scans::{Kind, past};
 // The end of the string that begins at the place: its delimiter d, or the line's end where that is missing.
 pub fn string_end(s: &[u8], at: usize, d: u8) -> usize
     requires { at ≤ length s.now }
-    ensures at_value { string_next d (cursor_at s.now at) ≡ part at result s.now }
-    ensures at_value_2 { advance (length (string_next d (cursor_at s.now at))) (cursor_at s.now at) ≡ cursor_at s.now result }
-    ensures lower_bound { (at ≤ result) × (result ≤ length s.now) }
+    ensures text { string_next d (cursor_at s.now at) ≡ part at result s.now }
+    ensures place { advance (length (string_next d (cursor_at s.now at))) (cursor_at s.now at) ≡ cursor_at s.now result }
+    ensures within { (at ≤ result) × (result ≤ length s.now) }
 {
     past(s, at, s.len(), Kind::Neither(d, 10))
 }
@@ -22,8 +22,8 @@ pub fn string_end(s: &[u8], at: usize, d: u8) -> usize
 // Past the closing delimiter, if it stands there.
 pub fn past_delimiter(s: &[u8], at: usize, d: u8) -> usize
     requires { at ≤ length s.now }
-    ensures at_value { past_delimiter d (cursor_at s.now at) ≡ cursor_at s.now result }
-    ensures lower_bound { (at ≤ result) × (result ≤ length s.now) }
+    ensures place { past_delimiter d (cursor_at s.now at) ≡ cursor_at s.now result }
+    ensures within { (at ≤ result) × (result ≤ length s.now) }
 {
     if at < s.len() {
         if s[at] == d {

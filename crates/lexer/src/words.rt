@@ -17,8 +17,8 @@ pub enum Else {
 // Past THEN, if it stands there.
 pub fn skip_then(s: &[u8], at: usize) -> usize
     requires { at ≤ length s.now }
-    ensures at_value { skip_then (cursor_at s.now at) ≡ cursor_at s.now result }
-    ensures lower_bound { (at ≤ result) × (result ≤ length s.now) }
+    ensures place { skip_then (cursor_at s.now at) ≡ cursor_at s.now result }
+    ensures within { (at ≤ result) × (result ≤ length s.now) }
 {
     let i = skip_spaces(s, at);
     let w = name(s, i);

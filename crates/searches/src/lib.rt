@@ -20,8 +20,8 @@ pub enum Right {
 // The operator b, if it is the next thing but for spaces, comments and line ends, which may also follow it.
 fn operator(s: &[u8], at: usize, b: u8) -> Right
     requires { (at ≤ length s.now) × (0 < b) }
-    ensures result_value { right_of s.now result ≡ «operator-of» b (cursor_at s.now at) }
-    ensures right_on { RightOn at (length s.now) result }
+    ensures operator { right_of s.now result ≡ «operator-of» b (cursor_at s.now at) }
+    ensures right { RightOn at (length s.now) result }
 {
     let i = skip_blank(s, at);
     if s.len() <= i {
