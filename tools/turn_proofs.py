@@ -250,9 +250,13 @@ class Function:
         text = re.sub(r"not-(?:true|false) (?:_|\([^()]*\)) ([^\s(),]+\.(?:true|false))(?=[\s),]|$)", r"\1", text)
         for v in contexts:
             text = re.sub(rf"(?<![^\s(){{}};,@«»]){re.escape(v)}(?![^\s(){{}};,@«»])", "c", text)
-        for v in steps:
-            if re.search(rf"(?<![^\s(){{}};,@«»]){re.escape(v)}(?![^\s(){{}};,@«»])", text):
-                self.said.append(f"{v} is used whole")
+        for v, (ups, parts) in steps.items():
+            whole = rf"(?<![^\s(){{}};,@«»]){re.escape(v)}(?![^\s(){{}};,@«»])"
+            if re.search(whole, text):
+                name = self.path(place, ups, parts[0], parts[1:], v)
+                text = re.sub(whole, lambda m: name, text)
+                if name.split(".")[-1] == parts[-1]:
+                    self.said.append(f"{v} is used whole")
         return text
 
     def turn(self):

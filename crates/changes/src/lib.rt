@@ -1,4 +1,6 @@
 // The commands that change the current line's text, or p, on the journal buffer.
+#![tactic(auto)]
+
 pub mod look;
 pub mod rewrite;
 

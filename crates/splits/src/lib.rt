@@ -1,4 +1,6 @@
 // SA and SB: the current line cut in two.
+#![tactic(auto)]
+
 ghost use Rattle.std.specs.Prelude.{◌≡◌, true, ◌+◌, ◌≤◌, ◌<◌, length};
 ghost use Rattle.definitions.specs.Bytes.{is_line};
 ghost use Rattle.definitions.specs.Given.{Carried};
