@@ -1,0 +1,21 @@
+-- `script::read_one` meets its contract. Assumes nothing.
+use Rattle.script.proofs.Classes.{at-end, past-spaces, stands_on, comes-from}
+use borrow.Author.Rules.{rules}
+use Rattle.script.proofs.OneRound.{end-gives}
+use Rattle.script.proofs.read_one.Goals as goal
+
+pub read_at-requires : goal.read_at-requires
+read_at-requires c =
+    let sp = c.skip_spaces-at.ensures in
+    ((c.requires.0, stands_on _ _ _ _ _ _ c.requires.1 sp.within.0 sp.within.1), c.if-at-s.true)
+
+pub returns-then-at-s : goal.returns-then-at-s
+returns-then-at-s c = λ acc h.
+    let sp = c.skip_spaces-at.ensures in
+    rw (past-spaces _ _ _ _ acc _ sp.place) (comes-from _ _ _ _ _ _ sp.within.0 (c.read_at.ensures acc (stands_on _ _ _ _ _ _ h sp.within.0 sp.within.1)))
+
+pub returns : goal.returns
+returns c = λ acc h.
+    let sp = c.skip_spaces-at.ensures in
+    rw (past-spaces _ _ _ _ acc _ sp.place, at-end _ _ acc _ _ c.if-at-s.false)
+    (comes-from _ _ _ _ _ _ sp.within.0 (end-gives _ _ _ _ acc (stands_on _ _ _ _ _ _ h sp.within.0 sp.within.1) _ c.script_end.ensures))

@@ -1,0 +1,16 @@
+-- `script::read_script` meets its contract. Assumes nothing.
+use Rattle.script.proofs.WholeScript.{Going, begins, goes_on, ends}
+use Rattle.definitions.specs.Script.{read_script}
+use lib.ListN.{length}
+use Prim.Native.Nat.{◌-◌}
+use mathlib.Core.Path.{◌≡◌, refl, ◌∙◌}
+use native.Mathlib.Omega.{arith}
+use borrow.Author.Rules.{rules}
+use Rattle.answers.proofs.Taking.{no_more}
+use Rattle.script.proofs.read_script.Given as goal
+
+abbrev pub invariant-loop-next : goal.invariant-loop-next
+invariant-loop-next l = Going l.s l.w l.st l.at (read_script l.s) × (length l.w ≡ length l.initial.w)
+
+abbrev pub decreases-loop-next : goal.decreases-loop-next
+decreases-loop-next l = length l.s - l.at

@@ -1,0 +1,15 @@
+-- `script::searching::loops` meets its contract. Assumes nothing.
+use mathlib.Core.Path.{ap}
+use Prim.Native.Nat.{ℕ}
+use borrow.Author.Rules.{rules}
+use Rattle.items.specs.Words.{head}
+use Rattle.answers.proofs.Taking.{is-search, no_search, up-command}
+use Rattle.script.proofs.Searched.{loops-written, loops-refused}
+use borrow.Enum.Refused.{opened}
+use Rattle.script.proofs.searching.loops.Goals as goal
+
+pub returns-in_default : goal.returns-in_default
+returns-in_default c = up-command (no_search c.search_words-found.ensures (opened c.in_default.in_default-own.keys2)) (λ n p h. loops-refused _ _ _ n p h _)
+
+pub returns : goal.returns
+returns c = loops-written _ _ _ _ _ _ c.requires.0 _ _ _ (is-search c.search_words-found.ensures c.in-Search.is) _ c.requires.1 (ap (λ (n : ℕ). head n c.args.place) c.loop_kind.ensures.0)
