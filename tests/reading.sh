@@ -12,13 +12,17 @@ stands() { # NAME FILE PATTERN: a line of the file fits the pattern
     fi
 }
 
-# definitions and theorems: Module.name, theorems/Module.name
+# definitions and theorems: Module.name, theorems/Module.name; a theorem that is not in specs/ is in proofs/
 while read -r name; do
     crate=definitions word=${name#*.} module=${name%%.*}
     case $module in
         theorems/*) crate=theorems module=${module#theorems/} ;;
     esac
-    stands "$word" "crates/$crate/specs/$module.antt" "^[^-]*(^|[ (])$word( [^=]*)? :( |\$)"
+    pattern="^[^-]*(^|[ (])$word( [^=]*)? :( |\$)" file=crates/$crate/specs/$module.antt
+    if [ "$crate" = theorems ] && ! { [ -f "$file" ] && grep -qE "$pattern" "$file"; }; then
+        file=crates/$crate/proofs/$module.antt
+    fi
+    stands "$word" "$file" "$pattern"
 done < <(names '(theorems/)?[A-Z][A-Za-z0-9]*\.[A-Za-z][A-Za-z0-9_-]*')
 
 # functions and types of the code: crate::name, crate::module::name

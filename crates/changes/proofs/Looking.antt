@@ -18,7 +18,7 @@ use Rattle.definitions.specs.Reading.{Ran, gave, stopped}
 use Rattle.definitions.specs.StepProgram.{Program, gives, ◌>>=◌, ◌>>◌, runs}
 use Rattle.definitions.specs.Matching.{Qualified, Match, matched, match_of}
 use Rattle.definitions.specs.Edit.{stop_if, or_stop, line_in, line_or, match_or24, byte_here}
-use Rattle.theorems.specs.Places.{match-inside}
+use Rattle.theorems.proofs.Places.{match-inside}
 use Rattle.taking.specs.Ways.{found_of}
 use Rattle.taking.specs.declared.Found.{Found}
 use Rattle.taking.specs.declared.Found.TheVariants.{At, Nothing}

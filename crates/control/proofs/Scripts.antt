@@ -14,8 +14,9 @@ use Rattle.definitions.specs.Script.{items, read_script}
 use Rattle.theorems.specs.Lines.{and_left, and_right}
 use Rattle.theorems.specs.GoodItems.{good_opener, good_item, placed_in, all_items}
 use Rattle.theorems.specs.Nesting.{nested}
-use Rattle.theorems.specs.NestingLaws.{may_bracket, bracket-follows}
-use Rattle.theorems.specs.ReadScript.{well-nested, items-placed, good-items}
+use Rattle.theorems.specs.NestingLaws.{may_bracket}
+use Rattle.theorems.proofs.NestingLaws.{bracket-follows}
+use Rattle.theorems.proofs.ReadScript.{well-nested, items-placed, good-items}
 use Rattle.items.specs.Ends.{place_of}
 use Rattle.items.specs.Reserve.{ItemsReady}
 use Rattle.control.specs.Items.{count_of, starts_group, Proper, Startable}

@@ -23,7 +23,8 @@ use Rattle.definitions.specs.Edit.{Op, Change, after_it, before_it, exchange, st
 use Rattle.theorems.specs.Reading.{At}
 use Rattle.theorems.specs.ComesTo.{Ended, Keeping, OnGot, ComesTo, then-comes, and-comes, either-comes, test-comes, line-comes, byte-comes, go-comes, reads-keep, within-comes}
 use Rattle.theorems.specs.GoodLines.{splice-length}
-use Rattle.theorems.specs.Places.{MatchIn, match-inside}
+use Rattle.theorems.specs.Places.{MatchIn}
+use Rattle.theorems.proofs.Places.{match-inside}
 use Rattle.editor.specs.Shows.{GroundedAt}
 use Rattle.editor.specs.Current.{PointIn, PointOut}
 use Rattle.theorems.specs.Lines.{equal_is}

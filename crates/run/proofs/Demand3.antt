@@ -5,7 +5,7 @@ use Prim.Native.Nat.{ℕ}
 use lib.ListN.{length}
 use Rattle.definitions.specs.Run.{Answer as Answered, answer, refusal, answer_records, outcome_of}
 use Rattle.theorems.specs.Demand3.{IsAccepted}
-use Rattle.theorems.specs.Demand3Values.{Call, defined, IsRun, holds, read-journal, journal-fits, past-journal, rest-after, rest-passes, ComparedCall, calls-agree}
+use Rattle.theorems.proofs.Demand3Values.{Call, defined, IsRun, holds, read-journal, journal-fits, past-journal, rest-after, rest-passes, ComparedCall, calls-agree}
 use Rattle.run.specs.Answers.{values_of, outcome_with, case_of, Ran}
 use Rattle.run.specs.Demand3.{Accepted, Compared, DemandThree}
 use Rattle.run.specs.declared.Answer.{Answer}

@@ -13,7 +13,7 @@ use Rattle.definitions.specs.Arranging.{arrange_from, arrange}
 use Rattle.theorems.specs.JournalBytes.{record-length, journal-length, length_both}
 use Rattle.theorems.specs.Arranged.{gone_in, came_in}
 use Rattle.theorems.specs.ArrangeLaws.{arrange-length}
-use Rattle.theorems.specs.Fits.{journal-append}
+use Rattle.theorems.proofs.Fits.{journal-append}
 use Rattle.text.specs.Buffer.{laid}
 use Rattle.text.proofs.Buffer.{laid_none, laid-laid}
 use Rattle.journal.specs.Views.{Puts}

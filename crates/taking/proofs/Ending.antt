@@ -14,8 +14,10 @@ use Rattle.definitions.specs.Bytes.{Line}
 use Rattle.definitions.specs.Matching.{byte_before, is_apart, matched, stands_in, to_place}
 use Rattle.definitions.specs.Patterns.{Pattern}
 use Rattle.theorems.specs.PatternLanguage.{InLanguage}
-use Rattle.theorems.specs.PatternTaken.{Matches, stands-matches, matches-stands}
-use Rattle.theorems.specs.TakenByPlaces.{may_begin, may_end, restricted, to_none, to_some}
+use Rattle.theorems.specs.PatternTaken.{Matches}
+use Rattle.theorems.proofs.PatternTaken.{stands-matches, matches-stands}
+use Rattle.theorems.specs.TakenByPlaces.{may_begin, may_end, restricted}
+use Rattle.theorems.proofs.TakenByPlaces.{to_none, to_some}
 use Rattle.text.specs.Lines.{part}
 use Rattle.text.proofs.Parts.{drop-take, part_length}
 use Rattle.marks.specs.Sweeping.{never, out_of, marks_after}

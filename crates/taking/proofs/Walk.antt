@@ -14,7 +14,8 @@ use borrow.Author.Tests.{ltb-true, ltb-false, lt-ltb, le-leb, lt-leb}
 use Rattle.definitions.specs.Bytes.{Line}
 use Rattle.definitions.specs.Matching.{anywhere, text, Match, matched, stands_in, to_place, taken}
 use Rattle.definitions.specs.Patterns.{Pattern}
-use Rattle.theorems.specs.TakenByPlaces.{anchored-is, better_of, later_of, leftmost-empty, leftmost-further, rightmost-empty, rightmost-further}
+use Rattle.theorems.specs.TakenByPlaces.{better_of, later_of}
+use Rattle.theorems.proofs.TakenByPlaces.{anchored-is, leftmost-empty, leftmost-further, rightmost-empty, rightmost-further}
 use Rattle.text.specs.Lines.{part}
 use Rattle.text.proofs.Parts.{part_none, part-more, part_join, part_length}
 use Rattle.marks.specs.Sweeping.{never, slots, out_of, swept, no_marks, marks_from, marks_after, takes_none, begins}

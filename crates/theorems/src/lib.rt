@@ -1,1 +1,3 @@
-// What is proved of the definitions alone: see specs/. This crate has no code.
+#![tactic(auto)]
+
+// What is proved of the definitions alone: see specs/ and proofs/. This crate has no code.

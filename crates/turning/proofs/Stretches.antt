@@ -8,7 +8,7 @@ use Rattle.definitions.specs.Arranging.{arrange_from, arrange}
 use Rattle.definitions.specs.Joining.{turn_one, turn, is_arranged_from, is_arranged}
 use Rattle.theorems.specs.Arranged.{IsApart}
 use Rattle.theorems.specs.ArrangeLaws.{BeginsApart}
-use Rattle.theorems.specs.Fits.{journal-append}
+use Rattle.theorems.proofs.Fits.{journal-append}
 use Rattle.turning.specs.Rows.{first_byte, row_of, after_row, gone_first, came_next, after_stretch, stretch_turned}
 use Rattle.turning.proofs.Rows.{gone-turned, came-turned}
 

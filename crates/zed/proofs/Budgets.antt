@@ -6,7 +6,7 @@ use Prim.Native.Nat.{ℕ}
 use lib.ListN.{length}
 use Rattle.definitions.specs.Run.{Answer, answer, refusal, run_answer, answer_number, answer_steps, answer_furthest, buffer_after}
 use Rattle.theorems.specs.Demand3.{IsAccepted}
-use Rattle.theorems.specs.BudgetsProof.{AnswersAgree, answers_agree}
+use Rattle.theorems.proofs.BudgetsProof.{AnswersAgree, answers_agree}
 use Rattle.zed.specs.Values.{values, run_of}
 use Rattle.zed.specs.Demand3.{Call, ran, Returned, number, steps, furthest, Accepted}
 use Rattle.zed.specs.Budgets.{DifferInBudget, EndTheSame, WishFive, LargerBudgets}

@@ -6,8 +6,9 @@ use native.Mathlib.Omega.{arith}
 use lib.ListN.{length}
 use Rattle.definitions.specs.Run.{Answer, answer, refusal, answer_number, answer_steps, answer_furthest, answer_length, answer_place, answer_records, buffer_after, outcome_from}
 use Rattle.theorems.specs.Demand3.{IsAccepted}
-use Rattle.theorems.specs.Numbers.{EndNumber, Numbered, answer-numbered, accepted-by-number}
-use Rattle.theorems.specs.Demand3Values.{Call as CallOf, defined, IsRun, holds, read-journal, journal-fits, past-journal, rest-after, rest-passes, ComparedCall, calls-agree}
+use Rattle.theorems.specs.Numbers.{EndNumber, Numbered}
+use Rattle.theorems.proofs.Numbers.{answer-numbered, accepted-by-number}
+use Rattle.theorems.proofs.Demand3Values.{Call as CallOf, defined, IsRun, holds, read-journal, journal-fits, past-journal, rest-after, rest-passes, ComparedCall, calls-agree}
 use Rattle.zed.specs.Values.{values, run_of}
 use Rattle.zed.specs.Demand3.{Call, ran, Returned, number, steps, furthest, long, place, Accepted, Refused, Compared, DemandThree, NumberTells}
 

@@ -13,7 +13,7 @@ use Rattle.definitions.specs.Journal.{Record, old_side, new_side, journal_bytes}
 use Rattle.definitions.specs.Listing.{Written, written, number_of, length_of, bytes_of, written_to, read_out}
 use Rattle.definitions.specs.Joining.{join, turn, arranged_of, eq_lines, joined_to, join_to, turn_to}
 use Rattle.theorems.specs.OneJournal.{out, IsDone, Agreeing, SameBytes}
-use Rattle.theorems.specs.OneJournalProof.{wish-seven}
+use Rattle.theorems.proofs.OneJournalProof.{wish-seven}
 use Rattle.theorems.specs.JoinAnswers.{join-asks, written_out, written-fits}
 use Rattle.zed.specs.Seasons.{JoinCall, TurnCall, join_answer, turn_answer, Joined, Turned, JoinDone, TurnDone, join_wrote, turn_wrote, Filled, Ends, JoinRefusal, TurnRefusal, Brackets, SameEitherWay, WishSeven}
 

@@ -10,7 +10,7 @@ use Rattle.definitions.specs.Strings.{qualified_string, closing, operator, alter
 use Rattle.theorems.specs.Lines.{and_both}
 use Rattle.theorems.specs.GoodItems.{good_qualified, good_search}
 use Rattle.theorems.specs.ReaderSteps.{Sound, Reached, ReadsWell, gets, refuses-at, continues, widen, decides, past-byte, after-byte, past-spaces, past-blank}
-use Rattle.theorems.specs.StringsSteps.{qualified-reads}
+use Rattle.theorems.proofs.StringsSteps.{qualified-reads}
 
 abbrev pub GoodSearch : List ℕ → Search → Type 0
 GoodSearch s se = Sound s (good_search se)

@@ -11,11 +11,11 @@ use Rattle.definitions.specs.Run.{Answer, answer, refusal, ran_items, run_answer
 use Rattle.theorems.specs.Demand3.{IsAccepted, IsCompared, Agree, SameUpTo, unread_as, LeftAfter, standing_of, standing, Demand3, DemandThree}
 use Rattle.theorems.specs.Accepted.{ran-accepted, no-refusal, is-table, has_room}
 use Rattle.theorems.specs.RecordLaws.{up_to-after}
-use Rattle.theorems.specs.Demand3Items.{items-old, items-arranged, items-after, items-same}
-use Rattle.theorems.specs.Fits.{journal-append, items-fit}
+use Rattle.theorems.proofs.Demand3Items.{items-old, items-arranged, items-after, items-same}
+use Rattle.theorems.proofs.Fits.{journal-append, items-fit}
 use Rattle.theorems.specs.JournalBytes.{journal-length, table-reads-back}
-use Rattle.theorems.specs.Answers.{Shown}
-use Rattle.theorems.specs.RunReadsBack.{ReadsBack, run-reads-back}
+use Rattle.theorems.proofs.Answers.{Shown}
+use Rattle.theorems.proofs.RunReadsBack.{ReadsBack, run-reads-back}
 
 -- all of the buffer's bytes after an accepted run
 answer-bytes : (a : Answer) → IsAccepted a → (buffer : List ℕ) (size : ℕ) → length buffer ≡ size

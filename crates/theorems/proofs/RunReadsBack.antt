@@ -8,12 +8,12 @@ use Rattle.definitions.specs.Given.{given, bytes}
 use Rattle.definitions.specs.Control.{Item}
 use Rattle.definitions.specs.Script.{items, read_script}
 use Rattle.definitions.specs.Run.{ran_items, run_answer}
-use Rattle.theorems.specs.Answers.{Shown, run-shown, shown-both, shown-records}
-use Rattle.theorems.specs.Demand3Items.{items-old}
+use Rattle.theorems.proofs.Answers.{Shown, run-shown, shown-both, shown-records}
+use Rattle.theorems.proofs.Demand3Items.{items-old}
 use Rattle.theorems.specs.JournalBytes.{reads_back, all_lines_lem, table-lines, table-short}
 use Rattle.theorems.specs.GoodSteps.{GoodRecords}
-use Rattle.theorems.specs.GoodRecords.{ran-good}
-use Rattle.theorems.specs.GoodScripts.{good-commands}
+use Rattle.theorems.proofs.GoodRecords.{ran-good}
+use Rattle.theorems.proofs.GoodScripts.{good-commands}
 
 -- the journal `j` is read back from its bytes
 abbrev pub ReadsBack : List Record → Type 0

@@ -13,8 +13,8 @@ use Rattle.theorems.specs.GoodItems.{good_opener, good_item, placed_in, all_item
 use Rattle.theorems.specs.ItemLaws.{good-marks, placed-marks, bare-good, cons-all, reverse-all, closes-all, group-all, else-all, line-all, closes-length}
 use Rattle.theorems.specs.Nesting.{is_branch, is_bare, nested}
 use Rattle.theorems.specs.ReaderSteps.{Sound, Reached, ReadsWell, gets, refuses, is_refusal, place_short, decides, next-at, after-byte, past-spaces, comment-read, digits-read, past-name, name-read}
-use Rattle.theorems.specs.NestingSteps.{Nests, start-nests, end-nests, command-nests, opener-nests, group-nests, else-nests, close-nests, line-nests}
-use Rattle.theorems.specs.CommandSteps.{DecodedWell, a_command, an_opener, command-reads}
+use Rattle.theorems.proofs.NestingSteps.{Nests, start-nests, end-nests, command-nests, opener-nests, group-nests, else-nests, close-nests, line-nests}
+use Rattle.theorems.proofs.CommandSteps.{DecodedWell, a_command, an_opener, command-reads}
 
 -- ---- what is said of a script's reading
 

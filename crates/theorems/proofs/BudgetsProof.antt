@@ -19,9 +19,10 @@ use Rattle.definitions.specs.Run.{End, end, choose, end_place, spent, stepped, s
 use Rattle.definitions.specs.Run.{answer_number, answer_steps, answer_furthest, answer_place, outcome_from, outcome_of}
 use Rattle.theorems.specs.Reading.{At}
 use Rattle.theorems.specs.Runs.{EndOf}
-use Rattle.theorems.specs.Numbers.{StepNumber, StepNumbered, stop-number, step-number, RefusalNumber, Numbered, answer-numbered}
+use Rattle.theorems.specs.Numbers.{StepNumber, StepNumbered, RefusalNumber, Numbered}
+use Rattle.theorems.proofs.Numbers.{stop-number, step-number, answer-numbered}
 use Rattle.theorems.specs.Accepted.{Judged, refuses, takes, judged}
-use Rattle.theorems.specs.Demand3Items.{furthest_at, answer-furthest}
+use Rattle.theorems.proofs.Demand3Items.{furthest_at, answer-furthest}
 use Rattle.theorems.specs.ReadFar.{run-further}
 use Rattle.theorems.specs.Budgets.{outcome_number, outcome_steps, outcome_furthest, outcome_place, Point, point, onwards, once_made, after_steps, script_after, Pause, point_of, answer_from, GoesOn, LargerBudgets}
 

@@ -13,7 +13,7 @@ use Rattle.definitions.specs.Arranging.{arrange_from, arrange}
 use Rattle.definitions.specs.Tape.{Tape, unread, ended, rest_lines, Reads}
 use Rattle.definitions.specs.Given.{given, bytes, Given, Carried, no_globals}
 use Rattle.definitions.specs.Globals.{left_by}
-use Rattle.definitions.specs.Editor.{Ed, journal, furthest, sources, records, Stop, n25, n26, stop_number, Got, got, stop}
+use Rattle.definitions.specs.Editor.{Ed, furthest, sources, records, Stop, n25, n26, stop_number, Got, got, stop}
 use Rattle.definitions.specs.Reading.{opening}
 use Rattle.definitions.specs.StepProgram.{RunState, state, text_of, Out, on, edited, halt}
 use Rattle.definitions.specs.Edit.{step}
@@ -26,7 +26,7 @@ use Rattle.theorems.specs.RecordLaws.{old-append, old-kept}
 use Rattle.theorems.specs.ArrangeLaws.{arrange-old, arrange-again}
 use Rattle.theorems.specs.Step.{old_ed, old_state, old_out, full_out, step_free, step-faithful, opening-faithful}
 use Rattle.theorems.specs.Demand3.{IsNotFull, IsCompared, Agree, agree_up_to, are_equal, SameUpTo, Passes, left_as, unread_as, LeftAfter, standing_at}
-use Rattle.theorems.specs.Rest.{Comes, as_told, stops_late, last_answer, late_stop, answer-comes}
+use Rattle.theorems.proofs.Rest.{Comes, as_told, stops_late, last_answer, late_stop, answer-comes}
 
 -- ---- the induction over the budget: control and the script's reader are not opened
 

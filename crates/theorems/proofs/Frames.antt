@@ -8,8 +8,9 @@ use Rattle.definitions.specs.Edit.{Op}
 use Rattle.definitions.specs.Control.{Opener, times, forever, bare, branch, loop, Item, simple, seek, opens, bracket, close, otherwise, leave, line_end, Frame, frame, Ctl, running, skipping, failing, leaving, seeking, Pull, finished, want, lost, want_one, body_start, body_end, leave_to, pull_at, pull_after, pull_else, pull_line, pull}
 use Rattle.definitions.specs.Script.{items, read_script}
 use Rattle.theorems.specs.Nesting.{Body, after_bracket, after_close, after_otherwise, are_none, after, nested_from, nested}
-use Rattle.theorems.specs.NestingLaws.{opens_in, closes_in, provided-some, after-length, comes, none_left}
-use Rattle.theorems.specs.ReadScript.{well-nested}
+use Rattle.theorems.specs.NestingLaws.{opens_in, closes_in}
+use Rattle.theorems.proofs.NestingLaws.{provided-some, after-length, comes, none_left}
+use Rattle.theorems.proofs.ReadScript.{well-nested}
 
 -- ---- items that go on from a point where n bodies are open
 

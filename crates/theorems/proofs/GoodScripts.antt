@@ -7,7 +7,7 @@ use Rattle.theorems.specs.Lines.{and_left, and_right}
 use Rattle.theorems.specs.GoodItems.{good_op, good_item, all_items}
 use Rattle.theorems.specs.Runs.{ItemOf}
 use Rattle.theorems.specs.GoodSteps.{GoodItems}
-use Rattle.theorems.specs.ReadScript.{good-items}
+use Rattle.theorems.proofs.ReadScript.{good-items}
 
 command-good : (i : Item) → good_item i ≡ true → ItemOf (λ op. good_op op ≡ true) i
 unfolding good_item

@@ -1,7 +1,7 @@
 -- Wish 7, proved.
 use Rattle.definitions.specs.Journal.{journal_bytes}
 use Rattle.definitions.specs.Run.{run_answer, answer_records}
-use Rattle.theorems.specs.Demand3Proof.{demand3}
+use Rattle.theorems.proofs.Demand3Proof.{demand3}
 use Rattle.theorems.specs.ArrangedTest.{arranged-same}
 use Rattle.theorems.specs.JoinParts.{join-stays, join-others, turn-stays, turn-others}
 use Rattle.theorems.specs.JoinAnswers.{reads-records, reads-fine, reads_of, join-malformed, join-differ, join-agree, join-enough, join-reads, three-joined, three-accepted, turn_malformed, turn-answer, turn_enough, turn-reads, turn-again, join-old-side, join-new-side, turn-old-side, turn-new-side, kept_after, kept_before}

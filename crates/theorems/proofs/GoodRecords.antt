@@ -12,7 +12,7 @@ use Rattle.definitions.specs.Run.{ran_items}
 use Rattle.theorems.specs.Each.{Each, each_append, each-reverse, each_map}
 use Rattle.theorems.specs.Runs.{items-weaken}
 use Rattle.theorems.specs.ArrangeLaws.{arrange-each}
-use Rattle.theorems.specs.Answers.{Shown, ran-shown}
+use Rattle.theorems.proofs.Answers.{Shown, ran-shown}
 use Rattle.theorems.specs.Changes.{HoldsState, AsAnyWord, rest-keeps, changes-keep}
 use Rattle.theorems.specs.JournalBytes.{IsLine, GoodRecord}
 use Rattle.theorems.specs.GoodItems.{good_op}

@@ -13,10 +13,10 @@ use Rattle.definitions.specs.Commands.{Shape, plain, leaves, seeks, moves, delet
 use Rattle.theorems.specs.Lines.{and_both, and_left, and_right, TakenFrom, taken-from}
 use Rattle.theorems.specs.GoodItems.{good_test, good_target, good_through, good_option, good_op, good_opener, good_item, placed_in}
 use Rattle.theorems.specs.Nesting.{is_branch, is_bare}
-use Rattle.theorems.specs.NestingSteps.{is_command}
+use Rattle.theorems.proofs.NestingSteps.{is_command}
 use Rattle.theorems.specs.ReaderSteps.{Sound, Reached, ReadsWell, gets, refuses, refuses-at, anything, as-far, then, decides, after-byte, past-spaces, past-comment, past-name, number-reads, IsNumber, advanced, quoted-reads}
-use Rattle.theorems.specs.StringsSteps.{good_pair, two-reads, good_plain_pair, two-plain-reads, words-reads, qualified-reads}
-use Rattle.theorems.specs.SearchSteps.{GoodSearch, search-reads}
+use Rattle.theorems.proofs.StringsSteps.{good_pair, two-reads, good_plain_pair, two-plain-reads, words-reads, qualified-reads}
+use Rattle.theorems.proofs.SearchSteps.{GoodSearch, search-reads}
 
 -- ---- line numbers
 

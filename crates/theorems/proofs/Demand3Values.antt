@@ -8,7 +8,7 @@ use Rattle.definitions.specs.Given.{Carried}
 use Rattle.definitions.specs.Run.{Answer, answer, refusal, run_answer, answer_number, answer_steps, answer_furthest, answer_place, answer_length, answer_records, buffer_after, outcome, outcome_from}
 use Rattle.theorems.specs.Each.{Each}
 use Rattle.theorems.specs.Demand3.{IsAccepted, IsCompared, Agree, SameUpTo, Passes, unread_as, LeftAfter, standing, Demand3}
-use Rattle.theorems.specs.Demand3Proof.{demand3}
+use Rattle.theorems.proofs.Demand3Proof.{demand3}
 use Rattle.theorems.specs.JournalBytes.{journal-length}
 
 -- a call: what the run is given, the answer's values, and the journal buffer's bytes afterwards

@@ -9,7 +9,7 @@ use Rattle.definitions.specs.Given.{global, Carried, carried}
 use Rattle.definitions.specs.Run.{Answer, answer, run_answer, answer_furthest}
 use Rattle.definitions.specs.Everything.{everything}
 use Rattle.theorems.specs.Demand3.{IsAccepted, IsCompared, Agree, agree_up_to, SameUpTo, LeftAfter, standing_at, standing_of, standing}
-use Rattle.theorems.specs.Demand3Proof.{demand3}
+use Rattle.theorems.proofs.Demand3Proof.{demand3}
 
 abbrev table : List ℕ
 table = bytes "a\nb\nc\n"

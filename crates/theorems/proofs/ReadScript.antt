@@ -8,7 +8,7 @@ use Rattle.theorems.specs.Lines.{and_left, and_right}
 use Rattle.theorems.specs.GoodItems.{good_item, placed_in, all_items}
 use Rattle.theorems.specs.Nesting.{nested}
 use Rattle.theorems.specs.ReaderSteps.{Sound, is_refusal}
-use Rattle.theorems.specs.ScriptSteps.{Fine, accepted, rejected, script-fine}
+use Rattle.theorems.proofs.ScriptSteps.{Fine, accepted, rejected, script-fine}
 
 fine : (s : List ℕ) (r : Script) → read_script s ≡ r → Fine s r
 fine s r e = subst (Fine s) e (script-fine s)

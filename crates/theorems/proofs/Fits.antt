@@ -22,7 +22,7 @@ use Rattle.theorems.specs.Passing.{line-comes-to}
 use Rattle.theorems.specs.Reading.{At}
 use Rattle.theorems.specs.Runs.{AfterStep, inner-all, items-all, run_items-keeps}
 use Rattle.theorems.specs.ArrangeLaws.{arrange-length}
-use Rattle.theorems.specs.Answers.{Shown, ran-shown}
+use Rattle.theorems.proofs.Answers.{Shown, ran-shown}
 
 -- ---- a journal in two parts
 

@@ -21,7 +21,7 @@ use Rattle.definitions.specs.Run.{End, end, run_items, Answer, answer, refusal, 
 use Rattle.theorems.specs.Reading.{At}
 use Rattle.theorems.specs.ComesTo.{Keeping}
 use Rattle.theorems.specs.Runs.{AtEnd}
-use Rattle.theorems.specs.Rest.{AllRead, rest_read}
+use Rattle.theorems.proofs.Rest.{AllRead, rest_read}
 
 -- what holds of the journal of an answer, if the run is not refused
 abbrev pub Shown : (List Record → Type 0) → Answer → Type 0

@@ -11,7 +11,7 @@ use Rattle.definitions.specs.Globals.{left_by}
 use Rattle.definitions.specs.Editor.{Got, got, stop}
 use Rattle.definitions.specs.Run.{Answer, run_answer, answer_number, answer_furthest, answer_records}
 use Rattle.theorems.specs.Demand3.{IsAccepted, left_as, unread_as, standing}
-use Rattle.theorems.specs.Demand3Proof.{demand3}
+use Rattle.theorems.proofs.Demand3Proof.{demand3}
 
 -- "The record of source line n is the nth record that gives the old side a line"; none where the records have no such line
 unfoldable pub record_of_line : ℕ → List Record → Option Record

@@ -19,10 +19,10 @@ use Rattle.definitions.specs.Run.{End, end, choose, end_place, spent, stepped, s
 use Rattle.theorems.specs.Each.{Each}
 use Rattle.theorems.specs.Lines.{and_left, and_right}
 use Rattle.theorems.specs.GoodItems.{placed_in, all_items}
-use Rattle.theorems.specs.ReadScript.{items-placed}
+use Rattle.theorems.proofs.ReadScript.{items-placed}
 use Rattle.theorems.specs.Demand3.{IsAccepted}
 use Rattle.theorems.specs.Accepted.{ran-accepted, no-refusal}
-use Rattle.theorems.specs.Rest.{Comes, as_told, stops_late, last_answer, late_stop, IsDone, answer-comes}
+use Rattle.theorems.proofs.Rest.{Comes, as_told, stops_late, last_answer, late_stop, IsDone, answer-comes}
 
 -- ---- every step that is wanted has the place of an item
 
