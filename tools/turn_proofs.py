@@ -12,7 +12,7 @@ import re
 import sys
 
 WORD = r"[^\s(){}.;,@\"«»]+"
-TRIVIAL = re.compile(r"^(?:search rules(?: depth \d+)?|omega arith|tt|absurd \(omega arith\)|search \(rules\))$")
+TRIVIAL = re.compile(r"^(?:search rules(?: depth \d+)?|omega arith|tt|refl|absurd \(omega arith\)|search \(rules\))$")
 
 
 def norm(name):

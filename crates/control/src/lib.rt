@@ -1,4 +1,6 @@
 // Which step comes next: the control machine over the items in the work area. It never sees the editor.
+#![tactic(auto)]
+
 mod bodies;
 
 ghost use Rattle.std.specs.Prelude.{◌≡◌, cond, List, ℕ, ◌+◌, ◌<◌, ◌≤◌, length};
