@@ -3,7 +3,7 @@
 
     bench/compare.py [ROUNDS]
 
-Builds bench/zedrun.c over the static library first (rt staticlib zed). Each command reads a table from a file and writes the new one; its best
+Builds bench/zedrun.c over the static library first (tools/library.sh). Each command reads a table from a file and writes the new one; its best
 processor time of ROUNDS (10) is taken, start-up included. The three results must be the same bytes. Then how one run grows with the table.
 """
 import os, resource, subprocess, sys, tempfile
@@ -145,7 +145,7 @@ def grows(folder, zedrun, few, many, rounds):
 def main():
     os.chdir(ROOT)
     rounds = int(sys.argv[1]) if len(sys.argv) > 1 else 10
-    subprocess.run(["rt", "staticlib", "zed"], check=True, stdout=subprocess.DEVNULL)
+    subprocess.run(["tools/library.sh"], check=True, stdout=subprocess.DEVNULL)
     with tempfile.TemporaryDirectory() as folder:
         zedrun = os.path.join(folder, "zedrun")
         build(zedrun, "target/staticlib/libzed.a")

@@ -2,7 +2,7 @@
  * What joining two journals and turning one round take, beside reading the new sides of the same journals, in one run of this program; and how that grows
  * with the number of lines. Processor time, the best of fifteen.
  *
- *     rt staticlib zed
+ *     tools/library.sh
  *     gcc -std=c11 -O2 -Iinclude -o journals bench/journals.c target/staticlib/libzed.a
  *     ./journals
  */

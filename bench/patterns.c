@@ -4,7 +4,7 @@
  * parts of any number), none of which is found, over lines of up to 255 bytes of a, and how that grows with the line's length. Processor time, the best of so many runs, all
  * in one run of this program.
  *
- *     rt staticlib zed
+ *     tools/library.sh
  *     gcc -std=c11 -O2 -Iinclude -o patterns bench/patterns.c target/staticlib/libzed.a
  *     ./patterns
  */

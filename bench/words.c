@@ -3,7 +3,7 @@
  * that grows with the number of lines. Processor time, the best of fifteen. With a library that does not know WORD yet (it refuses it with 2) those columns stay empty, so
  * that the same program measures before and after.
  *
- *     rt staticlib zed
+ *     tools/library.sh
  *     gcc -std=c11 -O2 -Iinclude -o words bench/words.c target/staticlib/libzed.a
  *     ./words
  */

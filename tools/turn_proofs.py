@@ -74,6 +74,19 @@ def parts(text):
     return out + ([last] if last else [])
 
 
+def by_names(names, path):
+    """A path into clauses that stood as nested pairs, by the clauses' names."""
+    for i, name in enumerate(names):
+        if not path or not path[0].isdigit():
+            return path
+        if i == len(names) - 1:
+            return [name] + path
+        if path[0] == "0":
+            return [name] + path[1:]
+        path = path[1:]
+    return path
+
+
 def named(body, names):
     """An answer for several clauses, as a record by their names."""
     lets, rest = "", body
@@ -85,7 +98,7 @@ def named(body, names):
     terms = parts(rest)
     if terms and len(terms) == len(names):
         return lets + " record { " + "; ".join(f"{n} = {t}" for n, t in zip(names, terms)) + " }"
-    return lets + f" let all = {rest.strip()} in record {{ " + "; ".join(f"{n} = all.{i}" for i, n in enumerate(names)) + " }"
+    return lets + f" let all = {rest.strip()} in record {{ " + "; ".join(f"{n} = all{'.1' * i}{'.0' if i < len(names) - 1 else ''}" for i, n in enumerate(names)) + " }"
 
 
 class Function:
@@ -142,6 +155,7 @@ class Function:
         if self.member and step == "requires" and rest[:1] in (["0"], ["1"]):
             return ".".join(["c", "decreases" if rest[0] == "0" else "requires"] + rest[1:])
         step = "well_formed" if step == "well-formed" else step
+        step = re.sub("_lem$", "", step)
         if step in ("args", "requires", "ranges", "lifetimes", "well_formed", "type_inv"):
             return "c." + ".".join([step] + rest)
         at = self.resolve(place, ups, step)
@@ -149,8 +163,8 @@ class Function:
             self.said.append(f"no step {step} in {whole}")
             return whole
         names = CLAUSES.get(self.callee[at] or "")
-        if names and rest[:1] == ["ensures"] and rest[1:2] and rest[1].isdigit() and int(rest[1]) < len(names):
-            rest = ["ensures", names[int(rest[1])]] + rest[2:]
+        if names and rest[:1] == ["ensures"]:
+            rest = ["ensures"] + by_names(names, rest[1:])
         if rest[:1] in (["auto"], ["new"]):
             ones = 0
             while rest[1 + ones : 2 + ones] == ["1"]:
@@ -220,13 +234,15 @@ class Function:
                 at = self.resolve(place, m[3].count(".before") + contexts.get(m[2], 0), m[4])
                 if at:
                     text = re.sub(rf"(?<![^\s(){{}};,@«»]){re.escape(m[1])}\.(auto|new)((?:\.1)*)\.0", lambda k, at=at, v=m[1]: f"{v}.{k[1]}.{self.lent(at, len(k[2]) // 2)}", text)
-                    for i, name in enumerate(CLAUSES.get(self.callee[at] or "", [])):
-                        text = re.sub(rf"(?<![^\s(){{}};,@«»]){re.escape(m[1])}\.ensures\.{i}(?!\d)", f"{m[1]}.ensures.{name}", text)
+                    names = CLAUSES.get(self.callee[at] or "")
+                    if names:
+                        text = re.sub(rf"(?<![^\s(){{}};,@«»]){re.escape(m[1])}\.ensures((?:\.\d+)+)", lambda k, n=names, v=m[1]: ".".join([v, "ensures"] + by_names(n, k[1][1:].split("."))), text)
         for m in re.finditer(rf"\blet ({WORD}) = ({WORD})((?:\.before)*)\.({WORD})\.ensures in\b", text):
             if m[2] == "c" or m[2] in contexts:
                 at = self.resolve(place, m[3].count(".before") + contexts.get(m[2], 0), m[4])
-                for i, name in enumerate(CLAUSES.get(self.callee[at] or "", []) if at else []):
-                    text = re.sub(rf"(?<![^\s(){{}};,@«»]){re.escape(m[1])}\.{i}(?!\d)", f"{m[1]}.{name}", text)
+                names = CLAUSES.get(self.callee[at] or "") if at else None
+                if names:
+                    text = re.sub(rf"(?<![^\s(){{}};,@«»]){re.escape(m[1])}((?:\.\d+)+)", lambda k, n=names, v=m[1]: ".".join([v] + by_names(n, k[1][1:].split("."))), text)
 
         heads = "|".join(sorted(map(re.escape, ["c", *contexts, *steps]), key=len, reverse=True))
         text = re.sub(rf"(?<![^\s(){{}};,@«»])({heads})((?:\.{WORD})+)", one, text)

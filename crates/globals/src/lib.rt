@@ -1,5 +1,7 @@
 // What the run carries from step to step, in the first words of the work area's reserve: the globals that stand, GE, GA and GB kept for every line that is
 // read, in 16 words; then the set of the bytes that count for W, in 3.
+#![tactic(auto)]
+
 mod one;
 
 ghost use Rattle.std.specs.Prelude.{◌≡◌, ◌+◌, ◌-◌, ◌≤◌, ◌<◌, length, take, set, eqb};

@@ -1,7 +1,10 @@
 // Joins the journals of the cases of the file join.txt, and turns those of turn.txt round.
+#![tactic(auto)]
+
+use std::io;
 use vectors::For;
 
-fn main() {
-    vectors::run_file(b"join.txt", For::Joining);
-    vectors::run_file(b"turn.txt", For::Turning);
+fn main(rt: HostRuntime) -> io::Result<()> {
+    vectors::run_file(&rt, "join.txt", For::Joining)?;
+    vectors::run_file(&rt, "turn.txt", For::Turning)
 }

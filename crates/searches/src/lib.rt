@@ -1,4 +1,6 @@
 // Search expressions. The reader writes each part's words into the work area, in the order in which they are tested.
+#![tactic(auto)]
+
 ghost use Rattle.std.specs.Prelude.{◌≡◌, ◌+◌, ◌-◌, ◌*◌, ◌≤◌, ◌<◌, length};
 ghost use Rattle.definitions.specs.Strings.{operator as «operator-of», part as «part_of», conjunction as «conjunction-of», alternatives as «alternatives-of», search_expression};
 ghost use Rattle.lexer.specs.Places.{cursor_at};

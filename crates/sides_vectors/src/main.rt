@@ -1,6 +1,9 @@
 // Runs the cases of the file sides.txt through the readers of journals.
+#![tactic(auto)]
+
+use std::io;
 use vectors::For;
 
-fn main() {
-    vectors::run_file(b"sides.txt", For::Readers);
+fn main(rt: HostRuntime) -> io::Result<()> {
+    vectors::run_file(&rt, "sides.txt", For::Readers)
 }

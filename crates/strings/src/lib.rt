@@ -1,5 +1,7 @@
 // Qualified strings. A reader takes the script and a place, and answers what stands there and the place after it, or a
 // refusal: its number and its place.
+#![tactic(auto)]
+
 mod letters; // letters.rt: which qualifiers may stand together
 mod qualifiers; // qualifiers.rt: the qualifiers of a string
 

@@ -6,61 +6,62 @@ ghost use Rattle.vectors.specs.Cases.{rest_after};
 use crate::writing::{write_bytes, write_number};
 use cases::buffers::fill;
 use cases::fields::{bytes_at, field, number_at};
-use libc::STDOUT_FILENO;
+use std::io;
 
 // Runs the case of the line.
-pub fn run_case(
+pub fn run_case<R: Print>(
+    rt: &R,
     line: &[u8],
     table: &mut [u8],
     script: &mut [u8],
     work: &mut [u32],
     journal: &mut [u8],
     hex: &mut [u8],
-) {
+) -> io::Result<()> {
     let n = bytes_at(line, 0, table);
     let m = bytes_at(line, 1, script);
     let given = field(line, 4).end;
-    io::write_all(STDOUT_FILENO, &line[0..given]);
+    rt.write_all(&line[0..given])?;
     let words = number_at(line, 3);
     let room = number_at(line, 4);
     if work.len() < words {
-        io::write_all(STDOUT_FILENO, b" no room\n");
-        return;
+        return rt.write_all(b" no room\n");
     }
     if journal.len() < room {
-        io::write_all(STDOUT_FILENO, b" no room\n");
-        return;
+        return rt.write_all(b" no room\n");
     }
     let budget = number_at(line, 2);
     run_one(
+        rt,
         &table[0..n],
         &script[0..m],
         budget as u32,
         &mut work[0..words],
         &mut journal[0..room],
         hex,
-    );
+    )
 }
 
 // Runs the editor, with a journal buffer of bytes that are 7, and writes what it answers.
-fn run_one(
+fn run_one<R: Print>(
+    rt: &R,
     table: &[u8],
     script: &[u8],
     budget: u32,
     work: &mut [u32],
     journal: &mut [u8],
     hex: &mut [u8],
-) {
+) -> io::Result<()> {
     fill(journal);
     let mut answer = [0u64; 5];
     let number = zed::zed_run(table, script, budget, work, journal, &mut answer);
-    write_number(answer[0]);
-    write_number(answer[1]);
-    write_number(answer[2]);
-    write_number(answer[3]);
-    write_number(answer[4]);
-    write_bytes(answer[3] as usize, journal, rest_after(number), hex);
-    io::write_all(STDOUT_FILENO, b"\n");
+    write_number(rt, answer[0])?;
+    write_number(rt, answer[1])?;
+    write_number(rt, answer[2])?;
+    write_number(rt, answer[3])?;
+    write_number(rt, answer[4])?;
+    write_bytes(rt, answer[3] as usize, journal, rest_after(number), hex)?;
+    rt.write_all(b"\n")
 }
 
 // What the bytes past the journal are: 0 after a run, 7 as before where it was refused.

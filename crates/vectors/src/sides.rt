@@ -6,7 +6,7 @@ ghost use Rattle.vectors.specs.Cases.{read_to};
 use crate::writing::{write_bytes, write_number};
 use cases::buffers::fill;
 use cases::fields::{bytes_at, field, number_at};
-use libc::STDOUT_FILENO;
+use std::io;
 
 #[derive(Clone, Copy)]
 pub enum Side {
@@ -16,34 +16,52 @@ pub enum Side {
 }
 
 // Runs the case of the line.
-pub fn run_case(line: &[u8], j: &mut [u8], dest: &mut [u8], hex: &mut [u8]) {
+pub fn run_case<R: Print>(
+    rt: &R,
+    line: &[u8],
+    j: &mut [u8],
+    dest: &mut [u8],
+    hex: &mut [u8],
+) -> io::Result<()> {
     let size = bytes_at(line, 0, j);
     let room = number_at(line, 1);
     let given = field(line, 1).end;
-    io::write_all(STDOUT_FILENO, &line[0..given]);
-    run_readers(&j[0..size], room, dest, hex);
+    rt.write_all(&line[0..given])?;
+    run_readers(rt, &j[0..size], room, dest, hex)
 }
 
 // Runs each reader on a journal, and ends the line.
-fn run_readers(j: &[u8], room: usize, dest: &mut [u8], hex: &mut [u8]) {
-    run_reader(Side::Old, j, room, dest, hex);
-    run_reader(Side::New, j, room, dest, hex);
-    run_reader(Side::Listing, j, room, dest, hex);
-    io::write_all(STDOUT_FILENO, b"\n");
+fn run_readers<R: Print>(
+    rt: &R,
+    j: &[u8],
+    room: usize,
+    dest: &mut [u8],
+    hex: &mut [u8],
+) -> io::Result<()> {
+    run_reader(rt, Side::Old, j, room, dest, hex)?;
+    run_reader(rt, Side::New, j, room, dest, hex)?;
+    run_reader(rt, Side::Listing, j, room, dest, hex)?;
+    rt.write_all(b"\n")
 }
 
 // Runs one reader with a destination of `room` bytes, each 7, and writes what it got.
-fn run_reader(side: Side, j: &[u8], room: usize, dest: &mut [u8], hex: &mut [u8]) {
+fn run_reader<R: Print>(
+    rt: &R,
+    side: Side,
+    j: &[u8],
+    room: usize,
+    dest: &mut [u8],
+    hex: &mut [u8],
+) -> io::Result<()> {
     if dest.len() < room {
-        io::write_all(STDOUT_FILENO, b" no room");
-        return;
+        return rt.write_all(b" no room");
     }
     fill(dest);
     let mut len: usize = 0;
     let number = read(side, j, &mut dest[0..room], &mut len);
-    write_number(number as u64);
-    write_number(len as u64);
-    write_bytes(len, dest, 7, hex);
+    write_number(rt, number as u64)?;
+    write_number(rt, len as u64)?;
+    write_bytes(rt, len, dest, 7, hex)
 }
 
 fn read(side: Side, j: &[u8], dest: &mut [u8], len: &mut usize) -> u32

@@ -1,22 +1,27 @@
 // What is written of an answer: numbers, and the bytes of a buffer.
 use cases::buffers::all_are;
 use cases::hex::write_hex;
-use libc::STDOUT_FILENO;
+use std::io;
 
-pub fn write_number(n: u64) {
-    io::write_all(STDOUT_FILENO, b" ");
-    io::print_decimal(STDOUT_FILENO, n);
+pub fn write_number<R: Print>(rt: &R, n: u64) -> io::Result<()> {
+    print!(rt; " {n}")
 }
 
 // Writes the first `len` bytes of a buffer. Says so if a byte past them is not `rest`.
-pub fn write_bytes(len: usize, buffer: &[u8], rest: u8, hex: &mut [u8]) {
-    io::write_all(STDOUT_FILENO, b" ");
+pub fn write_bytes<R: Print>(
+    rt: &R,
+    len: usize,
+    buffer: &[u8],
+    rest: u8,
+    hex: &mut [u8],
+) -> io::Result<()> {
+    rt.write_all(b" ")?;
     if buffer.len() < len {
-        io::write_all(STDOUT_FILENO, b"too long");
-        return;
+        return rt.write_all(b"too long");
     }
-    write_hex(&buffer[0..len], hex);
-    if !all_are(&buffer[len..], rest) {
-        io::write_all(STDOUT_FILENO, b" touched");
+    write_hex(rt, &buffer[0..len], hex)?;
+    if all_are(&buffer[len..], rest) {
+        return Ok(());
     }
+    rt.write_all(b" touched")
 }

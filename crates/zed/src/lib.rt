@@ -1,4 +1,6 @@
-// The functions that C programs call: see include/zed.h.
+// The functions that C programs call, by way of the static library `zed_c`, and that Rattle programs call: see include/zed.h.
+#![tactic(auto)]
+
 ghost use Rattle.std.specs.Prelude.{◌≡◌};
 ghost use Rattle.definitions.specs.Run.{answer_number, buffer_after};
 ghost use Rattle.journal.specs.Reading.{reading_number, reading_length};
@@ -9,8 +11,7 @@ ghost use Rattle.definitions.specs.Joining.{join_to, turn_to};
 use journal::Reading;
 
 // Runs the script on the table; the journal goes into `journal`, and number, steps, furthest line, the journal's length and place into `answer`.
-#[unsafe(no_mangle)]
-pub extern "C" fn zed_run(
+pub fn zed_run(
     table: &[u8],
     script: &[u8],
     budget: u32,
@@ -34,8 +35,7 @@ pub extern "C" fn zed_run(
 }
 
 // The old side of the journal `j`, written into `dest`; its length goes into `len`.
-#[unsafe(no_mangle)]
-pub extern "C" fn zed_old_side(j: &[u8], dest: &mut [u8], len: &mut usize) -> u32
+pub fn zed_old_side(j: &[u8], dest: &mut [u8], len: &mut usize) -> u32
     ensures number { result ≡ number_of (old_side_to j.now dest.old) }
     ensures length { len.new ≡ length_of (old_side_to j.now dest.old) }
     ensures bytes { dest.new ≡ bytes_of (old_side_to j.now dest.old) }
@@ -44,8 +44,7 @@ pub extern "C" fn zed_old_side(j: &[u8], dest: &mut [u8], len: &mut usize) -> u3
 }
 
 // The new side of the journal `j`, written into `dest`; its length goes into `len`.
-#[unsafe(no_mangle)]
-pub extern "C" fn zed_new_side(j: &[u8], dest: &mut [u8], len: &mut usize) -> u32
+pub fn zed_new_side(j: &[u8], dest: &mut [u8], len: &mut usize) -> u32
     ensures number { result ≡ number_of (new_side_to j.now dest.old) }
     ensures length { len.new ≡ length_of (new_side_to j.now dest.old) }
     ensures bytes { dest.new ≡ bytes_of (new_side_to j.now dest.old) }
@@ -54,8 +53,7 @@ pub extern "C" fn zed_new_side(j: &[u8], dest: &mut [u8], len: &mut usize) -> u3
 }
 
 // The listing of the journal `j`, written into `dest`; its length goes into `len`.
-#[unsafe(no_mangle)]
-pub extern "C" fn zed_listing(j: &[u8], dest: &mut [u8], len: &mut usize) -> u32
+pub fn zed_listing(j: &[u8], dest: &mut [u8], len: &mut usize) -> u32
     ensures number { result ≡ number_of (listing_to j.now dest.old) }
     ensures length { len.new ≡ length_of (listing_to j.now dest.old) }
     ensures bytes { dest.new ≡ bytes_of (listing_to j.now dest.old) }
@@ -64,8 +62,7 @@ pub extern "C" fn zed_listing(j: &[u8], dest: &mut [u8], len: &mut usize) -> u32
 }
 
 // The journals `j` and `k` joined, written into `dest`; the length goes into `len`.
-#[unsafe(no_mangle)]
-pub extern "C" fn zed_join(j: &[u8], k: &[u8], dest: &mut [u8], len: &mut usize) -> u32
+pub fn zed_join(j: &[u8], k: &[u8], dest: &mut [u8], len: &mut usize) -> u32
     ensures number { result ≡ number_of (join_to j.now k.now dest.old) }
     ensures length { len.new ≡ length_of (join_to j.now k.now dest.old) }
     ensures bytes { dest.new ≡ bytes_of (join_to j.now k.now dest.old) }
@@ -74,8 +71,7 @@ pub extern "C" fn zed_join(j: &[u8], k: &[u8], dest: &mut [u8], len: &mut usize)
 }
 
 // The journal `j` turned round, written into `dest`; the length goes into `len`.
-#[unsafe(no_mangle)]
-pub extern "C" fn zed_turn(j: &[u8], dest: &mut [u8], len: &mut usize) -> u32
+pub fn zed_turn(j: &[u8], dest: &mut [u8], len: &mut usize) -> u32
     ensures number { result ≡ number_of (turn_to j.now dest.old) }
     ensures length { len.new ≡ length_of (turn_to j.now dest.old) }
     ensures bytes { dest.new ≡ bytes_of (turn_to j.now dest.old) }

@@ -1,0 +1,6 @@
+-- `searches::search` meets its contract. Assumes nothing.
+use Rattle.searches.proofs.Parts.{whole-search}
+use Rattle.searches.proofs.search.Goals as goal
+
+pub returns : goal.returns
+returns c = whole-search c.args.s.now c.args.at c.part.ensures
