@@ -1,4 +1,6 @@
 // Lines of the script, inserted before the current line: I, and the lines of R.
+#![tactic(auto)]
+
 ghost use Rattle.std.specs.Prelude.{◌≡◌, List, ◌+◌, ◌≤◌, length};
 ghost use Rattle.std.proofs.Math.Option.{none};
 ghost use Rattle.definitions.specs.Bytes.{lines_of};
