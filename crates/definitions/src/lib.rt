@@ -1,1 +1,3 @@
+#![tactic(auto)]
+
 // Document 01 as definitions: see specs/. This crate has no code.

@@ -10,7 +10,6 @@ use lib.ListN.{length, take, drop, get_or, set, length-append, length-drop, get_
 use lib.Seq.{length-take-le, get_or-take, get_or-drop, get_or-append-add}
 use Rattle.definitions.specs.Bytes.{is_digit}
 use Rattle.definitions.specs.Search.{Search}
-use Rattle.definitions.specs.Edit.{is}
 use Rattle.definitions.specs.Control.{Seek, Item, seek, opens, branch, loop}
 use Rattle.definitions.specs.Reader.{Got, got, refused}
 use Rattle.definitions.specs.Strings.{search_expression}

@@ -1,4 +1,6 @@
 // The reader of whole scripts: bytes to decoded items in the work area, or a number and a place.
+#![tactic(auto)]
+
 pub mod commands; // commands.rt: counts, commands of one or two words
 pub mod groups; // groups.rt: brackets and ELSE
 pub mod inserts; // inserts.rt: IS, CL, I and R

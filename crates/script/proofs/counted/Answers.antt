@@ -1,7 +1,6 @@
 -- `script::counted` meets its contract. Assumes nothing.
 use Rattle.script.proofs.Choosing.{room_of, count-is}
 use native.Mathlib.Omega.{arith}
-use borrow.Author.Rules.{rules}
 use Rattle.script.proofs.counted.Goals as goal
 
 pub count-c-requires : goal.count-c-requires

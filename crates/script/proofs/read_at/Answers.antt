@@ -3,7 +3,6 @@ use Rattle.script.proofs.Classes.{at-semicolon, at_line_end, at_open, at_close, 
 use Rattle.script.proofs.Distances.{name-far, name-longer}
 use mathlib.Core.Path.{sym, ◌∙◌}
 use native.Mathlib.Omega.{arith}
-use borrow.Author.Rules.{rules}
 use Rattle.script.proofs.OneRound.{separator-gives}
 use Rattle.script.proofs.read_at.Goals as goal
 

@@ -1,6 +1,5 @@
 -- `script::read_one` meets its contract. Assumes nothing.
 use Rattle.script.proofs.Classes.{at-end, past-spaces, stands_on, comes-from}
-use borrow.Author.Rules.{rules}
 use Rattle.script.proofs.OneRound.{end-gives}
 use Rattle.script.proofs.read_one.Goals as goal
 

@@ -1,11 +1,7 @@
 -- `script::read_script` meets its contract. Assumes nothing.
-use Rattle.script.proofs.WholeScript.{Going, begins, goes_on, ends}
-use Rattle.definitions.specs.Script.{read_script}
-use lib.ListN.{length}
-use Prim.Native.Nat.{◌-◌}
-use mathlib.Core.Path.{◌≡◌, refl, ◌∙◌}
+use Rattle.script.proofs.WholeScript.{begins, goes_on, ends}
+use mathlib.Core.Path.{refl, ◌∙◌}
 use native.Mathlib.Omega.{arith}
-use borrow.Author.Rules.{rules}
 use Rattle.answers.proofs.Taking.{no_more}
 use borrow.Enum.Refused.{opened}
 use Rattle.script.proofs.read_script.Goals as goal

@@ -1,12 +1,9 @@
 -- `script::read_script` meets its contract. Assumes nothing.
-use Rattle.script.proofs.WholeScript.{Going, begins, goes_on, ends}
+use Rattle.script.proofs.WholeScript.{Going}
 use Rattle.definitions.specs.Script.{read_script}
 use lib.ListN.{length}
 use Prim.Native.Nat.{◌-◌}
-use mathlib.Core.Path.{◌≡◌, refl, ◌∙◌}
-use native.Mathlib.Omega.{arith}
-use borrow.Author.Rules.{rules}
-use Rattle.answers.proofs.Taking.{no_more}
+use mathlib.Core.Path.{◌≡◌}
 use Rattle.script.proofs.read_script.Given as goal
 
 abbrev pub invariant-loop-next : goal.invariant-loop-next

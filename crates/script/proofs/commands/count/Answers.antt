@@ -2,7 +2,6 @@
 use Rattle.script.proofs.Items.{count-apart, over-count, small_count, large-count}
 use Rattle.script.proofs.Distances.{digits-far, digits-end}
 use native.Mathlib.Omega.{arith}
-use borrow.Author.Rules.{rules}
 use Rattle.answers.specs.Answers.{CommandOr}
 use Rattle.script.proofs.commands.count.Goals as goal
 

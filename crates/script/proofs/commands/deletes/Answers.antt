@@ -1,6 +1,5 @@
 -- `script::commands::deletes` meets its contract. Assumes nothing.
 use native.Mathlib.Omega.{arith}
-use borrow.Author.Rules.{rules}
 use Rattle.answers.proofs.Taking.{is-two, no-two, up-command}
 use Rattle.script.proofs.LineSpans.{deletes-refused, deletes-written}
 use borrow.Enum.Refused.{opened}

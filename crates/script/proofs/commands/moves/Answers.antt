@@ -1,6 +1,5 @@
 -- `script::commands::moves` meets its contract. Assumes nothing.
 use native.Mathlib.Omega.{arith}
-use borrow.Author.Rules.{rules}
 use Rattle.answers.proofs.Taking.{is_number, no_number, up-command}
 use Rattle.script.proofs.Items.{moves-refused, moves-written}
 use borrow.Enum.Refused.{opened}

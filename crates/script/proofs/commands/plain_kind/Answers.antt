@@ -1,7 +1,6 @@
 -- `script::commands::plain_kind` meets its contract. Assumes nothing.
 use Rattle.script.specs.Commands.{plain_kind}
 use native.Mathlib.Omega.{arith}
-use borrow.Author.Rules.{rules}
 use Rattle.script.proofs.commands.plain_kind.Goals as goal
 
 pub returns-in-Quit : goal.returns-in-Quit

@@ -7,7 +7,6 @@ use Rattle.script.proofs.OneRound.{refusal-comes}
 use Rattle.lexer.proofs.Given.{else-after, else-missing}
 use mathlib.Core.Path.{refl}
 use native.Mathlib.Omega.{arith}
-use borrow.Author.Rules.{rules}
 use Rattle.script.proofs.groups.close_group.Goals as goal
 
 pub returns-then-st-ne0 : goal.returns-then-st-ne0

@@ -5,7 +5,6 @@ use Rattle.script.proofs.Keeping.{free}
 use mathlib.Core.Path.{sym, ◌∙◌}
 use Rattle.script.proofs.OneRound.{refusal-comes}
 use Rattle.script.proofs.Nested.{ending-room, else-missing, else-opens}
-use borrow.Author.Rules.{rules}
 use Rattle.script.proofs.groups.else_group.Goals as goal
 
 pub returns-then-next_byte-ne40 : goal.returns-then-next_byte-ne40

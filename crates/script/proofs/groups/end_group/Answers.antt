@@ -1,7 +1,6 @@
 -- `script::groups::end_group` meets its contract. Assumes nothing.
 use native.Mathlib.Omega.{arith}
 use Rattle.script.proofs.Nested.{ending-room, ends}
-use borrow.Author.Rules.{rules}
 use Rattle.script.proofs.groups.end_group.Goals as goal
 
 pub put_closes-requires : goal.put_closes-requires

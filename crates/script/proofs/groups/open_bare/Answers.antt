@@ -3,7 +3,6 @@ use native.Mathlib.Omega.{arith}
 use lib.ListN.{length-set}
 use Rattle.script.proofs.Keeping.{free}
 use Rattle.script.proofs.Nested.{opens-bare}
-use borrow.Author.Rules.{rules}
 use Rattle.script.proofs.groups.open_bare.Goals as goal
 
 pub bounds-w-k-2 : goal.bounds-w-k-2

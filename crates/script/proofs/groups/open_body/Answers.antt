@@ -5,7 +5,6 @@ use Rattle.script.proofs.Keeping.{free}
 use mathlib.Core.Path.{ap}
 use Prim.Native.Nat.{ℕ, ◌+◌, ◌*◌}
 use Rattle.script.proofs.Nested.{opens-body}
-use borrow.Author.Rules.{rules}
 use Rattle.script.proofs.groups.open_body.Goals as goal
 
 pub bounds-w-top : goal.bounds-w-top

@@ -1,7 +1,6 @@
 -- `script::groups::open_group` meets its contract. Assumes nothing.
 use Rattle.script.proofs.OneRound.{refusal-comes}
 use Rattle.script.proofs.Nested.{too_deep, opening-bare, opening-body}
-use borrow.Author.Rules.{rules}
 use Rattle.script.proofs.groups.open_group.Goals as goal
 
 pub returns-then-st-ge16 : goal.returns-then-st-ge16

@@ -1,6 +1,5 @@
 -- `script::inserts::inserts_lines` meets its contract. Assumes nothing.
 use native.Mathlib.Omega.{arith}
-use borrow.Author.Rules.{rules}
 use Rattle.answers.proofs.Taking.{is_number, no_number, is-two, no-two, up-command}
 use Rattle.script.proofs.Inserting.{spot-refused, spot-read, lines-refused, lines-read, inserts-written}
 use borrow.Enum.Refused.{opened}

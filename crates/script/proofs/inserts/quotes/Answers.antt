@@ -1,6 +1,5 @@
 -- `script::inserts::quotes` meets its contract. Assumes nothing.
 use native.Mathlib.Omega.{arith}
-use borrow.Author.Rules.{rules}
 use Rattle.answers.proofs.Taking.{is-two, no-two, up-command}
 use Rattle.script.proofs.Inserting.{quotes-small, quotes-refused, quotes-written}
 use borrow.Enum.Refused.{opened}

@@ -1,6 +1,5 @@
 -- `script::inserts::replaces` meets its contract. Assumes nothing.
 use native.Mathlib.Omega.{arith}
-use borrow.Author.Rules.{rules}
 use Rattle.answers.proofs.Taking.{is-two, no-two, up-command}
 use Rattle.script.proofs.Inserting.{span-refused, span-read, lines-refused, lines-read, replaces-written}
 use borrow.Enum.Refused.{opened}

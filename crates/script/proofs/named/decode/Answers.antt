@@ -2,7 +2,6 @@
 use mathlib.Core.Path.{refl}
 use Rattle.script.specs.Commands.{of_points, of_splits, of_inserts, of_joins}
 use Rattle.script.proofs.Choosing.{is-seeks, is-moves, is-deletes, is-string, is-lines, is-replaces, is-alters, is-points, is-splits, is-joins, is-globals, is-names, is-branches, is-loops, is-unknown, long-branch, long-loop, plain-written, leaves-written, repeats-written, eof-written}
-use borrow.Author.Rules.{rules}
 use Rattle.answers.specs.Answers.{CommandOr}
 use Rattle.script.proofs.named.decode.Goals as goal
 

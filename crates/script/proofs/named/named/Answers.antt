@@ -1,7 +1,6 @@
 -- `script::named::named` meets its contract. Assumes nothing.
 use Rattle.script.proofs.Choosing.{room_of, in_groups, named-is}
 use Rattle.script.proofs.NameLengths.{prefix-name}
-use borrow.Author.Rules.{rules}
 use Rattle.script.proofs.named.named.Goals as goal
 
 pub decode-c-requires : goal.decode-c-requires

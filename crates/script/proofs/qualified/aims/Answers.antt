@@ -2,7 +2,6 @@
 use mathlib.Core.Path.{◌∙◌}
 use native.Mathlib.Omega.{arith}
 use lib.ListN.{length-set}
-use borrow.Author.Rules.{rules}
 use Rattle.answers.proofs.Taking.{is-string, no-string, up-command}
 use Rattle.script.proofs.Qualifying.{can_write, string-room, aims-small, aims-refused, aims-written}
 use borrow.Enum.Refused.{opened}

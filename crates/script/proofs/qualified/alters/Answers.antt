@@ -1,5 +1,4 @@
 -- `script::qualified::alters` meets its contract. Assumes nothing.
-use borrow.Author.Rules.{rules}
 use Rattle.script.specs.Commands.{of_alters}
 use Rattle.script.proofs.qualified.alters.Goals as goal
 

@@ -1,7 +1,6 @@
 -- `script::qualified::change_kind` meets its contract. Assumes nothing.
 use Rattle.lexer.specs.Shapes.{change_of}
 use Rattle.items.specs.Kinds.{change_kind}
-use borrow.Author.Rules.{rules}
 use Rattle.script.proofs.qualified.change_kind.Goals as goal
 
 pub returns-then-pointing : goal.returns-then-pointing

@@ -1,7 +1,6 @@
 -- `script::qualified::global_kind` meets its contract. Assumes nothing.
 use Rattle.lexer.specs.Shapes.{change_of}
 use Rattle.items.specs.Kinds.{global_kind}
-use borrow.Author.Rules.{rules}
 use Rattle.script.proofs.qualified.global_kind.Goals as goal
 
 pub returns-in-After : goal.returns-in-After

@@ -1,5 +1,4 @@
 -- `script::qualified::globals` meets its contract. Assumes nothing.
-use borrow.Author.Rules.{rules}
 use Rattle.script.specs.Commands.{of_globals}
 use Rattle.script.proofs.qualified.globals.Goals as goal
 

@@ -2,7 +2,6 @@
 use mathlib.Core.Path.{◌≡◌, ◌∙◌}
 use native.Mathlib.Omega.{arith}
 use lib.ListN.{length, length-set}
-use borrow.Author.Rules.{rules}
 use Rattle.script.proofs.Qualifying.{can_write, string-room, string-small, pairs-refused, pairs-stand, pairs-written, pairs_small}
 use borrow.Enum.Refused.{opened}
 use Rattle.script.proofs.qualified.put_strings.Goals as goal

@@ -1,5 +1,4 @@
 -- `script::reading::read_from` meets its contract. Assumes nothing.
-use borrow.Author.Rules.{rules}
 use Rattle.answers.proofs.Taking.{no_more}
 use Rattle.script.proofs.WholeScript.{moves, stays}
 use borrow.Enum.Refused.{opened}

@@ -1,6 +1,5 @@
 -- `script::rounds::finish` meets its contract. Assumes nothing.
 use native.Mathlib.Omega.{arith}
-use borrow.Author.Rules.{rules}
 use Rattle.answers.proofs.Taking.{is-command, no-command}
 use Rattle.script.proofs.OneRound.{whole_is, prefix-is, finish-room, finish-whole, finish-prefix, finish-refused}
 use borrow.Enum.Refused.{opened}

@@ -1,6 +1,5 @@
 -- `script::rounds::line_end` meets its contract. Assumes nothing.
 use Rattle.script.proofs.OneRound.{refusal-comes, separator-missing, line-inside, line-outside}
-use borrow.Author.Rules.{rules}
 use Rattle.script.proofs.rounds.line_end.Goals as goal
 
 pub returns-then-st-ne0 : goal.returns-then-st-ne0

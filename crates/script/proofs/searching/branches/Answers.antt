@@ -1,7 +1,6 @@
 -- `script::searching::branches` meets its contract. Assumes nothing.
 use mathlib.Core.Path.{ap}
 use Prim.Native.Nat.{ℕ}
-use borrow.Author.Rules.{rules}
 use Rattle.items.specs.Words.{head}
 use Rattle.answers.proofs.Taking.{is-search, no_search, up-command}
 use Rattle.script.proofs.Searched.{branches-written, branches-refused}

@@ -4,7 +4,6 @@ use Prim.Native.Nat.{◌-◌}
 use native.Mathlib.Omega.{arith}
 use lib.ListN.{length}
 use lib.Seq.{length-take-le}
-use borrow.Author.Rules.{rules}
 use Rattle.answers.specs.Answers.{SearchOr}
 use Rattle.answers.proofs.Taking.{is-search, no_search, up-search}
 use Rattle.script.proofs.Searched.{search-room, search-small, search-found}

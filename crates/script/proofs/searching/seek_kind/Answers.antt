@@ -2,7 +2,6 @@
 use Rattle.lexer.specs.Shapes.{seek_of}
 use Rattle.items.specs.Kinds.{seek_kind}
 use native.Mathlib.Omega.{arith}
-use borrow.Author.Rules.{rules}
 use Rattle.script.proofs.searching.seek_kind.Goals as goal
 
 pub returns-in-Forward : goal.returns-in-Forward

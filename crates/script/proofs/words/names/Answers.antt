@@ -1,5 +1,4 @@
 -- `script::words::names` meets its contract. Assumes nothing.
-use borrow.Author.Rules.{rules}
 use Rattle.answers.specs.Answers.{CommandOr}
 use Rattle.answers.proofs.Taking.{is-two, no-two, up-command}
 use Rattle.script.proofs.Naming.{misused-is, set_is, names-refused, names-asks, names-misused, names-written}
