@@ -32,7 +32,7 @@ def run_case(words):
     number, steps, furthest, length, place = words[5:10]
     journal = unhex(words[10])
     refused = 1 <= int(number) <= 9 or int(number) in (33, 34)
-    return 'runCase %s %s %s %s %s (outcome %s %s %s %s %s (%s))' % (
+    return 'run_case %s %s %s %s %s (outcome %s %s %s %s %s (%s))' % (
         text(table), text(script), budget, work, size, number, steps, furthest, length, place,
         'untouched %s' % size if refused else 'zeroed %s %s' % (text(journal), int(size) - len(journal)))
 
@@ -42,19 +42,16 @@ def written(words, dest):
 
 def sides_case(words):
     journal, dest = unhex(words[0]), words[1]
-    return 'sidesCase %s %s %s' % (text(journal), dest, ' '.join(written(words[k:k + 3], dest) for k in (2, 5, 8)))
+    return 'sides_case %s %s %s' % (text(journal), dest, ' '.join(written(words[k:k + 3], dest) for k in (2, 5, 8)))
 
 def join_case(words):
-    return 'joinCase %s %s %s %s' % (text(unhex(words[0])), text(unhex(words[1])), words[2], written(words[3:6], words[2]))
+    return 'join_case %s %s %s %s' % (text(unhex(words[0])), text(unhex(words[1])), words[2], written(words[3:6], words[2]))
 
 def turn_case(words):
-    return 'turnCase %s %s %s' % (text(unhex(words[0])), words[1], written(words[2:5], words[1]))
+    return 'turn_case %s %s %s' % (text(unhex(words[0])), words[1], written(words[2:5], words[1]))
 
-HEAD = '''use mathlib.Core.Path.{_≡_, refl}
-use mathlib.Core.List.{List, [], _∷_, _++_, map}
-use Prim.Native.Nat.{ℕ, zero, suc, _-_}
-use lib.ListN.{length, replicate}
-use Rattle·definitions.specs.Bytes.{bytes}
+HEAD = '''use Rattle.std.specs.Prelude.{ℕ, zero, suc, ◌-◌, ◌≡◌, refl, List, [], ◌∷◌, ◌++◌, map, length, replicate}
+use Rattle.definitions.specs.Bytes.{bytes}
 '''
 
 OVER = '''
@@ -63,41 +60,41 @@ unfoldable pub over : List ℕ → ℕ → List ℕ
 over out n = out ++ replicate (n - length out) 7
 '''
 
-SIDES = HEAD + '''use Rattle·definitions.specs.Listing.{Written, written, oldSideTo, newSideTo, listingTo}
-use Rattle·definitions.specs.Everything.{everything}
+SIDES = HEAD + '''use Rattle.definitions.specs.Listing.{Written, written, old_side_to, new_side_to, listing_to}
+use Rattle.definitions.specs.Everything.{everything}
 ''' + OVER + '''
 pub data SidesCase : Type 0 where
-  sidesCase : List ℕ → ℕ → Written → Written → Written → SidesCase
+  sides_case : List ℕ → ℕ → Written → Written → Written → SidesCase
 
 unfoldable pub computed : SidesCase → List Written
-computed (sidesCase j n o e l) = oldSideTo j (replicate n 7) ∷ newSideTo j (replicate n 7) ∷ listingTo j (replicate n 7) ∷ []
+computed (sides_case j n o e l) = old_side_to j (replicate n 7) ∷ new_side_to j (replicate n 7) ∷ listing_to j (replicate n 7) ∷ []
 
 unfoldable pub stated : SidesCase → List Written
-stated (sidesCase j n o e l) = o ∷ e ∷ l ∷ []
+stated (sides_case j n o e l) = o ∷ e ∷ l ∷ []
 '''
 
-JOINING = HEAD + '''use Rattle·definitions.specs.Listing.{Written, written}
-use Rattle·definitions.specs.Joining.{joinTo, turnTo}
-use Rattle·definitions.specs.Everything.{everything}
+JOINING = HEAD + '''use Rattle.definitions.specs.Listing.{Written, written}
+use Rattle.definitions.specs.Joining.{join_to, turn_to}
+use Rattle.definitions.specs.Everything.{everything}
 ''' + OVER + '''
 pub data JoiningCase : Type 0 where
-  joinCase : List ℕ → List ℕ → ℕ → Written → JoiningCase
-  turnCase : List ℕ → ℕ → Written → JoiningCase
+  join_case : List ℕ → List ℕ → ℕ → Written → JoiningCase
+  turn_case : List ℕ → ℕ → Written → JoiningCase
 
 unfoldable pub computed : JoiningCase → Written
-computed (joinCase j k n w) = joinTo j k (replicate n 7)
-computed (turnCase j n w) = turnTo j (replicate n 7)
+computed (join_case j k n w) = join_to j k (replicate n 7)
+computed (turn_case j n w) = turn_to j (replicate n 7)
 
 unfoldable pub stated : JoiningCase → Written
-stated (joinCase j k n w) = w
-stated (turnCase j n w) = w
+stated (join_case j k n w) = w
+stated (turn_case j n w) = w
 '''
 
-RUN = HEAD + '''use Rattle·definitions.specs.Run.{Outcome, outcome, outcomeOf}
-use Rattle·definitions.specs.Everything.{everything}
+RUN = HEAD + '''use Rattle.definitions.specs.Run.{Outcome, outcome, outcome_of}
+use Rattle.definitions.specs.Everything.{everything}
 
 pub data RunCase : Type 0 where
-  runCase : List ℕ → List ℕ → ℕ → ℕ → ℕ → Outcome → RunCase
+  run_case : List ℕ → List ℕ → ℕ → ℕ → ℕ → Outcome → RunCase
 
 -- a journal buffer of n bytes, each 7
 unfoldable pub untouched : ℕ → List ℕ
@@ -107,10 +104,10 @@ unfoldable pub zeroed : List ℕ → ℕ → List ℕ
 zeroed j n = j ++ replicate n 0
 
 unfoldable pub computed : RunCase → Outcome
-computed (runCase t s budget work size o) = outcomeOf t s budget work (untouched size)
+computed (run_case t s budget work size o) = outcome_of t s budget work (untouched size)
 
 unfoldable pub stated : RunCase → Outcome
-stated (runCase t s budget work size o) = o
+stated (run_case t s budget work size o) = o
 '''
 
 # for each kind of case: how one is made, what the theorems stand on, the type of a case, and what else is computed with
@@ -152,7 +149,7 @@ def main():
         open('%s/crates/%s/specs/Lib.antt' % (folder, name), 'w').write('pub mod Cases\n')
     open(folder + '/crates.txt', 'w').write('\n'.join(crates) + '\n')
     start = time.time()
-    done = subprocess.run(['rt', 'prove'], cwd=folder, env=dict(os.environ, RT_CUT='4000'))
+    done = subprocess.run(['rt', 'all', 'check'], cwd=folder)
     print('%d cases of %s, %d crates, %.0f s: %s' % (len(lines), os.path.basename(path), len(crates) - 1, time.time() - start,
                                                    'all agree' if done.returncode == 0 else 'NOT all agree'))
     if '--keep' in sys.argv:
