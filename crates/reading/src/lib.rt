@@ -1,4 +1,6 @@
 // Source lines are read through the standing globals.
+#![tactic(auto)]
+
 pub mod lines;
 
 ghost use Rattle.std.specs.Prelude.{◌≡◌};
