@@ -198,6 +198,9 @@ class Function:
             parts = [p for p in m[3].split(".") if p]
             if not parts:
                 contexts[m[1]] = m[2].count(".before")
+        for m in re.finditer(rf"\blet ({WORD}) = ({WORD})((?:\.before)*) in\b", text):
+            if m[2] in contexts:
+                contexts[m[1]] = contexts[m[2]] + m[3].count(".before")
         for m in re.finditer(rf"\blet ({WORD}) = ({WORD})((?:\.before)*)((?:\.{WORD})+) in\b", text):
             base = m[2]
             if base == "c" or base in contexts:
@@ -276,6 +279,7 @@ class Function:
         spec = re.search(r"\(tie\.spec\s+([^)]*)\)", text)
         args = spec[1].split() if spec else []
         renames, answers, invariants, helpers = {}, [], [], []
+        branches = []
         kinds = {}
         for lines in decls:
             sig = "\n".join(lines)
@@ -342,6 +346,10 @@ class Function:
                     body = re.sub(rf"(?<![^\s(){{}};,@«»]){re.escape(other)} c(?:\.before)*(?![^\s(){{}};,@«»])", lambda m, o=other: f"(\x00{o}\x00)", body)
                 body = self.body(place, body)
                 body = re.sub("\x00(\\S+?)\x00", lambda m: inline[m[1]], body)
+                for other in inline:
+                    body = re.sub(rf"\(?(?<![^\s(){{}};,@«»]){re.escape(other)} c(?![^\s(){{}};,@«»])\)?", lambda m, o=other: ("(" if m[0][0] == "(" and m[0][-1] != ")" else "") + f"({inline[o]})" + (")" if m[0][-1] == ")" and m[0][0] != "(" else ""), body)
+                body, ways = joins(plain(body) if inline else body)
+                branches += [b for b in ways if b not in branches]
                 if TRIVIAL.match(body.strip()) and not unfolding:
                     continue
                 names = CLAUSES.get("::".join([self.crate, *self.folder.split("/")]))
@@ -389,6 +397,7 @@ class Function:
         if answers or any(n not in lower for n, s in helpers):
             extra = [f"use {module}.Invariants.{{{', '.join(lower)}}}"] if lower else []
             extra += ["use borrow.Enum.Refused.{opened}"] if self.opens else []
+            extra += [f"use {module}.Goals.{{{', '.join(branches)}}}"] if branches else []
             keep = [s for n, s in helpers if n not in lower]
             write(f"{base}/Answers.antt", title, uses + extra + [f"use {module}.Goals as goal"], keep + answers)
         os.remove(file)
@@ -477,6 +486,56 @@ def turn_cycle(names, crate, folder):
     os.rmdir(f"{base}/Proof")
     os.remove(f"{base}/Proof.antt")
     return said
+
+
+def plain(text):
+    """An answer's text with no doubled parentheses and none around a path."""
+    while True:
+        opened, pairs = [], {}
+        for i, k in enumerate(text):
+            if k == "(":
+                opened.append(i)
+            elif k == ")" and opened:
+                pairs[opened.pop()] = i
+        for a, b in pairs.items():
+            if pairs.get(a + 1) == b - 1 or re.match(rf"{WORD}(?:\.{WORD})*$", text[a + 1 : b]) and "." in text[a + 1 : b]:
+                text = text[:a] + text[a + 1 : b] + text[b + 1 :]
+                break
+            if not text[:a].strip() and not text[b + 1 :].strip() and "," not in text[a:b] and "\n" not in text[a:b]:
+                text = text[:a] + text[a + 1 : b] + text[b + 1 :]
+                break
+        else:
+            return text
+
+
+def joins(text):
+    """An answer's text with `elim` at the branches that join, and the names of the branches. The steps v.1 and on are left."""
+    names = []
+    while True:
+        m = re.search(rf"⊎_elim \(λ ({WORD})\. ", text)
+        if not m:
+            return text, names
+        ends, at = [], m.start() + len("⊎_elim ")
+        for _ in range(2):
+            depth, end = 0, at
+            while end < len(text):
+                depth += {"(": 1, ")": -1}.get(text[end], 0)
+                end += 1
+                if depth == 0:
+                    break
+            ends.append((at, end))
+            at = end + len(text[end:]) - len(text[end:].lstrip())
+        step = re.match(rf"\s*(c\.if-({WORD})\.branch)", text[ends[1][1] :])
+        cases = [re.match(r"\(λ (\S+)\.\s+(.*)\)$", text[a:b], re.S) for a, b in ends]
+        if not step or not all(cases):
+            return text, names
+        way = step[2]
+        rows = []
+        for word, old, new, case in zip(("then", "else"), ("taken", "left"), ("true", "false"), cases):
+            body = re.sub(rf"(?<![^\s(){{}};,@«»]){re.escape(case[1])}\.0\.{old}(?![^\s(){{}};,@«».])", f"{case[1]}.if-{way}.{new}", case[2])
+            rows.append(f"{word}-{way} {case[1]} ↦ {body}")
+            names.append(f"{word}-{way}")
+        text = text[: m.start()] + f"elim {step[1]} [ {rows[0]} | {rows[1]} ]" + text[ends[1][1] + step.end() :]
 
 
 def one_use(lines):

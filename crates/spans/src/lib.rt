@@ -1,4 +1,6 @@
 // The commands over several lines of the journal buffer.
+#![tactic(auto)]
+
 use editor::State;
 
 pub mod ahead;

@@ -1,0 +1,8 @@
+use Rattle.spans.proofs.Nexts.{next-read}
+use Rattle.spans.proofs.ReadsAhead.{read-as-far}
+use Rattle.spans.proofs.ahead.read_ahead.Goals as goal
+
+pub returns : goal.returns
+returns c =
+    let next = c.read_next-next in
+    λ e x t s h. read-as-far _ _ _ x e t (next-read _ (next.ensures e t h)) (c.read_to.ensures e x t s h)
