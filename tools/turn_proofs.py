@@ -15,6 +15,30 @@ WORD = r"[^\s(){}.;,@\"«»]+"
 TRIVIAL = re.compile(r"^(?:search rules(?: depth \d+)?|omega arith|tt|refl|absurd \(omega arith\)|search \(rules\))$")
 
 
+CONTEXT = re.compile(rf"\blet ({WORD}) = ((?:(?!\.before\b)[^\s(){{}};,@\"«»])+?)((?:\.before)*) in\b")
+
+
+def places_in(text):
+    """The variables of a proof's text that stand for a place, as alternatives."""
+    found = ["c"]
+    for m in CONTEXT.finditer(text):
+        if m[2] in found:
+            found.append(m[1])
+    return "|".join(map(re.escape, found))
+
+
+def single(text):
+    """The text with one pair of parentheses where two stand around the same."""
+    ends, opened = {}, []
+    for i, ch in enumerate(text):
+        if ch == "(":
+            opened.append(i)
+        elif ch == ")" and opened:
+            ends[opened.pop()] = i
+    gone = {j for i, e in ends.items() if ends.get(i + 1) == e - 1 for j in (i, e)}
+    return "".join(ch for i, ch in enumerate(text) if i not in gone)
+
+
 def norm(name):
     return re.sub(r"^overflow-", "", name.replace("_", "-").lower())
 
@@ -194,13 +218,9 @@ class Function:
         """An answer's text with new paths."""
         contexts, steps = {}, {}
         # variables that are bound to a context or to a step of one
-        for m in re.finditer(rf"\blet ({WORD}) = (c(?:\.before)*)((?:\.{WORD})*) in\b", text):
-            parts = [p for p in m[3].split(".") if p]
-            if not parts:
-                contexts[m[1]] = m[2].count(".before")
-        for m in re.finditer(rf"\blet ({WORD}) = ({WORD})((?:\.before)*) in\b", text):
-            if m[2] in contexts:
-                contexts[m[1]] = contexts[m[2]] + m[3].count(".before")
+        for m in CONTEXT.finditer(text):
+            if m[2] == "c" or m[2] in contexts:
+                contexts[m[1]] = m[3].count(".before") + contexts.get(m[2], 0)
         for m in re.finditer(rf"\blet ({WORD}) = ({WORD})((?:\.before)*)((?:\.{WORD})+) in\b", text):
             base = m[2]
             if base == "c" or base in contexts:
@@ -343,12 +363,10 @@ class Function:
                 if params not in (["c"], ["c", "κs"]):
                     self.said.append(f"{name}: parameters {params}")
                 for other in inline:
-                    body = re.sub(rf"(?<![^\s(){{}};,@«»]){re.escape(other)} c(?:\.before)*(?![^\s(){{}};,@«»])", lambda m, o=other: f"(\x00{o}\x00)", body)
+                    body = re.sub(rf"(?<![^\s(){{}};,@«»]){re.escape(other)} (?:{places_in(body)})(?:\.before)*(?![^\s(){{}};,@«»])", lambda m, o=other: f"(\x00{o}\x00)", body)
                 body = self.body(place, body)
-                body = re.sub("\x00(\\S+?)\x00", lambda m: inline[m[1]], body)
-                for other in inline:
-                    body = re.sub(rf"\(?(?<![^\s(){{}};,@«»]){re.escape(other)} c(?![^\s(){{}};,@«»])\)?", lambda m, o=other: ("(" if m[0][0] == "(" and m[0][-1] != ")" else "") + f"({inline[o]})" + (")" if m[0][-1] == ")" and m[0][0] != "(" else ""), body)
-                body, ways = joins(plain(body) if inline else body)
+                body = single(re.sub("\x00(\\S+?)\x00", lambda m: inline[m[1]], body))
+                body, ways = joins(body)
                 branches += [b for b in ways if b not in branches]
                 if TRIVIAL.match(body.strip()) and not unfolding:
                     continue
@@ -486,26 +504,6 @@ def turn_cycle(names, crate, folder):
     os.rmdir(f"{base}/Proof")
     os.remove(f"{base}/Proof.antt")
     return said
-
-
-def plain(text):
-    """An answer's text with no doubled parentheses and none around a path."""
-    while True:
-        opened, pairs = [], {}
-        for i, k in enumerate(text):
-            if k == "(":
-                opened.append(i)
-            elif k == ")" and opened:
-                pairs[opened.pop()] = i
-        for a, b in pairs.items():
-            if pairs.get(a + 1) == b - 1 or re.match(rf"{WORD}(?:\.{WORD})*$", text[a + 1 : b]) and "." in text[a + 1 : b]:
-                text = text[:a] + text[a + 1 : b] + text[b + 1 :]
-                break
-            if not text[:a].strip() and not text[b + 1 :].strip() and "," not in text[a:b] and "\n" not in text[a:b]:
-                text = text[:a] + text[a + 1 : b] + text[b + 1 :]
-                break
-        else:
-            return text
 
 
 def joins(text):

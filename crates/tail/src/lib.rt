@@ -1,4 +1,6 @@
 // The lines that a done run leaves unread pass through the standing globals, all of them or none.
+#![tactic(auto)]
+
 ghost use Rattle.std.specs.Prelude.{◌<◌};
 ghost use Rattle.editor.specs.Shows.{ShowsText};
 ghost use Rattle.reading.specs.Carrying.{SomeStand};

@@ -17,9 +17,7 @@ read_after-requires c =
     (w.0, span-there _ w.0.0 _ w.1.0 w.1.1 c.in-On.is (c.read_through-read.ensures w.1.0 w.0.0 w.1.1 w.0.1 w.1.2) c.read_through-read.auto.j c.span_end-found.ensures c.in-To.is)
 
 pub returns-in-Stop : goal.returns-in-Stop
-returns-in-Stop c =
-    λ e x t s h. span-unfound _ x _ e t c.in-On.is (c.read_through-read.ensures e x t s h) c.read_through-read.auto.j c.span_end-found.ensures c.in-Stop.is
+returns-in-Stop c = λ e x t s h. span-unfound _ x _ e t c.in-On.is (c.read_through-read.ensures e x t s h) c.read_through-read.auto.j c.span_end-found.ensures c.in-Stop.is
 
 pub returns-in-To : goal.returns-in-To
-returns-in-To c =
-    λ e x t s h. span-read _ x _ e t c.in-On.is (c.read_through-read.ensures e x t s h) c.read_through-read.auto.j c.span_end-found.ensures c.in-To.is _ _ (λ y u i v w. c.read_after.ensures y x u i s v w)
+returns-in-To c = λ e x t s h. span-read _ x _ e t c.in-On.is (c.read_through-read.ensures e x t s h) c.read_through-read.auto.j c.span_end-found.ensures c.in-To.is _ _ (λ y u i v w. c.read_after.ensures y x u i s v w)

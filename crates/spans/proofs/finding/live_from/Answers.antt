@@ -15,15 +15,14 @@ pub returns-then-j-at-ne45 : goal.returns-then-j-at-ne45
 returns-then-j-at-ne45 c = λ b a h q. seeking-live (c.loop-at.invariant b a h q) c.if-at-j.false c.if-j-at-ne45.true
 
 pub overflow_add-n : goal.overflow_add-n
-overflow_add-n c =
-    omega (arith, seeking-few (let w = c.requires in c.loop-at.invariant w.0 w.1 w.2 w.3), c.requires.4)
+overflow_add-n c = omega (arith, seeking-few (c.loop-at.invariant c.requires.0 c.requires.1 c.requires.2 c.requires.3), c.requires.4)
 
 pub record_end-at-requires : goal.record_end-at-requires
 record_end-at-requires c = omega (arith, c.if-at-j.false)
 
 pub loop-at-smaller : goal.loop-at-smaller
 loop-at-smaller c =
-    let w = seeking-less (let w = c.requires in c.loop-at.invariant w.0 w.1 w.2 w.3) c.if-at-j.false _ c.record_end-at.ensures in
+    let w = seeking-less (c.loop-at.invariant c.requires.0 c.requires.1 c.requires.2 c.requires.3) c.if-at-j.false _ c.record_end-at.ensures in
     omega (arith, w.0, w.1)
 
 pub loop-at-preserved : goal.loop-at-preserved

@@ -12,27 +12,31 @@ loop-at-init c = λ b m d q h is. record { left = m; stands = h; sum = omega ari
 
 pub bounds-j-at : goal.bounds-j-at
 bounds-j-at c =
-    stands-in (counting-first (let w = c.requires in c.loop-at.invariant w.0 w.1 w.2 w.3.past (stands-held w.3) w.4) _ c.requires.4 c.loop-at-test.true).2
+    let shown = c.loop-at.invariant c.requires.0 c.requires.1 c.requires.2 c.requires.3.past (stands-held c.requires.3) c.requires.4 in
+    stands-in (counting-first shown _ c.requires.4 c.loop-at-test.true).2
 
 pub overflow_add-n : goal.overflow_add-n
 overflow_add-n c =
+    let shown = c.loop-at.invariant c.requires.0 c.requires.1 c.requires.2 c.requires.3.past (stands-held c.requires.3) c.requires.4 in
     let w = c.requires in
-    omega (arith, (let w = c.requires in c.loop-at.invariant w.0 w.1 w.2 w.3.past (stands-held w.3) w.4).sum, sources-append w.1 w.2, w.3.lines, w.3.few)
+    omega (arith, shown.sum, sources-append w.1 w.2, w.3.lines, w.3.few)
 
 pub record_end-at-requires : goal.record_end-at-requires
 record_end-at-requires c =
-    omega (arith, stands-in (counting-first (let w = c.requires in c.loop-at.invariant w.0 w.1 w.2 w.3.past (stands-held w.3) w.4) _ c.requires.4 c.loop-at-test.true).2)
+    let shown = c.loop-at.invariant c.requires.0 c.requires.1 c.requires.2 c.requires.3.past (stands-held c.requires.3) c.requires.4 in
+    omega (arith, stands-in (counting-first shown _ c.requires.4 c.loop-at-test.true).2)
 
 pub loop-at-smaller : goal.loop-at-smaller
 loop-at-smaller c =
-    let w = counting-less (let w = c.requires in c.loop-at.invariant w.0 w.1 w.2 w.3.past (stands-held w.3) w.4) _ c.requires.4 c.loop-at-test.true _ c.record_end-at.ensures in
+    let shown = c.loop-at.invariant c.requires.0 c.requires.1 c.requires.2 c.requires.3.past (stands-held c.requires.3) c.requires.4 in
+    let w = counting-less shown _ c.requires.4 c.loop-at-test.true _ c.record_end-at.ensures in
     omega (arith, w.0, w.1)
 
 pub loop-at-preserved : goal.loop-at-preserved
 loop-at-preserved c =
     λ b m d q h is.
     counting-on (c.loop-at.invariant b m d q h is) _ is sourced sources-cons c.loop-at-test.true _ _ c.record_end-at.ensures
-    (λ r rs s to. elim c.if-j-at-ne43.branch [ then-j-at-ne43 v ↦ v.n-is ∙ source_more _ v.if-j-at-ne43.true r rs s | else-j-at-ne43 v ↦ v.n-is ∙ source-same _ v.if-j-at-ne43.false r rs s ])
+    (λ r rs s to. elim c.if-j-at-ne43.branch [ then-j-at-ne43 w ↦ w.n-is ∙ source_more _ w.if-j-at-ne43.true r rs s | else-j-at-ne43 w ↦ w.n-is ∙ source-same _ w.if-j-at-ne43.false r rs s ])
 
 pub returns : goal.returns
 returns c =

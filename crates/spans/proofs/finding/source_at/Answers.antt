@@ -8,10 +8,9 @@ loop-at-init c = ((λ b a q m h. scanning-start b a q h), c.requires.1)
 
 pub bounds-j-at : goal.bounds-j-at
 bounds-j-at c =
-    let w = c.requires.0 in
-    let m = held-most w.2 c.requires.2 in
-    let h = c.loop-at.invariant.0 w.0 w.1 w.2.past m (stands-held w.2) in
-    scanning-in h _ c.loop-at.invariant.1 m
+    let most = held-most c.requires.0.2 c.requires.2 in
+    let shown = c.loop-at.invariant.0 c.requires.0.0 c.requires.0.1 c.requires.0.2.past most (stands-held c.requires.0.2) in
+    scanning-in shown _ c.loop-at.invariant.1 most
 
 pub returns-then-n-b : goal.returns-then-n-b
 returns-then-n-b c =
@@ -22,18 +21,16 @@ returns-then-n-b c =
 
 pub record_end-at-requires : goal.record_end-at-requires
 record_end-at-requires c =
-    let w = c.requires.0 in
-    let m = held-most w.2 c.requires.2 in
-    let h = c.loop-at.invariant.0 w.0 w.1 w.2.past m (stands-held w.2) in
-    omega (arith, scanning-in h _ c.loop-at.invariant.1 m)
+    let most = held-most c.requires.0.2 c.requires.2 in
+    let shown = c.loop-at.invariant.0 c.requires.0.0 c.requires.0.1 c.requires.0.2.past most (stands-held c.requires.0.2) in
+    omega (arith, scanning-in shown _ c.loop-at.invariant.1 most)
 
 pub loop-at-smaller : goal.loop-at-smaller
 loop-at-smaller c =
-    let w = c.requires.0 in
-    let m = held-most w.2 c.requires.2 in
-    let h = c.loop-at.invariant.0 w.0 w.1 w.2.past m (stands-held w.2) in
-    let s = scanning-less h _ c.loop-at.invariant.1 m _ c.record_end-at.ensures in
-    omega (arith, s.0, s.1)
+    let most = held-most c.requires.0.2 c.requires.2 in
+    let shown = c.loop-at.invariant.0 c.requires.0.0 c.requires.0.1 c.requires.0.2.past most (stands-held c.requires.0.2) in
+    let w = scanning-less shown _ c.loop-at.invariant.1 most _ c.record_end-at.ensures in
+    omega (arith, w.0, w.1)
 
 pub loop-at-preserved : goal.loop-at-preserved
 loop-at-preserved c =
@@ -45,8 +42,5 @@ loop-at-preserved c =
             | then-j-at-ne43+else-n-b v ↦ scanning-source w _ l.invariant.1 m _ _ is v.if-j-at-ne43.true v.n-is
             | else-j-at-ne43 v ↦ scanning-inserted w _ l.invariant.1 m _ _ is v.if-j-at-ne43.false v.n-is
           ]),
-      elim c.if-j-at-ne43.branch [
-        | then-j-at-ne43+else-n-b v ↦ omega (arith, v.if-n-b.false, v.n-is)
-        | else-j-at-ne43 v ↦ omega (arith, v.n-is, l.invariant.1)
-      ],
+      elim c.if-j-at-ne43.branch [ then-j-at-ne43+else-n-b v ↦ omega (arith, v.if-n-b.false, v.n-is) | else-j-at-ne43 v ↦ omega (arith, v.n-is, l.invariant.1) ],
     )

@@ -13,25 +13,19 @@ pub returns-then-through-eq65536 : goal.returns-then-through-eq65536
 returns-then-through-eq65536 c = λ e t h. finds-all _ e t h c.if-at-end.false _ c.if-through-eq65536.true c.read_to.ensures
 
 pub returns-then-through-st : goal.returns-then-through-st
-returns-then-through-st c =
-    λ e t h. finds-28 _ e t h c.if-at-end.false _ c.if-through-eq0.false c.if-through-eq65536.false c.if-through-st.true
+returns-then-through-st c = λ e t h. finds-28 _ e t h c.if-at-end.false _ c.if-through-eq0.false c.if-through-eq65536.false c.if-through-st.true
 
 pub returns-then-st-through : goal.returns-then-st-through
-returns-then-st-through c =
-    λ e t h. finds-21 _ e t h c.if-at-end.false _ c.if-through-eq0.false c.if-through-eq65536.false c.read_to-s.ensures c.if-through-st.false c.if-st-through.true
+returns-then-st-through c = λ e t h. finds-21 _ e t h c.if-at-end.false _ c.if-through-eq0.false c.if-through-eq65536.false c.read_to-s.ensures c.if-through-st.false c.if-st-through.true
 
 pub bounds-j-last : goal.bounds-j-last
-bounds-j-last c =
-    stands-in (c.source_at-last.ensures _ _ c.requires.2.holds).stands
+bounds-j-last c = stands-in (c.source_at-last.ensures _ _ c.requires.2.holds).stands
 
 pub returns-then-j-last-eq45 : goal.returns-then-j-last-eq45
-returns-then-j-last-eq45 c =
-    λ e t h. finds-23 _ e t h c.if-at-end.false _ c.if-through-eq0.false c.if-through-eq65536.false c.read_to-s.ensures c.if-through-st.false _ (c.source_at-last.ensures _ _ h.holds) c.if-j-last-eq45.true
+returns-then-j-last-eq45 c = λ e t h. finds-23 _ e t h c.if-at-end.false _ c.if-through-eq0.false c.if-through-eq65536.false c.read_to-s.ensures c.if-through-st.false _ (c.source_at-last.ensures _ _ h.holds) c.if-j-last-eq45.true
 
 pub record_end-requires-2 : goal.record_end-requires-2
-record_end-requires-2 c =
-    omega (arith, stands-in (c.source_at-last.ensures _ _ c.requires.2.holds).stands)
+record_end-requires-2 c = omega (arith, stands-in (c.source_at-last.ensures _ _ c.requires.2.holds).stands)
 
 pub returns : goal.returns
-returns c =
-    λ e t h. finds-through _ e t h c.if-at-end.false _ c.if-through-eq0.false c.if-through-eq65536.false c.read_to-s.ensures c.if-through-st.false _ (c.source_at-last.ensures _ _ h.holds) c.if-j-last-eq45.false _ c.record_end-2.ensures
+returns c = λ e t h. finds-through _ e t h c.if-at-end.false _ c.if-through-eq0.false c.if-through-eq65536.false c.read_to-s.ensures c.if-through-st.false _ (c.source_at-last.ensures _ _ h.holds) c.if-j-last-eq45.false _ c.record_end-2.ensures

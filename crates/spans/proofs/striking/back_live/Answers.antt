@@ -20,8 +20,10 @@ pub unpass_record-s-requires : goal.unpass_record-s-requires
 unpass_record-s-requires c = unpassable (c.loop-left.invariant.0 c.requires.0 c.requires.1 c.requires.2).holds (omega arith)
 
 pub bounds-j-at : goal.bounds-j-at
-bounds-j-at c =
-    withdrawing-in (c.loop-left.invariant.0 c.requires.0 c.requires.1 c.requires.2) (omega arith) (omega arith) c.unpass_record-s.ensures.0
+bounds-j-at c = withdrawing-in (c.loop-left.invariant.0 c.requires.0 c.requires.1 c.requires.2) (omega arith) (omega arith) c.unpass_record-s.ensures.0
+
+pub overflow_sub-left : goal.overflow_sub-left
+overflow_sub-left c = (omega arith)
 
 pub loop-left-smaller-then-j-at-ne45 : goal.loop-left-smaller-then-j-at-ne45
 loop-left-smaller-then-j-at-ne45 c = c.unpass_record-s.ensures.2

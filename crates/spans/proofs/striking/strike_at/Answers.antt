@@ -17,12 +17,10 @@ returns-then-m-eq43 c =
     )
 
 pub overflow_sub-end : goal.overflow_sub-end
-overflow_sub-end c =
-    omega (arith, at-ends c.requires _ c.record_end-end.ensures)
+overflow_sub-end c = omega (arith, at-ends c.requires _ c.record_end-end.ensures)
 
 pub mark_deleted-requires : goal.mark_deleted-requires
-mark_deleted-requires c =
-    omega (arith, at-inside c.args.at c.requires)
+mark_deleted-requires c = omega (arith, at-inside c.args.at c.requires)
 
 pub close_hole-requires-then-m-eq60 : goal.close_hole-requires-then-m-eq60
 close_hole-requires-then-m-eq60 c =
@@ -37,9 +35,7 @@ returns-then-m-eq60 c =
     )
 
 pub mark_deleted-requires-2 : goal.mark_deleted-requires-2
-mark_deleted-requires-2 c =
-    omega (arith, at-inside c.args.at c.requires)
+mark_deleted-requires-2 c = omega (arith, at-inside c.args.at c.requires)
 
 pub returns : goal.returns
-returns c =
-    (λ b m x a. erased-kept _ _ _ b m c.if-m-eq43.false c.if-m-eq60.false c.mark_deleted-2.ensures x a, stays-still)
+returns c = (λ b m x a. erased-kept _ _ _ b m c.if-m-eq43.false c.if-m-eq60.false c.mark_deleted-2.ensures x a, stays-still)
