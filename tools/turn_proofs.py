@@ -299,6 +299,7 @@ class Function:
         spec = re.search(r"\(tie\.spec\s+([^)]*)\)", text)
         args = spec[1].split() if spec else []
         renames, answers, invariants, helpers = {}, [], [], []
+        branches = []
         kinds = {}
         for lines in decls:
             sig = "\n".join(lines)
@@ -365,6 +366,8 @@ class Function:
                     body = re.sub(rf"(?<![^\s(){{}};,@«»]){re.escape(other)} (?:{places_in(body)})(?:\.before)*(?![^\s(){{}};,@«»])", lambda m, o=other: f"(\x00{o}\x00)", body)
                 body = self.body(place, body)
                 body = single(re.sub("\x00(\\S+?)\x00", lambda m: inline[m[1]], body))
+                body, ways = joins(body)
+                branches += [b for b in ways if b not in branches]
                 if TRIVIAL.match(body.strip()) and not unfolding:
                     continue
                 names = CLAUSES.get("::".join([self.crate, *self.folder.split("/")]))
@@ -412,6 +415,7 @@ class Function:
         if answers or any(n not in lower for n, s in helpers):
             extra = [f"use {module}.Invariants.{{{', '.join(lower)}}}"] if lower else []
             extra += ["use borrow.Enum.Refused.{opened}"] if self.opens else []
+            extra += [f"use {module}.Goals.{{{', '.join(branches)}}}"] if branches else []
             keep = [s for n, s in helpers if n not in lower]
             write(f"{base}/Answers.antt", title, uses + extra + [f"use {module}.Goals as goal"], keep + answers)
         os.remove(file)
@@ -500,6 +504,36 @@ def turn_cycle(names, crate, folder):
     os.rmdir(f"{base}/Proof")
     os.remove(f"{base}/Proof.antt")
     return said
+
+
+def joins(text):
+    """An answer's text with `elim` at the branches that join, and the names of the branches. The steps v.1 and on are left."""
+    names = []
+    while True:
+        m = re.search(rf"⊎_elim \(λ ({WORD})\. ", text)
+        if not m:
+            return text, names
+        ends, at = [], m.start() + len("⊎_elim ")
+        for _ in range(2):
+            depth, end = 0, at
+            while end < len(text):
+                depth += {"(": 1, ")": -1}.get(text[end], 0)
+                end += 1
+                if depth == 0:
+                    break
+            ends.append((at, end))
+            at = end + len(text[end:]) - len(text[end:].lstrip())
+        step = re.match(rf"\s*(c\.if-({WORD})\.branch)", text[ends[1][1] :])
+        cases = [re.match(r"\(λ (\S+)\.\s+(.*)\)$", text[a:b], re.S) for a, b in ends]
+        if not step or not all(cases):
+            return text, names
+        way = step[2]
+        rows = []
+        for word, old, new, case in zip(("then", "else"), ("taken", "left"), ("true", "false"), cases):
+            body = re.sub(rf"(?<![^\s(){{}};,@«»]){re.escape(case[1])}\.0\.{old}(?![^\s(){{}};,@«».])", f"{case[1]}.if-{way}.{new}", case[2])
+            rows.append(f"{word}-{way} {case[1]} ↦ {body}")
+            names.append(f"{word}-{way}")
+        text = text[: m.start()] + f"elim {step[1]} [ {rows[0]} | {rows[1]} ]" + text[ends[1][1] + step.end() :]
 
 
 def one_use(lines):

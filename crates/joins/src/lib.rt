@@ -1,4 +1,6 @@
 // CL: the current line, a string and the next live line become one line.
+#![tactic(auto)]
+
 mod texts;
 
 ghost use Rattle.std.specs.Prelude.{◌≡◌, true, ◌≤◌, length, take, drop};
