@@ -1,4 +1,6 @@
 // The simple commands of a script, performed on the journal buffer.
+#![tactic(auto)]
+
 mod lines;
 mod one_word;
 mod passing;
