@@ -5,30 +5,25 @@ use Rattle.reading.proofs.Stands.{stand-room}
 use Rattle.reading.proofs.To.{nothing_read, first-asks, on-asks, stop-asks, came-back, came-stopped, plain-read}
 use Rattle.reading.proofs.read_to.Goals as goal
 
--- src/lib.rt:44:8
 pub none_stands-requires : goal.none_stands-requires
 none_stands-requires c = stand-room _ _ c.requires.0.0 c.requires.0.1
 
--- src/lib.rt:45:9
 pub returns-then-none_stands : goal.returns-then-none_stands
 returns-then-none_stands c =
     let none = sym c.none_stands.ensures ∙ c.if-none_stands.true in
     λ e d t stands h. plain-read _ e d t (none-stand _ _ d none stands) c.read_to.ensures h
 
--- src/lib.rt:49:9
 pub returns-then-to-st : goal.returns-then-to-st
 returns-then-to-st c =
     let far = c.if-to-st.true in
     λ e d t stands h. nothing_read _ d _ e t h (omega (arith, c.lesser-to.ensures))
 
--- src/lib.rt:53:9
 pub read_lines-r-requires : goal.read_lines-r-requires
 read_lines-r-requires c =
     let less = c.if-to-st.false in
     let w = first-asks c.args.a _ (omega (arith, c.lesser-to.ensures)) c.to_source-first.ensures c.lesser-last.ensures c.requires.1.0 c.requires.1.1 c.requires.1.2 in
     (c.requires.0, w.0, w.1)
 
--- src/lib.rt:55:35
 pub come_back-requires : goal.come_back-requires
 come_back-requires c =
     on-asks (record {
@@ -39,7 +34,6 @@ come_back-requires c =
       reads = c.read_lines-r.ensures;
     }) c.in-On.is c.requires.0.0 c.requires.1.0 c.requires.1.1 c.requires.0.1 c.requires.1.2
 
--- src/lib.rt:56:45
 pub come_back-requires-in-Stop : goal.come_back-requires-in-Stop
 come_back-requires-in-Stop c =
     stop-asks (record {
@@ -50,7 +44,6 @@ come_back-requires-in-Stop c =
       reads = c.read_lines-r.ensures;
     }) _ c.in-Stop.is c.requires.0.0 c.requires.1.0 c.requires.1.1 c.requires.0.1 c.requires.1.2
 
--- src/lib.rt:40:1
 pub returns-in-On : goal.returns-in-On
 returns-in-On c =
     let b = c.come_back.ensures in
@@ -62,7 +55,6 @@ returns-in-On c =
       reads = c.read_lines-r.ensures;
     }) b.0 b.2 c.in-On.is (b.1 ∙ c.lesser-to.ensures)
 
--- src/lib.rt:40:1
 pub returns-in-Stop : goal.returns-in-Stop
 returns-in-Stop c =
     let b = c.come_back-in-Stop.ensures in

@@ -4,44 +4,36 @@ use Rattle.editor.proofs.Held.{held-drop, held-length}
 use Rattle.tail.proofs.Behind.{kept-asks, behind-end, behind-kept, behind-long, behind-full, behind-on}
 use Rattle.tail.proofs.measure.Goals as goal
 
--- src/lib.rt:42:20
 pub overflow_sub-room : goal.overflow_sub-room
 overflow_sub-room c = c.requires.1.2.order
 
--- src/lib.rt:43:5
 pub loop-at-init : goal.loop-at-init
 loop-at-init c = ((λ ls d stands q good. record { rest = ls; bytes = q; good = good; same = refl }), omega (arith, held-length c.requires.1.2))
 
--- src/lib.rt:44:13
 pub grows_by-g-requires : goal.grows_by-g-requires
 grows_by-g-requires c = (c.requires.0, behind-kept ((c.loop-at.invariant.0 c.requires.1.1 c.requires.0.0 c.requires.0.1 (held-drop c.requires.1.2) c.requires.1.2.good)) c.loop-at-test.true)
 
--- src/lib.rt:46:13
 pub returns-in_default : goal.returns-in_default
 returns-in_default c =
     let l = c.loop-at in
     let r = c.grows_by-g in
     λ b ls d stands h. behind-long (l.invariant.0 ls d stands (held-drop h) h.good) c.loop-at-test.true _ _ stands _ r.ensures c.in_default.is
 
--- src/lib.rt:49:13
 pub returns-then-room-n : goal.returns-then-room-n
 returns-then-room-n c =
     let l = c.loop-at in
     let r = c.grows_by-g in
     λ b ls d stands h. behind-full (l.invariant.0 ls d stands (held-drop h) h.good) c.loop-at-test.true _ _ stands _ r.ensures _ c.in-Bytes.is c.if-room-n.true
 
--- src/lib.rt:52:9
 pub record_end-at-requires : goal.record_end-at-requires
 record_end-at-requires c = c.loop-at.invariant.1
 
--- src/lib.rt:43:5
 pub loop-at-smaller : goal.loop-at-smaller
 loop-at-smaller c =
     let l = c.loop-at in
     let k = kept-asks c.args.j.now l.at (behind-kept ((c.loop-at.invariant.0 c.requires.1.1 c.requires.0.0 c.requires.0.1 (held-drop c.requires.1.2) c.requires.1.2.good)) c.loop-at-test.true) in
     omega (arith, k.0, k.1, c.record_end-at.ensures)
 
--- src/lib.rt:43:5
 pub loop-at-preserved : goal.loop-at-preserved
 loop-at-preserved c =
     let l = c.loop-at in
@@ -54,7 +46,6 @@ loop-at-preserved c =
       omega (arith, k.2, c.record_end-at.ensures),
     )
 
--- src/lib.rt:37:1
 pub returns : goal.returns
 returns c =
     let end = c.loop-at-test.false in

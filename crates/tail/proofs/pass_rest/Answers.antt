@@ -5,40 +5,33 @@ use Rattle.reading.proofs.Stands.{stand-room}
 use Rattle.tail.proofs.All.{none_passed, eof-passed, rest-asks, rest-stops, rest-passes}
 use Rattle.tail.proofs.pass_rest.Goals as goal
 
--- src/lib.rt:63:8
 pub none_stands-requires : goal.none_stands-requires
 none_stands-requires c = stand-room _ _ c.requires.0.0 c.requires.0.1
 
--- src/lib.rt:64:9
 pub returns-then-none_stands : goal.returns-then-none_stands
 returns-then-none_stands c =
     let none = sym c.none_stands.ensures ∙ c.if-none_stands.true in
     λ e d t stands h. none_passed _ e d t (none-stand _ _ d none stands) h
 
--- src/lib.rt:67:9
 pub returns-then-st : goal.returns-then-st
 returns-then-st c = λ e d t stands h. eof-passed _ e d t h c.if-st.true
 
--- src/lib.rt:70:9
 pub measure-n-requires : goal.measure-n-requires
 measure-n-requires c =
     let more = c.if-st.false in
     (c.requires.0, (rest-asks c.to_source-first.ensures (omega arith) c.requires.1.0 c.requires.1.1 c.requires.1.2).0)
 
--- src/lib.rt:72:9
 pub returns-then-n-ne0 : goal.returns-then-n-ne0
 returns-then-n-ne0 c =
     let more = c.if-st.false in
     rest-stops c.to_source-first.ensures (omega arith) c.to_source-first.auto.j _ _ _ c.measure-n.ensures c.if-n-ne0.true
 
--- src/lib.rt:74:5
 pub read_lines-requires : goal.read_lines-requires
 read_lines-requires c =
     let more = c.if-st.false in
     let w = rest-asks c.to_source-first.ensures (omega arith) c.requires.1.0 c.requires.1.1 c.requires.1.2 in
     (c.requires.0, w.0, w.1)
 
--- src/lib.rt:59:1
 pub returns : goal.returns
 returns c =
     let more = c.if-st.false in

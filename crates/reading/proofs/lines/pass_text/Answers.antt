@@ -3,23 +3,19 @@ use native.Mathlib.Omega.{arith}
 use Rattle.reading.proofs.Text.{text-few, pass-left}
 use Rattle.reading.proofs.lines.pass_text.Goals as goal
 
--- src/lines.rt:18:9
 pub text_at-x-requires : goal.text_at-x-requires
 text_at-x-requires c = (kept c.requires.1.0, c.requires.1.1, c.requires.1.2, c.requires.1.3)
 
--- src/lines.rt:20:5
 pub copy_in-requires : goal.copy_in-requires
 copy_in-requires c =
     let x = c.text_at-x.ensures (kept c.requires.1.0) c.requires.1.1 c.requires.1.2 c.requires.1.3 in
     (omega (arith, c.requires.2, text-few c.requires.1.0 x c.requires.1.2), omega (arith, x.within))
 
--- src/lines.rt:21:5
 pub pass-requires : goal.pass-requires
 pass-requires c =
     let x = c.text_at-x.ensures (kept c.requires.1.0) c.requires.1.1 c.requires.1.2 c.requires.1.3 in
     (c.requires.0, text-few c.requires.1.0 x c.requires.1.2, omega (arith, c.requires.2, c.copy_in.auto.d))
 
--- src/lines.rt:14:1
 pub returns : goal.returns
 returns c =
     let copied = c.copy_in in

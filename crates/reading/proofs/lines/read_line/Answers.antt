@@ -4,24 +4,19 @@ use Rattle.definitions.specs.Journal.{kept}
 use Rattle.reading.proofs.Line.{some-kept, unread-passable, line-long, line-asks, line-takes}
 use Rattle.reading.proofs.lines.read_line.Goals as goal
 
--- src/lines.rt:72:9
 pub pass_text-left-requires : goal.pass_text-left-requires
 pass_text-left-requires c = (c.requires.0, some-kept c.requires.1.1 c.requires.1.2 c.requires.2, omega arith)
 
--- src/lines.rt:73:9
 pub pass_record-s-requires : goal.pass_record-s-requires
 pass_record-s-requires c =
     let w = unread-passable c.requires.1.1 c.requires.1.2 c.requires.2 in
     (w.0, kept w.1, map kept w.2, w.3)
 
--- src/lines.rt:76:28
 pub take_text-requires : goal.take_text-requires
 take_text-requires c = line-asks _ _ _ _ c.pass_text-left.ensures c.pass_record-s.ensures c.in-Text.is c.requires.0 c.requires.1 c.requires.2 c.pass_text-left.auto.line
 
--- src/lines.rt:67:1
 pub returns-in-Long : goal.returns-in-Long
 returns-in-Long c = line-long _ _ _ _ c.pass_text-left.ensures c.pass_record-s.ensures c.in-Long.is
 
--- src/lines.rt:67:1
 pub returns-in-Text : goal.returns-in-Text
 returns-in-Text c = line-takes _ _ _ _ c.pass_text-left.ensures c.pass_record-s.ensures c.in-Text.is _ _ c.pass_record-s.auto.j c.take_text.ensures

@@ -10,17 +10,14 @@ use Rattle.reading.proofs.lines.read_lines.Goals as goal
 pub loop-s-init : goal.loop-s-init
 loop-s-init c = ((λ e d ls stands h. going_start e ls h c.requires.2), refl)
 
--- src/lines.rt:87:13
 pub read_line-r-requires : goal.read_line-r-requires
 read_line-r-requires c =
     let h = (c.loop-s.invariant.0 (ed c.requires.1.0 [] 0) c.requires.0.0 c.requires.1.1 c.requires.0.1 (some-text c.requires.1.0 c.requires.1.1 c.requires.1.2)) in
     (c.requires.0, (passed_of h.text, h.rest, h.holds), going-in h c.loop-s-test.true)
 
--- src/lines.rt:89:13
 pub shape_of-j-in_default : goal.shape_of-j-in_default
 shape_of-j-in_default c = c.read_line-r.auto.j ∙ c.loop-s.invariant.1
 
--- src/lines.rt:89:13
 pub returns-in_default : goal.returns-in_default
 returns-in_default c =
     let l = c.loop-s in
@@ -28,14 +25,12 @@ returns-in_default c =
     λ e d ls stands h.
     going-stops _ _ _ stands (sym (lent_same _ _ l.invariant.1)) c.loop-s-test.true (l.invariant.0 e d ls stands h) _ _ _ c.in_default.is r.ensures
 
--- src/lines.rt:86:5
 pub loop-s-smaller : goal.loop-s-smaller
 loop-s-smaller c =
     let l = c.loop-s in
     let more = c.loop-s-test.true in
     omega (arith, more, (going_on _ _ _ c.requires.0.1 (sym (lent_same _ _ l.invariant.1)) more ((c.loop-s.invariant.0 (ed c.requires.1.0 [] 0) c.requires.0.0 c.requires.1.1 c.requires.0.1 (some-text c.requires.1.0 c.requires.1.1 c.requires.1.2))) _ _ c.in-On.is c.read_line-r.ensures).1)
 
--- src/lines.rt:86:5
 pub loop-s-preserved : goal.loop-s-preserved
 loop-s-preserved c =
     let l = c.loop-s in
@@ -45,11 +40,9 @@ loop-s-preserved c =
       r.auto.j ∙ l.invariant.1,
     )
 
--- src/lines.rt:81:1
 pub shape_of-j : goal.shape_of-j
 shape_of-j c = c.loop-s.invariant.1
 
--- src/lines.rt:81:1
 pub returns : goal.returns
 returns c =
     let l = c.loop-s in
