@@ -6,7 +6,7 @@ use Rattle.definitions.specs.Tape.{Tape}
 use Rattle.definitions.specs.Given.{no_globals}
 use Rattle.definitions.specs.Editor.{Ed, strike, put}
 use Rattle.definitions.specs.Editor.{Edit as Editing}
-use Rattle.definitions.specs.StepProgram.{Program, gives, ◌>>=◌, ◌>>◌, state, Did, changes, perform}
+use Rattle.definitions.specs.StepProgram.{Program, gives, ◌>>◌, state, Did, changes, perform}
 use Rattle.definitions.specs.Edit.{read_past}
 use Rattle.editor.specs.Records.{enc_all}
 use Rattle.editor.specs.Shows.{Holds, Shows, lent, Answered}

@@ -1,4 +1,6 @@
 // R: lines of the script in the place of lines of the journal.
+#![tactic(auto)]
+
 pub mod room;
 
 ghost use Rattle.definitions.specs.Bytes.{lines_of};
