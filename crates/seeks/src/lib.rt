@@ -1,4 +1,6 @@
 // Tests and searches on the journal buffer: IF, WH, UL, UT, IFEOF, F, BF and DF.
+#![tactic(auto)]
+
 ghost use Rattle.std.specs.Prelude.{◌≡◌, ◌+◌, ◌≤◌, ◌<◌, length};
 ghost use Rattle.definitions.specs.Editor.{stop_number};
 ghost use Rattle.definitions.specs.Edit.{Op, Test, look_on, look_back};

@@ -3,8 +3,8 @@ use native.Mathlib.Omega.{arith}
 use Rattle.spans.proofs.Struck.{spanned-until}
 use Rattle.replacing.proofs.Freed.{gap-fits}
 use Rattle.replacing.proofs.Whole.{freed-is, replace-full, struck-ready, replace-on}
-use Rattle.replacing.proofs.replace_to.Goals.{then-gap-room+else-gap-freed, else-gap-room}
 use Rattle.replacing.proofs.replace_to.Goals as goal
+use Rattle.replacing.proofs.replace_to.Goals.{then-gap-room+else-gap-freed, else-gap-room}
 
 pub lines_room-room-requires : goal.lines_room-room-requires
 lines_room-room-requires c = c.requires.1
@@ -46,7 +46,7 @@ put_lines-requires c =
     let w = pre.0 in
     let r = c.strike_span-l in
     let room = c.lines_room-room in
-    let z = struck-ready [] w.0 w.1 w.2 w.3 w.4 _ _ r.ensures r.auto.j room.result (elim c.if-gap-room.branch [ then-gap-room+else-gap-freed v ↦ omega (arith, v.if-gap-freed.false, freed-is w.0 w.1 w.2 w.3 w.4 v.freed_to-freed.ensures) | else-gap-room v ↦ omega (arith, v.if-gap-room.false) ]) in
+    let z = struck-ready [] w.0 w.1 w.2 w.3 w.4 _ _ r.ensures r.auto.j room.result (elim c.if-gap-room.branch [ then-gap-room+else-gap-freed v ↦ omega (arith, freed-is w.0 w.1 w.2 w.3 w.4 v.freed_to-freed.ensures) | else-gap-room v ↦ omega arith ]) in
     (z.0, pre.1, omega (arith, z.1, room.ensures))
 
 pub returns : goal.returns

@@ -1,0 +1,11 @@
+use Rattle.seeks.proofs.Finding.{not-by, not_back, goes-forward, goes-backward, goes-deleting}
+use Rattle.seeks.proofs.look_further.Goals as goal
+
+pub returns-in-Forward : goal.returns-in-Forward
+returns-in-Forward c = not-by _ _ _ _ _ (goes-forward _ c.in-Forward.is) c.look_on.ensures
+
+pub returns-in-Backward : goal.returns-in-Backward
+returns-in-Backward c = not_back _ _ _ _ _ (goes-backward _ c.in-Backward.is) c.look_back.ensures
+
+pub returns-in-Deleting : goal.returns-in-Deleting
+returns-in-Deleting c = not-by _ _ _ _ _ (goes-deleting _ c.in-Deleting.is) c.look_on-in-Deleting.ensures
