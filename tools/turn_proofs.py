@@ -530,7 +530,7 @@ def joins(text):
         way = step[2]
         rows = []
         for word, old, new, case in zip(("then", "else"), ("taken", "left"), ("true", "false"), cases):
-            body = re.sub(rf"(?<![^\s(){{}};,@«»]){re.escape(case[1])}\.0\.{old}(?![^\s(){{}};,@«».])", f"{case[1]}.if-{way}.{new}", case[2])
+            body = re.sub(rf"(?<![^\s(){{}};,@«»]){re.escape(case[1])}(?:\.0)?\.{old}(?![^\s(){{}};,@«».])", f"{case[1]}.if-{way}.{new}", case[2])
             rows.append(f"{word}-{way} {case[1]} ↦ {body}")
             names.append(f"{word}-{way}")
         text = text[: m.start()] + f"elim {step[1]} [ {rows[0]} | {rows[1]} ]" + text[ends[1][1] + step.end() :]
