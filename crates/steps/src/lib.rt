@@ -1,4 +1,6 @@
 // What a step of the run asks of the editor, done on the journal buffer.
+#![tactic(auto)]
+
 ghost use Rattle.std.specs.Prelude.{◌≡◌, ◌+◌, ◌≤◌, ◌<◌, length, get_or};
 ghost use Rattle.globals.specs.Standing.{OnlyCarried};
 ghost use Rattle.reading.specs.Carrying.{SomeStand};

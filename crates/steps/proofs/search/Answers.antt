@@ -1,0 +1,31 @@
+-- `steps::search` meets its contract. Assumes nothing.
+use mathlib.Core.Path.{refl}
+use mathlib.Core.Logic.{⊎_elim}
+use native.Mathlib.Omega.{arith}
+use Rattle.steps.proofs.Globals.{below-stands}
+use Rattle.steps.proofs.Views.{asks-look, search-inside, search-words}
+use Rattle.steps.proofs.Searches.{after-search, is_found, is-unfound}
+use borrow.Enum.Refused.{opened}
+use Rattle.steps.proofs.search.Goals as goal
+
+pub overflow_add-k : goal.overflow_add-k
+overflow_add-k c = omega (arith, (search-inside _ _ _ (let p = c.requires in let z = asks-look _ _ p.0.0.0 c.args.x p.0.0.2 p.0.0.5.asks _ p.1 in (z.0, z.1))).0, (search-inside _ _ _ (let p = c.requires in let z = asks-look _ _ p.0.0.0 c.args.x p.0.0.2 p.0.0.5.asks _ p.1 in (z.0, z.1))).1)
+
+pub search_end-m-requires : goal.search_end-m-requires
+search_end-m-requires c = omega (arith, (search-inside _ _ _ (let p = c.requires in let z = asks-look _ _ p.0.0.0 c.args.x p.0.0.2 p.0.0.5.asks _ p.1 in (z.0, z.1))).0, (search-inside _ _ _ (let p = c.requires in let z = asks-look _ _ p.0.0.0 c.args.x p.0.0.2 p.0.0.5.asks _ p.1 in (z.0, z.1))).1)
+
+pub seek-r-requires : goal.seek-r-requires
+seek-r-requires c = let p = c.requires in
+    (below-stands _ _ _ p.0.0.6, (search-words _ _ _ (let p = c.requires in let z = asks-look _ _ p.0.0.0 c.args.x p.0.0.2 p.0.0.5.asks _ p.1 in (z.0, z.1)) _ c.search_end-m.ensures, p.0.1), p.3)
+
+pub returns-in_default : goal.returns-in_default
+returns-in_default c =
+    let p = c.requires in
+    after-search _ _ _ _ _ _ _ _ _ refl c.seek-r.result _ p.1 _ c.search_end-m.ensures c.seek-r.ensures
+    _ (is_found _ (λ u q. ⊎_elim (λ z. omega arith) (λ z. omega arith) (rw q at (opened c.in_default.in_default-own.keys2))))
+
+pub returns : goal.returns
+returns c =
+    let p = c.requires in
+    after-search _ _ _ _ _ _ _ _ _ refl c.seek-r.result _ p.1 _ c.search_end-m.ensures c.seek-r.ensures
+    _ (is-unfound _ _ c.in-No.is)
