@@ -100,9 +100,9 @@ def parts(text):
 
 def by_names(names, path):
     """A path into clauses that stood as nested pairs, by the clauses' names."""
+    if not path or not path[0].isdigit():
+        return path
     for i, name in enumerate(names):
-        if not path or not path[0].isdigit():
-            return path
         if i == len(names) - 1:
             return [name] + path
         if path[0] == "0":

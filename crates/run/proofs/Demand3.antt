@@ -2,7 +2,6 @@
 use mathlib.Core.Path.{◌≡◌, refl, sym, ◌∙◌}
 use mathlib.Core.List.{List}
 use Prim.Native.Nat.{ℕ}
-use lib.ListN.{length}
 use Rattle.definitions.specs.Run.{Answer as Answered, answer, refusal, answer_records, outcome_of}
 use Rattle.theorems.specs.Demand3.{IsAccepted}
 use Rattle.theorems.proofs.Demand3Values.{Call, defined, IsRun, holds, read-journal, journal-fits, past-journal, rest-after, rest-passes, ComparedCall, calls-agree}

@@ -1,4 +1,6 @@
 // The run: a script on a table, within a budget of steps; its journal, and how it ended.
+#![tactic(auto)]
+
 mod decoded;
 pub mod values;
 

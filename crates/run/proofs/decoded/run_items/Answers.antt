@@ -1,0 +1,149 @@
+-- `run::decoded::run_items` meets its contract. Assumes nothing.
+use mathlib.Core.Path.{refl, ◌∙◌}
+use Prim.Native.Nat.{◌+◌, ◌-◌}
+use native.Mathlib.Omega.{arith}
+use Rattle.definitions.specs.Tape.{Tape}
+use Rattle.definitions.specs.StepProgram.{state}
+use Rattle.definitions.specs.Run.{End}
+use Rattle.editor.specs.Shows.{lent}
+use Rattle.editor.proofs.Parts.{lent_same}
+use Rattle.steps.proofs.OneStep.{Comes}
+use Rattle.steps.proofs.Answering.{step-comes}
+use Rattle.control.proofs.Pulling.{at-start}
+use Rattle.run.proofs.Going.{Going, Wanting, going_start, going_done, going-wants, going-late, going-yes, going-no, going-stops, stands-pulled, yes-lines, no_lines}
+use Rattle.run.proofs.decoded.run_items.Goals as goal
+
+pub loop-x-init : goal.loop-x-init
+loop-x-init c = (
+  (λ items e t d r. going_start _ _ items e t (at-start _ _ _ items d.start _ c.start-c.ensures) c.requires.1 d r),
+  omega arith,
+  rw c.start-c.ensures (omega arith),
+  refl,
+  refl,
+)
+
+pub pull-next-requires : goal.pull-next-requires
+pull-next-requires c = let g = (let p = c.requires in c.loop-x.invariant.0 p.0.0.0 p.2.0 p.2.1 p.0.0.1 p.2.2) in ((_, g.from, g.stands), omega arith)
+
+pub shape_of-w-in_default : goal.shape_of-w-in_default
+shape_of-w-in_default c = c.pull-next.auto.w ∙ c.loop-x.invariant.3
+
+pub shape_of-j-in_default : goal.shape_of-j-in_default
+shape_of-j-in_default c = c.loop-x.invariant.4
+
+pub returns-in_default : goal.returns-in_default
+returns-in_default c = λ items e t d r. let g = c.loop-x.invariant.0 items e t d r in going_done g _ c.pull-next.ensures.0 _ _ c.in_default.is (c.pull-next.ensures.1 _ g.from g.stands)
+
+pub shape_of-w-then-made-budget : goal.shape_of-w-then-made-budget
+shape_of-w-then-made-budget c = c.pull-next.auto.w ∙ c.loop-x.invariant.3
+
+pub shape_of-j-then-made-budget : goal.shape_of-j-then-made-budget
+shape_of-j-then-made-budget c = c.loop-x.invariant.4
+
+pub returns-then-made-budget : goal.returns-then-made-budget
+returns-then-made-budget c =
+    let d = c.requires.0.0.1 in
+    let wanting : (x : End × Tape) (g : Going c.args.script.now c.args.table.now (lent c.args.j.now) c.args.budget c.args.end c.loop-x.w c.loop-x.j c.loop-x.c c.loop-x.s c.loop-x.made x)
+    → Wanting c.args.script.now c.pull-next.new.w c.args.end (c.loop-x.c.lines + 1) c.in-Want.x g.from = λ x g. going-wants g d.form d.start.ready.short _ _ _ _ c.in-Want.is (c.pull-next.ensures.1 _ g.from g.stands) in
+    λ items e t d r. let g = c.loop-x.invariant.0 items e t d r in going-late g _ c.pull-next.ensures.0 _ _ (wanting _ g) c.if-made-budget.true
+
+pub answer_step-r-requires : goal.answer_step-r-requires
+answer_step-r-requires c =
+    let d = c.requires.0.0.1 in
+    let wanting : (x : End × Tape) (g : Going c.args.script.now c.args.table.now (lent c.args.j.now) c.args.budget c.args.end c.loop-x.w c.loop-x.j c.loop-x.c c.loop-x.s c.loop-x.made x)
+    → Wanting c.args.script.now c.pull-next.new.w c.args.end (c.loop-x.c.lines + 1) c.in-Want.x g.from = λ x g. going-wants g d.form d.start.ready.short _ _ _ _ c.in-Want.is (c.pull-next.ensures.1 _ g.from g.stands) in
+    let g = (let p = c.requires in c.loop-x.invariant.0 p.0.0.0 p.2.0 p.2.1 p.0.0.1 p.2.2) in
+    let h = wanting _ g in
+    (((_, g.from, h.op, h.c₁, h.c₀, h.wants, (g.carries, stands-pulled g _ c.pull-next.ensures.0)), (g.then, g.rest, g.ready)), omega arith, omega (arith, h.shown.few, c.requires.0.1))
+
+pub overflow_add-made : goal.overflow_add-made
+overflow_add-made c =
+    let d = c.requires.0.0.1 in
+    let wanting : (x : End × Tape) (g : Going c.args.script.now c.args.table.now (lent c.args.j.now) c.args.budget c.args.end c.loop-x.w c.loop-x.j c.loop-x.c c.loop-x.s c.loop-x.made x)
+    → Wanting c.args.script.now c.pull-next.new.w c.args.end (c.loop-x.c.lines + 1) c.in-Want.x g.from = λ x g. going-wants g d.form d.start.ready.short _ _ _ _ c.in-Want.is (c.pull-next.ensures.1 _ g.from g.stands) in
+    let came : (x : End × Tape) (g : Going c.args.script.now c.args.table.now (lent c.args.j.now) c.args.budget c.args.end c.loop-x.w c.loop-x.j c.loop-x.c c.loop-x.s c.loop-x.made x)
+    → let h = wanting x g in
+    Comes (lent c.args.j.now) (c.args.budget - c.loop-x.made) c.loop-x.made g.from (state g.then g.carries) g.rest c.args.script.now c.answer_step-r.new.w c.args.end c.args.table.now c.answer_step-r.new.j c.in-Want.x.place h.c₁ h.c₀ c.answer_step-r.result = λ x g.
+    let h = wanting x g in
+    rw (lent_same c.args.j.now c.loop-x.j c.loop-x.invariant.4) at (step-comes _ _ _ _ _ c.loop-x.made g.from h.op h.c₁ h.c₀ g.then g.carries g.rest _ _ _ _ _ _ (omega arith) h.wants (stands-pulled g _ c.pull-next.ensures.0) g.ready c.answer_step-r.ensures.answers_step) in
+    let w = came _ (let p = c.requires in c.loop-x.invariant.0 p.0.0.0 p.2.0 p.2.1 p.0.0.1 p.2.2) in omega (arith, w.few, c.requires.0.1)
+
+pub loop-x-smaller-in-Yes : goal.loop-x-smaller-in-Yes
+loop-x-smaller-in-Yes c =
+    let d = c.requires.0.0.1 in
+    let wanting : (x : End × Tape) (g : Going c.args.script.now c.args.table.now (lent c.args.j.now) c.args.budget c.args.end c.loop-x.w c.loop-x.j c.loop-x.c c.loop-x.s c.loop-x.made x)
+    → Wanting c.args.script.now c.pull-next.new.w c.args.end (c.loop-x.c.lines + 1) c.in-Want.x g.from = λ x g. going-wants g d.form d.start.ready.short _ _ _ _ c.in-Want.is (c.pull-next.ensures.1 _ g.from g.stands) in
+    let came : (x : End × Tape) (g : Going c.args.script.now c.args.table.now (lent c.args.j.now) c.args.budget c.args.end c.loop-x.w c.loop-x.j c.loop-x.c c.loop-x.s c.loop-x.made x)
+    → let h = wanting x g in
+    Comes (lent c.args.j.now) (c.args.budget - c.loop-x.made) c.loop-x.made g.from (state g.then g.carries) g.rest c.args.script.now c.answer_step-r.new.w c.args.end c.args.table.now c.answer_step-r.new.j c.in-Want.x.place h.c₁ h.c₀ c.answer_step-r.result = λ x g.
+    let h = wanting x g in
+    rw (lent_same c.args.j.now c.loop-x.j c.loop-x.invariant.4) at (step-comes _ _ _ _ _ c.loop-x.made g.from h.op h.c₁ h.c₀ g.then g.carries g.rest _ _ _ _ _ _ (omega arith) h.wants (stands-pulled g _ c.pull-next.ensures.0) g.ready c.answer_step-r.ensures.answers_step) in
+    let w = came _ (let p = c.requires in c.loop-x.invariant.0 p.0.0.0 p.2.0 p.2.1 p.0.0.1 p.2.2) in omega (arith, w.began, w.few)
+
+pub loop-x-preserved-in-Yes : goal.loop-x-preserved-in-Yes
+loop-x-preserved-in-Yes c =
+    let d = c.requires.0.0.1 in
+    let wanting : (x : End × Tape) (g : Going c.args.script.now c.args.table.now (lent c.args.j.now) c.args.budget c.args.end c.loop-x.w c.loop-x.j c.loop-x.c c.loop-x.s c.loop-x.made x)
+    → Wanting c.args.script.now c.pull-next.new.w c.args.end (c.loop-x.c.lines + 1) c.in-Want.x g.from = λ x g. going-wants g d.form d.start.ready.short _ _ _ _ c.in-Want.is (c.pull-next.ensures.1 _ g.from g.stands) in
+    let came : (x : End × Tape) (g : Going c.args.script.now c.args.table.now (lent c.args.j.now) c.args.budget c.args.end c.loop-x.w c.loop-x.j c.loop-x.c c.loop-x.s c.loop-x.made x)
+    → let h = wanting x g in
+    Comes (lent c.args.j.now) (c.args.budget - c.loop-x.made) c.loop-x.made g.from (state g.then g.carries) g.rest c.args.script.now c.answer_step-r.new.w c.args.end c.args.table.now c.answer_step-r.new.j c.in-Want.x.place h.c₁ h.c₀ c.answer_step-r.result = λ x g.
+    let h = wanting x g in
+    rw (lent_same c.args.j.now c.loop-x.j c.loop-x.invariant.4) at (step-comes _ _ _ _ _ c.loop-x.made g.from h.op h.c₁ h.c₀ g.then g.carries g.rest _ _ _ _ _ _ (omega arith) h.wants (stands-pulled g _ c.pull-next.ensures.0) g.ready c.answer_step-r.ensures.answers_step) in
+    let w = came _ (let p = c.requires in c.loop-x.invariant.0 p.0.0.0 p.2.0 p.2.1 p.0.0.1 p.2.2) in
+    let h = wanting _ (let p = c.requires in c.loop-x.invariant.0 p.0.0.0 p.2.0 p.2.1 p.0.0.1 p.2.2) in (
+      (λ items e t d r. let g = c.loop-x.invariant.0 items e t d r in going-yes g _ refl _ _ _ _ _ (wanting _ g) _ c.answer_step-r.ensures.only_carried (came _ g) _ c.go_on-c.ensures _ c.in-Yes.is),
+      omega (arith, w.few),
+      yes-lines _ c.in-Want.x _ _ c.go_on-c.ensures h.shown.yes_few (omega (arith, w.began, c.loop-x.invariant.2)),
+      c.answer_step-r.auto.w ∙ c.pull-next.auto.w ∙ c.loop-x.invariant.3,
+      c.answer_step-r.auto.j ∙ c.loop-x.invariant.4,
+    )
+
+pub loop-x-smaller : goal.loop-x-smaller
+loop-x-smaller c =
+    let d = c.requires.0.0.1 in
+    let wanting : (x : End × Tape) (g : Going c.args.script.now c.args.table.now (lent c.args.j.now) c.args.budget c.args.end c.loop-x.w c.loop-x.j c.loop-x.c c.loop-x.s c.loop-x.made x)
+    → Wanting c.args.script.now c.pull-next.new.w c.args.end (c.loop-x.c.lines + 1) c.in-Want.x g.from = λ x g. going-wants g d.form d.start.ready.short _ _ _ _ c.in-Want.is (c.pull-next.ensures.1 _ g.from g.stands) in
+    let came : (x : End × Tape) (g : Going c.args.script.now c.args.table.now (lent c.args.j.now) c.args.budget c.args.end c.loop-x.w c.loop-x.j c.loop-x.c c.loop-x.s c.loop-x.made x)
+    → let h = wanting x g in
+    Comes (lent c.args.j.now) (c.args.budget - c.loop-x.made) c.loop-x.made g.from (state g.then g.carries) g.rest c.args.script.now c.answer_step-r.new.w c.args.end c.args.table.now c.answer_step-r.new.j c.in-Want.x.place h.c₁ h.c₀ c.answer_step-r.result = λ x g.
+    let h = wanting x g in
+    rw (lent_same c.args.j.now c.loop-x.j c.loop-x.invariant.4) at (step-comes _ _ _ _ _ c.loop-x.made g.from h.op h.c₁ h.c₀ g.then g.carries g.rest _ _ _ _ _ _ (omega arith) h.wants (stands-pulled g _ c.pull-next.ensures.0) g.ready c.answer_step-r.ensures.answers_step) in
+    let w = came _ (let p = c.requires in c.loop-x.invariant.0 p.0.0.0 p.2.0 p.2.1 p.0.0.1 p.2.2) in omega (arith, w.began, w.few)
+
+pub loop-x-preserved : goal.loop-x-preserved
+loop-x-preserved c =
+    let d = c.requires.0.0.1 in
+    let wanting : (x : End × Tape) (g : Going c.args.script.now c.args.table.now (lent c.args.j.now) c.args.budget c.args.end c.loop-x.w c.loop-x.j c.loop-x.c c.loop-x.s c.loop-x.made x)
+    → Wanting c.args.script.now c.pull-next.new.w c.args.end (c.loop-x.c.lines + 1) c.in-Want.x g.from = λ x g. going-wants g d.form d.start.ready.short _ _ _ _ c.in-Want.is (c.pull-next.ensures.1 _ g.from g.stands) in
+    let came : (x : End × Tape) (g : Going c.args.script.now c.args.table.now (lent c.args.j.now) c.args.budget c.args.end c.loop-x.w c.loop-x.j c.loop-x.c c.loop-x.s c.loop-x.made x)
+    → let h = wanting x g in
+    Comes (lent c.args.j.now) (c.args.budget - c.loop-x.made) c.loop-x.made g.from (state g.then g.carries) g.rest c.args.script.now c.answer_step-r.new.w c.args.end c.args.table.now c.answer_step-r.new.j c.in-Want.x.place h.c₁ h.c₀ c.answer_step-r.result = λ x g.
+    let h = wanting x g in
+    rw (lent_same c.args.j.now c.loop-x.j c.loop-x.invariant.4) at (step-comes _ _ _ _ _ c.loop-x.made g.from h.op h.c₁ h.c₀ g.then g.carries g.rest _ _ _ _ _ _ (omega arith) h.wants (stands-pulled g _ c.pull-next.ensures.0) g.ready c.answer_step-r.ensures.answers_step) in
+    let w = came _ (let p = c.requires in c.loop-x.invariant.0 p.0.0.0 p.2.0 p.2.1 p.0.0.1 p.2.2) in
+    let h = wanting _ (let p = c.requires in c.loop-x.invariant.0 p.0.0.0 p.2.0 p.2.1 p.0.0.1 p.2.2) in (
+      (λ items e t d r. let g = c.loop-x.invariant.0 items e t d r in going-no g _ refl _ _ _ _ _ (wanting _ g) _ c.answer_step-r.ensures.only_carried (came _ g) _ c.go_on-c-in-No.ensures _ c.in-No.is),
+      omega (arith, w.few),
+      no_lines _ c.in-Want.x _ _ c.go_on-c-in-No.ensures h.shown.no_few (omega (arith, w.began, c.loop-x.invariant.2)),
+      c.answer_step-r.auto.w ∙ c.pull-next.auto.w ∙ c.loop-x.invariant.3,
+      c.answer_step-r.auto.j ∙ c.loop-x.invariant.4,
+    )
+
+pub shape_of-w-in-Stop : goal.shape_of-w-in-Stop
+shape_of-w-in-Stop c = c.answer_step-r.auto.w ∙ c.pull-next.auto.w ∙ c.loop-x.invariant.3
+
+pub shape_of-j-in-Stop : goal.shape_of-j-in-Stop
+shape_of-j-in-Stop c = c.answer_step-r.auto.j ∙ c.loop-x.invariant.4
+
+pub returns-in-Stop : goal.returns-in-Stop
+returns-in-Stop c =
+    let d = c.requires.0.0.1 in
+    let wanting : (x : End × Tape) (g : Going c.args.script.now c.args.table.now (lent c.args.j.now) c.args.budget c.args.end c.loop-x.w c.loop-x.j c.loop-x.c c.loop-x.s c.loop-x.made x)
+    → Wanting c.args.script.now c.pull-next.new.w c.args.end (c.loop-x.c.lines + 1) c.in-Want.x g.from = λ x g. going-wants g d.form d.start.ready.short _ _ _ _ c.in-Want.is (c.pull-next.ensures.1 _ g.from g.stands) in
+    let came : (x : End × Tape) (g : Going c.args.script.now c.args.table.now (lent c.args.j.now) c.args.budget c.args.end c.loop-x.w c.loop-x.j c.loop-x.c c.loop-x.s c.loop-x.made x)
+    → let h = wanting x g in
+    Comes (lent c.args.j.now) (c.args.budget - c.loop-x.made) c.loop-x.made g.from (state g.then g.carries) g.rest c.args.script.now c.answer_step-r.new.w c.args.end c.args.table.now c.answer_step-r.new.j c.in-Want.x.place h.c₁ h.c₀ c.answer_step-r.result = λ x g.
+    let h = wanting x g in
+    rw (lent_same c.args.j.now c.loop-x.j c.loop-x.invariant.4) at (step-comes _ _ _ _ _ c.loop-x.made g.from h.op h.c₁ h.c₀ g.then g.carries g.rest _ _ _ _ _ _ (omega arith) h.wants (stands-pulled g _ c.pull-next.ensures.0) g.ready c.answer_step-r.ensures.answers_step) in
+    λ items e t d r. let g = c.loop-x.invariant.0 items e t d r in going-stops g _ refl _ _ _ _ _ (wanting _ g) _ c.answer_step-r.ensures.only_carried (came _ g) _ _ c.in-Stop.is _ c.stopped.ensures
