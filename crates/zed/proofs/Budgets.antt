@@ -8,7 +8,7 @@ use Rattle.definitions.specs.Run.{Answer, answer, refusal, run_answer, answer_nu
 use Rattle.theorems.specs.Demand3.{IsAccepted}
 use Rattle.theorems.proofs.BudgetsProof.{AnswersAgree, answers_agree}
 use Rattle.zed.specs.Values.{values, run_of}
-use Rattle.zed.specs.Demand3.{Call, ran, Returned, number, steps, furthest, Accepted}
+use Rattle.zed.specs.Demand3.{Call, ran, Returned, steps, furthest, Accepted}
 use Rattle.zed.specs.Budgets.{DifferInBudget, EndTheSame, WishFive, LargerBudgets}
 use Rattle.zed.proofs.Demand3.{number_is, is-accepted}
 
