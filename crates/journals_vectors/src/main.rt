@@ -5,6 +5,6 @@ use std::io;
 use vectors::For;
 
 fn main(rt: HostRuntime) -> io::Result<()> {
-    vectors::run_file(&rt, "join.txt", For::Joining)?;
-    vectors::run_file(&rt, "turn.txt", For::Turning)
+    vectors::run_file(&rt, b"join.txt", For::Joining)?;
+    vectors::run_file(&rt, b"turn.txt", For::Turning)
 }

@@ -5,11 +5,11 @@ use std::io;
 use vectors::For;
 
 fn main(rt: HostRuntime) -> io::Result<()> {
-    vectors::run_file(&rt, "run.txt", For::Editor)?;
-    vectors::run_file(&rt, "wish-01.txt", For::Editor)?;
-    vectors::run_file(&rt, "wish-02.txt", For::Editor)?;
-    vectors::run_file(&rt, "wish-04.txt", For::Editor)?;
-    vectors::run_file(&rt, "wish-06.txt", For::Editor)?;
-    vectors::run_file(&rt, "wish-08.txt", For::Editor)?;
-    vectors::run_file(&rt, "wish-09.txt", For::Editor)
+    vectors::run_file(&rt, b"run.txt", For::Editor)?;
+    vectors::run_file(&rt, b"wish-01.txt", For::Editor)?;
+    vectors::run_file(&rt, b"wish-02.txt", For::Editor)?;
+    vectors::run_file(&rt, b"wish-04.txt", For::Editor)?;
+    vectors::run_file(&rt, b"wish-06.txt", For::Editor)?;
+    vectors::run_file(&rt, b"wish-08.txt", For::Editor)?;
+    vectors::run_file(&rt, b"wish-09.txt", For::Editor)
 }

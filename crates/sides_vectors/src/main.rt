@@ -5,5 +5,5 @@ use std::io;
 use vectors::For;
 
 fn main(rt: HostRuntime) -> io::Result<()> {
-    vectors::run_file(&rt, "sides.txt", For::Readers)
+    vectors::run_file(&rt, b"sides.txt", For::Readers)
 }

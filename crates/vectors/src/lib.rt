@@ -11,6 +11,7 @@ use cases::fields::next_line;
 use cases::files::read_file;
 use std::io;
 use std::rt::Files;
+use std::str::from_utf8;
 
 // The most bytes of a table, a script and a journal that is given, of a buffer that is written, and the most numbers of a work area, in a case.
 const BYTES: usize = 4096;
@@ -31,11 +32,14 @@ pub enum For {
 // Runs the cases of the file. One that cannot be opened has none, and standard error says why.
 pub fn run_file<R: Files + Print + Eprint + AllocGlobal>(
     rt: &R,
-    path: &str,
+    path: &[u8],
     cases: For,
 ) -> io::Result<()> {
+    let Ok(name) = from_utf8(path) else {
+        return eprintln!(rt; "a file's name is no text");
+    };
     let mut file = [0u8; 393216];
-    let n = read_file(rt, path, &mut file)?.unwrap_or(0);
+    let n = read_file(rt, name, &mut file)?.unwrap_or(0);
     let mut table = [0u8; BYTES];
     let mut script = [0u8; BYTES];
     let mut work = [0u32; WORDS];
