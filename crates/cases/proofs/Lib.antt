@@ -2,3 +2,4 @@
 pub mod Same
 pub mod Digits
 pub mod Places
+pub mod Reading

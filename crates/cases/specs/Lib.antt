@@ -1,3 +1,4 @@
 pub mod Buffers
 pub mod Hex
 pub mod Fields
+pub mod Reading

@@ -1,5 +1,7 @@
 // Files, read into buffers that are lent.
-ghost use Rattle.std.specs.Prelude.{◌≤◌, length, IfOk, IfSome};
+ghost use Rattle.std.specs.Prelude.{◌≤◌, ◌<◌, length, IfOk, IfSome};
+ghost use Rattle.std.specs.Io.KnownBytes.{IsAtEnd};
+ghost use Rattle.cases.specs.Reading.{ReadInto};
 
 use std::io::{ErrorKind, Read};
 use std::rt::Files;
@@ -22,17 +24,19 @@ pub fn read_file<R: Files + Eprint + AllocGlobal>(
     }
 }
 
-// Reads until the buffer is full or the input ends, and says how many bytes it read.
+// Reads until the buffer is full or the input ends, and says how many bytes it read: those at the buffer's front. On an error some may have been read, and lie there too.
 fn read_full<R: Read>(from: &mut R, buf: &mut [u8]) -> io::Result<usize>
-    ensures { IfOk result (λ n. n ≤ length buf.old) }
+    ensures bound { IfOk result (λ n. n ≤ length buf.old) }
+    ensures bytes { ReadInto result (R.remaining from.old) (R.remaining from.new) buf.new }
+    ensures end { IfOk result (λ n. n < length buf.old → IsAtEnd (R.remaining from.new)) }
 {
     let mut done: usize = 0;
     for _ in 0..u64::MAX {
         if done == buf.len() {
-            break;
+            return Ok(done);
         }
         match from.read(&mut buf[done..]) {
-            Ok(0) => break,
+            Ok(0) => return Ok(done),
             Ok(n) => done += n,
             Err(error) => {
                 if error.kind() != ErrorKind::Interrupted {
@@ -41,7 +45,8 @@ fn read_full<R: Read>(from: &mut R, buf: &mut [u8]) -> io::Result<usize>
             }
         }
     }
-    Ok(done)
+    // Interrupted each time: what was read is not all.
+    Err(ErrorKind::Interrupted.into())
 }
 
 // Says on standard error what is wrong with a file, in the system's words.
