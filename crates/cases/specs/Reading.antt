@@ -1,5 +1,5 @@
 -- Bytes read into a buffer.
-use Rattle.std.specs.Prelude.{ℕ, List, length, take, Result, MatchResult, ◌≤◌, Option}
+use Rattle.std.specs.Prelude.{ℕ, List, take, Result, MatchResult, Option}
 use Rattle.std.specs.Io.KnownBytes.{Consumes}
 
 -- the bytes that were read, where it is known what the reader has, lie at the buffer's front: as many as the answer says, and on an error some

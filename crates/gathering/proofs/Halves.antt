@@ -10,9 +10,9 @@ use Rattle.text.specs.Lines.{part}
 use Rattle.text.proofs.Parts.{part_length, put, part-lent, part-put}
 use Rattle.rotation.specs.Rotation.{rotated}
 use Rattle.rotation.proofs.Laws.{rotate-parts}
-use Rattle.gathering.specs.Pieces.{pieces, is_minus, is_other, row_of, minus_row, other_row, Gathered}
+use Rattle.gathering.specs.Pieces.{middle_of, pieces, is_minus, is_other, row_of, minus_row, other_row, Gathered}
 use Rattle.gathering.proofs.Pieces.{row-append, gathered-length, gathered-fits}
-use Rattle.gathering.proofs.Cuts.{Cut}
+use Rattle.gathering.proofs.Cuts.{middle-cuts, Cut}
 
 -- each part is shorter than the whole
 pub first-shorter : (x : List ℕ) (m t : ℕ) → Cut x m → length x ≡ t → length (part 0 m x) < t
@@ -115,3 +115,12 @@ both-gathered x s u m p q h turned =
           ∙ sym (rw (row is_minus, row is_other));
       size = sym (ap length (row is_minus) ∙ length-append (minus_row X) (minus_row Y) ∙ omega (arith, h.first.size, h.second.size));
     }
+
+-- ---- from what the code finds: where it cuts, and what each part comes to
+
+pub half-of : {x a : List ℕ} {m p : ℕ} → m ≡ middle_of x → (m ≡ 0 → ⊥) → Gathered (part 0 m x) a p → Half x (put 0 m x a) m p
+half-of {x} {a} {m} {p} is some g = first-half x a m p (middle-cuts x m is some) g
+
+pub both-of : {x a b : List ℕ} {m p q : ℕ} → m ≡ middle_of x → (m ≡ 0 → ⊥) → Gathered (part 0 m x) a p
+    → Gathered (part m (length (put 0 m x a)) (put 0 m x a)) b q → Both x (put m (length (put 0 m x a)) (put 0 m x a) b) m p q
+both-of {x} {a} {b} {m} {p} {q} is some g k = second-half x (put 0 m x a) b m p q (half-of is some g) k

@@ -1,3 +1,4 @@
 pub mod Going
 pub mod Whole
 pub mod Demand3
+pub mod Stepping

@@ -1,5 +1,5 @@
 -- `cases::files::read_full` meets its contract. Assumes nothing.
-use Rattle.std.proofs.Common.{◌≤◌, ◌≡◌, ◌-◌, ◌∙◌, length, take, arith, rules}
+use Rattle.std.proofs.Common.{◌≡◌, ◌-◌, ◌∙◌, length}
 use borrow.Rule.Slice.PartMut.{put_mid, same_len_mid, take_put}
 use Rattle.cases.proofs.Reading.{consumed-more, consumed-kept, front-more, front-within}
 use Rattle.cases.proofs.files.read_full.Goals as goal

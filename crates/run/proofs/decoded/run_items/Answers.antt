@@ -1,16 +1,9 @@
 -- `run::decoded::run_items` meets its contract. Assumes nothing.
 use mathlib.Core.Path.{refl, ◌∙◌}
-use Prim.Native.Nat.{◌+◌, ◌-◌}
 use native.Mathlib.Omega.{arith}
-use Rattle.definitions.specs.Tape.{Tape}
-use Rattle.definitions.specs.StepProgram.{state}
-use Rattle.definitions.specs.Run.{End}
-use Rattle.editor.specs.Shows.{lent}
-use Rattle.editor.proofs.Parts.{lent_same}
-use Rattle.steps.proofs.OneStep.{Comes}
-use Rattle.steps.proofs.Answering.{step-comes}
 use Rattle.control.proofs.Pulling.{at-start}
-use Rattle.run.proofs.Going.{Going, Wanting, going_start, going_done, going-wants, going-late, going-yes, going-no, going-stops, stands-pulled, yes-lines, no_lines}
+use Rattle.run.proofs.Going.{going_start, going_done, going-wants, going-late, going-yes, going-no, going-stops, stands-pulled, yes-lines, no_lines}
+use Rattle.run.proofs.Stepping.{step-came}
 use Rattle.run.proofs.decoded.run_items.Goals as goal
 
 pub loop-x-init : goal.loop-x-init
@@ -42,57 +35,39 @@ shape_of-j-then-made-budget c = c.loop-x.invariant.4
 
 pub returns-then-made-budget : goal.returns-then-made-budget
 returns-then-made-budget c =
-    let d = c.requires.0.0.1 in
-    let wanting : (x : End × Tape) (g : Going c.args.script.now c.args.table.now (lent c.args.j.now) c.args.budget c.args.end c.loop-x.w c.loop-x.j c.loop-x.c c.loop-x.s c.loop-x.made x)
-    → Wanting c.args.script.now c.pull-next.new.w c.args.end (c.loop-x.c.lines + 1) c.in-Want.x g.from = λ x g. going-wants g d.form d.start.ready.short _ _ _ _ c.in-Want.is (c.pull-next.ensures.1 _ g.from g.stands) in
-    λ items e t d r. let g = c.loop-x.invariant.0 items e t d r in going-late g _ c.pull-next.ensures.0 _ _ (wanting _ g) c.if-made-budget.true
+    let start = c.requires.0.0.1 in
+    λ items e t d r. let g = c.loop-x.invariant.0 items e t d r in let h = going-wants g start.form start.start.ready.short _ _ _ _ c.in-Want.is (c.pull-next.ensures.1 _ g.from g.stands) in going-late g _ c.pull-next.ensures.0 _ _ h c.if-made-budget.true
 
 pub answer_step-r-requires : goal.answer_step-r-requires
 answer_step-r-requires c =
-    let d = c.requires.0.0.1 in
-    let wanting : (x : End × Tape) (g : Going c.args.script.now c.args.table.now (lent c.args.j.now) c.args.budget c.args.end c.loop-x.w c.loop-x.j c.loop-x.c c.loop-x.s c.loop-x.made x)
-    → Wanting c.args.script.now c.pull-next.new.w c.args.end (c.loop-x.c.lines + 1) c.in-Want.x g.from = λ x g. going-wants g d.form d.start.ready.short _ _ _ _ c.in-Want.is (c.pull-next.ensures.1 _ g.from g.stands) in
+    let start = c.requires.0.0.1 in
     let g = (let p = c.requires in c.loop-x.invariant.0 p.0.0.0 p.2.0 p.2.1 p.0.0.1 p.2.2) in
-    let h = wanting _ g in
+    let h = going-wants g start.form start.start.ready.short _ _ _ _ c.in-Want.is (c.pull-next.ensures.1 _ g.from g.stands) in
     (((_, g.from, h.op, h.c₁, h.c₀, h.wants, (g.carries, stands-pulled g _ c.pull-next.ensures.0)), (g.then, g.rest, g.ready)), omega arith, omega (arith, h.shown.few, c.requires.0.1))
 
 pub overflow_add-made : goal.overflow_add-made
 overflow_add-made c =
-    let d = c.requires.0.0.1 in
-    let wanting : (x : End × Tape) (g : Going c.args.script.now c.args.table.now (lent c.args.j.now) c.args.budget c.args.end c.loop-x.w c.loop-x.j c.loop-x.c c.loop-x.s c.loop-x.made x)
-    → Wanting c.args.script.now c.pull-next.new.w c.args.end (c.loop-x.c.lines + 1) c.in-Want.x g.from = λ x g. going-wants g d.form d.start.ready.short _ _ _ _ c.in-Want.is (c.pull-next.ensures.1 _ g.from g.stands) in
-    let came : (x : End × Tape) (g : Going c.args.script.now c.args.table.now (lent c.args.j.now) c.args.budget c.args.end c.loop-x.w c.loop-x.j c.loop-x.c c.loop-x.s c.loop-x.made x)
-    → let h = wanting x g in
-    Comes (lent c.args.j.now) (c.args.budget - c.loop-x.made) c.loop-x.made g.from (state g.then g.carries) g.rest c.args.script.now c.answer_step-r.new.w c.args.end c.args.table.now c.answer_step-r.new.j c.in-Want.x.place h.c₁ h.c₀ c.answer_step-r.result = λ x g.
-    let h = wanting x g in
-    rw (lent_same c.args.j.now c.loop-x.j c.loop-x.invariant.4) at (step-comes _ _ _ _ _ c.loop-x.made g.from h.op h.c₁ h.c₀ g.then g.carries g.rest _ _ _ _ _ _ (omega arith) h.wants (stands-pulled g _ c.pull-next.ensures.0) g.ready c.answer_step-r.ensures.answers_step) in
-    let w = came _ (let p = c.requires in c.loop-x.invariant.0 p.0.0.0 p.2.0 p.2.1 p.0.0.1 p.2.2) in omega (arith, w.few, c.requires.0.1)
+    let start = c.requires.0.0.1 in
+    let g = (let p = c.requires in c.loop-x.invariant.0 p.0.0.0 p.2.0 p.2.1 p.0.0.1 p.2.2) in
+    let h = going-wants g start.form start.start.ready.short _ _ _ _ c.in-Want.is (c.pull-next.ensures.1 _ g.from g.stands) in
+    let w = step-came c.args.j.now g h c.pull-next.ensures.0 c.loop-x.invariant.4 (omega arith) _ _ _ c.answer_step-r.ensures.answers_step in
+    omega (arith, w.few, c.requires.0.1)
 
 pub loop-x-smaller-in-Yes : goal.loop-x-smaller-in-Yes
 loop-x-smaller-in-Yes c =
-    let d = c.requires.0.0.1 in
-    let wanting : (x : End × Tape) (g : Going c.args.script.now c.args.table.now (lent c.args.j.now) c.args.budget c.args.end c.loop-x.w c.loop-x.j c.loop-x.c c.loop-x.s c.loop-x.made x)
-    → Wanting c.args.script.now c.pull-next.new.w c.args.end (c.loop-x.c.lines + 1) c.in-Want.x g.from = λ x g. going-wants g d.form d.start.ready.short _ _ _ _ c.in-Want.is (c.pull-next.ensures.1 _ g.from g.stands) in
-    let came : (x : End × Tape) (g : Going c.args.script.now c.args.table.now (lent c.args.j.now) c.args.budget c.args.end c.loop-x.w c.loop-x.j c.loop-x.c c.loop-x.s c.loop-x.made x)
-    → let h = wanting x g in
-    Comes (lent c.args.j.now) (c.args.budget - c.loop-x.made) c.loop-x.made g.from (state g.then g.carries) g.rest c.args.script.now c.answer_step-r.new.w c.args.end c.args.table.now c.answer_step-r.new.j c.in-Want.x.place h.c₁ h.c₀ c.answer_step-r.result = λ x g.
-    let h = wanting x g in
-    rw (lent_same c.args.j.now c.loop-x.j c.loop-x.invariant.4) at (step-comes _ _ _ _ _ c.loop-x.made g.from h.op h.c₁ h.c₀ g.then g.carries g.rest _ _ _ _ _ _ (omega arith) h.wants (stands-pulled g _ c.pull-next.ensures.0) g.ready c.answer_step-r.ensures.answers_step) in
-    let w = came _ (let p = c.requires in c.loop-x.invariant.0 p.0.0.0 p.2.0 p.2.1 p.0.0.1 p.2.2) in omega (arith, w.began, w.few)
+    let start = c.requires.0.0.1 in
+    let g = (let p = c.requires in c.loop-x.invariant.0 p.0.0.0 p.2.0 p.2.1 p.0.0.1 p.2.2) in
+    let h = going-wants g start.form start.start.ready.short _ _ _ _ c.in-Want.is (c.pull-next.ensures.1 _ g.from g.stands) in
+    let w = step-came c.args.j.now g h c.pull-next.ensures.0 c.loop-x.invariant.4 (omega arith) _ _ _ c.answer_step-r.ensures.answers_step in
+    omega (arith, w.began, w.few)
 
 pub loop-x-preserved-in-Yes : goal.loop-x-preserved-in-Yes
 loop-x-preserved-in-Yes c =
-    let d = c.requires.0.0.1 in
-    let wanting : (x : End × Tape) (g : Going c.args.script.now c.args.table.now (lent c.args.j.now) c.args.budget c.args.end c.loop-x.w c.loop-x.j c.loop-x.c c.loop-x.s c.loop-x.made x)
-    → Wanting c.args.script.now c.pull-next.new.w c.args.end (c.loop-x.c.lines + 1) c.in-Want.x g.from = λ x g. going-wants g d.form d.start.ready.short _ _ _ _ c.in-Want.is (c.pull-next.ensures.1 _ g.from g.stands) in
-    let came : (x : End × Tape) (g : Going c.args.script.now c.args.table.now (lent c.args.j.now) c.args.budget c.args.end c.loop-x.w c.loop-x.j c.loop-x.c c.loop-x.s c.loop-x.made x)
-    → let h = wanting x g in
-    Comes (lent c.args.j.now) (c.args.budget - c.loop-x.made) c.loop-x.made g.from (state g.then g.carries) g.rest c.args.script.now c.answer_step-r.new.w c.args.end c.args.table.now c.answer_step-r.new.j c.in-Want.x.place h.c₁ h.c₀ c.answer_step-r.result = λ x g.
-    let h = wanting x g in
-    rw (lent_same c.args.j.now c.loop-x.j c.loop-x.invariant.4) at (step-comes _ _ _ _ _ c.loop-x.made g.from h.op h.c₁ h.c₀ g.then g.carries g.rest _ _ _ _ _ _ (omega arith) h.wants (stands-pulled g _ c.pull-next.ensures.0) g.ready c.answer_step-r.ensures.answers_step) in
-    let w = came _ (let p = c.requires in c.loop-x.invariant.0 p.0.0.0 p.2.0 p.2.1 p.0.0.1 p.2.2) in
-    let h = wanting _ (let p = c.requires in c.loop-x.invariant.0 p.0.0.0 p.2.0 p.2.1 p.0.0.1 p.2.2) in (
-      (λ items e t d r. let g = c.loop-x.invariant.0 items e t d r in going-yes g _ refl _ _ _ _ _ (wanting _ g) _ c.answer_step-r.ensures.only_carried (came _ g) _ c.go_on-c.ensures _ c.in-Yes.is),
+    let start = c.requires.0.0.1 in
+    let g = (let p = c.requires in c.loop-x.invariant.0 p.0.0.0 p.2.0 p.2.1 p.0.0.1 p.2.2) in
+    let h = going-wants g start.form start.start.ready.short _ _ _ _ c.in-Want.is (c.pull-next.ensures.1 _ g.from g.stands) in
+    let w = step-came c.args.j.now g h c.pull-next.ensures.0 c.loop-x.invariant.4 (omega arith) _ _ _ c.answer_step-r.ensures.answers_step in (
+      (λ items e t d r. let g = c.loop-x.invariant.0 items e t d r in let h = going-wants g start.form start.start.ready.short _ _ _ _ c.in-Want.is (c.pull-next.ensures.1 _ g.from g.stands) in going-yes g _ refl _ _ _ _ _ h _ c.answer_step-r.ensures.only_carried (step-came c.args.j.now g h c.pull-next.ensures.0 c.loop-x.invariant.4 (omega arith) _ _ _ c.answer_step-r.ensures.answers_step) _ c.go_on-c.ensures _ c.in-Yes.is),
       omega (arith, w.few),
       yes-lines _ c.in-Want.x _ _ c.go_on-c.ensures h.shown.yes_few (omega (arith, w.began, c.loop-x.invariant.2)),
       c.answer_step-r.auto.w ∙ c.pull-next.auto.w ∙ c.loop-x.invariant.3,
@@ -101,29 +76,19 @@ loop-x-preserved-in-Yes c =
 
 pub loop-x-smaller : goal.loop-x-smaller
 loop-x-smaller c =
-    let d = c.requires.0.0.1 in
-    let wanting : (x : End × Tape) (g : Going c.args.script.now c.args.table.now (lent c.args.j.now) c.args.budget c.args.end c.loop-x.w c.loop-x.j c.loop-x.c c.loop-x.s c.loop-x.made x)
-    → Wanting c.args.script.now c.pull-next.new.w c.args.end (c.loop-x.c.lines + 1) c.in-Want.x g.from = λ x g. going-wants g d.form d.start.ready.short _ _ _ _ c.in-Want.is (c.pull-next.ensures.1 _ g.from g.stands) in
-    let came : (x : End × Tape) (g : Going c.args.script.now c.args.table.now (lent c.args.j.now) c.args.budget c.args.end c.loop-x.w c.loop-x.j c.loop-x.c c.loop-x.s c.loop-x.made x)
-    → let h = wanting x g in
-    Comes (lent c.args.j.now) (c.args.budget - c.loop-x.made) c.loop-x.made g.from (state g.then g.carries) g.rest c.args.script.now c.answer_step-r.new.w c.args.end c.args.table.now c.answer_step-r.new.j c.in-Want.x.place h.c₁ h.c₀ c.answer_step-r.result = λ x g.
-    let h = wanting x g in
-    rw (lent_same c.args.j.now c.loop-x.j c.loop-x.invariant.4) at (step-comes _ _ _ _ _ c.loop-x.made g.from h.op h.c₁ h.c₀ g.then g.carries g.rest _ _ _ _ _ _ (omega arith) h.wants (stands-pulled g _ c.pull-next.ensures.0) g.ready c.answer_step-r.ensures.answers_step) in
-    let w = came _ (let p = c.requires in c.loop-x.invariant.0 p.0.0.0 p.2.0 p.2.1 p.0.0.1 p.2.2) in omega (arith, w.began, w.few)
+    let start = c.requires.0.0.1 in
+    let g = (let p = c.requires in c.loop-x.invariant.0 p.0.0.0 p.2.0 p.2.1 p.0.0.1 p.2.2) in
+    let h = going-wants g start.form start.start.ready.short _ _ _ _ c.in-Want.is (c.pull-next.ensures.1 _ g.from g.stands) in
+    let w = step-came c.args.j.now g h c.pull-next.ensures.0 c.loop-x.invariant.4 (omega arith) _ _ _ c.answer_step-r.ensures.answers_step in
+    omega (arith, w.began, w.few)
 
 pub loop-x-preserved : goal.loop-x-preserved
 loop-x-preserved c =
-    let d = c.requires.0.0.1 in
-    let wanting : (x : End × Tape) (g : Going c.args.script.now c.args.table.now (lent c.args.j.now) c.args.budget c.args.end c.loop-x.w c.loop-x.j c.loop-x.c c.loop-x.s c.loop-x.made x)
-    → Wanting c.args.script.now c.pull-next.new.w c.args.end (c.loop-x.c.lines + 1) c.in-Want.x g.from = λ x g. going-wants g d.form d.start.ready.short _ _ _ _ c.in-Want.is (c.pull-next.ensures.1 _ g.from g.stands) in
-    let came : (x : End × Tape) (g : Going c.args.script.now c.args.table.now (lent c.args.j.now) c.args.budget c.args.end c.loop-x.w c.loop-x.j c.loop-x.c c.loop-x.s c.loop-x.made x)
-    → let h = wanting x g in
-    Comes (lent c.args.j.now) (c.args.budget - c.loop-x.made) c.loop-x.made g.from (state g.then g.carries) g.rest c.args.script.now c.answer_step-r.new.w c.args.end c.args.table.now c.answer_step-r.new.j c.in-Want.x.place h.c₁ h.c₀ c.answer_step-r.result = λ x g.
-    let h = wanting x g in
-    rw (lent_same c.args.j.now c.loop-x.j c.loop-x.invariant.4) at (step-comes _ _ _ _ _ c.loop-x.made g.from h.op h.c₁ h.c₀ g.then g.carries g.rest _ _ _ _ _ _ (omega arith) h.wants (stands-pulled g _ c.pull-next.ensures.0) g.ready c.answer_step-r.ensures.answers_step) in
-    let w = came _ (let p = c.requires in c.loop-x.invariant.0 p.0.0.0 p.2.0 p.2.1 p.0.0.1 p.2.2) in
-    let h = wanting _ (let p = c.requires in c.loop-x.invariant.0 p.0.0.0 p.2.0 p.2.1 p.0.0.1 p.2.2) in (
-      (λ items e t d r. let g = c.loop-x.invariant.0 items e t d r in going-no g _ refl _ _ _ _ _ (wanting _ g) _ c.answer_step-r.ensures.only_carried (came _ g) _ c.go_on-c-in-No.ensures _ c.in-No.is),
+    let start = c.requires.0.0.1 in
+    let g = (let p = c.requires in c.loop-x.invariant.0 p.0.0.0 p.2.0 p.2.1 p.0.0.1 p.2.2) in
+    let h = going-wants g start.form start.start.ready.short _ _ _ _ c.in-Want.is (c.pull-next.ensures.1 _ g.from g.stands) in
+    let w = step-came c.args.j.now g h c.pull-next.ensures.0 c.loop-x.invariant.4 (omega arith) _ _ _ c.answer_step-r.ensures.answers_step in (
+      (λ items e t d r. let g = c.loop-x.invariant.0 items e t d r in let h = going-wants g start.form start.start.ready.short _ _ _ _ c.in-Want.is (c.pull-next.ensures.1 _ g.from g.stands) in going-no g _ refl _ _ _ _ _ h _ c.answer_step-r.ensures.only_carried (step-came c.args.j.now g h c.pull-next.ensures.0 c.loop-x.invariant.4 (omega arith) _ _ _ c.answer_step-r.ensures.answers_step) _ c.go_on-c-in-No.ensures _ c.in-No.is),
       omega (arith, w.few),
       no_lines _ c.in-Want.x _ _ c.go_on-c-in-No.ensures h.shown.no_few (omega (arith, w.began, c.loop-x.invariant.2)),
       c.answer_step-r.auto.w ∙ c.pull-next.auto.w ∙ c.loop-x.invariant.3,
@@ -138,12 +103,5 @@ shape_of-j-in-Stop c = c.answer_step-r.auto.j ∙ c.loop-x.invariant.4
 
 pub returns-in-Stop : goal.returns-in-Stop
 returns-in-Stop c =
-    let d = c.requires.0.0.1 in
-    let wanting : (x : End × Tape) (g : Going c.args.script.now c.args.table.now (lent c.args.j.now) c.args.budget c.args.end c.loop-x.w c.loop-x.j c.loop-x.c c.loop-x.s c.loop-x.made x)
-    → Wanting c.args.script.now c.pull-next.new.w c.args.end (c.loop-x.c.lines + 1) c.in-Want.x g.from = λ x g. going-wants g d.form d.start.ready.short _ _ _ _ c.in-Want.is (c.pull-next.ensures.1 _ g.from g.stands) in
-    let came : (x : End × Tape) (g : Going c.args.script.now c.args.table.now (lent c.args.j.now) c.args.budget c.args.end c.loop-x.w c.loop-x.j c.loop-x.c c.loop-x.s c.loop-x.made x)
-    → let h = wanting x g in
-    Comes (lent c.args.j.now) (c.args.budget - c.loop-x.made) c.loop-x.made g.from (state g.then g.carries) g.rest c.args.script.now c.answer_step-r.new.w c.args.end c.args.table.now c.answer_step-r.new.j c.in-Want.x.place h.c₁ h.c₀ c.answer_step-r.result = λ x g.
-    let h = wanting x g in
-    rw (lent_same c.args.j.now c.loop-x.j c.loop-x.invariant.4) at (step-comes _ _ _ _ _ c.loop-x.made g.from h.op h.c₁ h.c₀ g.then g.carries g.rest _ _ _ _ _ _ (omega arith) h.wants (stands-pulled g _ c.pull-next.ensures.0) g.ready c.answer_step-r.ensures.answers_step) in
-    λ items e t d r. let g = c.loop-x.invariant.0 items e t d r in going-stops g _ refl _ _ _ _ _ (wanting _ g) _ c.answer_step-r.ensures.only_carried (came _ g) _ _ c.in-Stop.is _ c.stopped.ensures
+    let start = c.requires.0.0.1 in
+    λ items e t d r. let g = c.loop-x.invariant.0 items e t d r in let h = going-wants g start.form start.start.ready.short _ _ _ _ c.in-Want.is (c.pull-next.ensures.1 _ g.from g.stands) in going-stops g _ refl _ _ _ _ _ h _ c.answer_step-r.ensures.only_carried (step-came c.args.j.now g h c.pull-next.ensures.0 c.loop-x.invariant.4 (omega arith) _ _ _ c.answer_step-r.ensures.answers_step) _ _ c.in-Stop.is _ c.stopped.ensures
