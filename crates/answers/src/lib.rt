@@ -2,19 +2,92 @@
 #![tactic(auto)]
 
 ghost use Rattle.std.specs.Prelude.{◌≡◌};
-ghost use Rattle.answers.specs.Answers.{number_of, place_of};
+ghost use Rattle.answers.specs.Answers.{number_of};
 
-use matching::Quals;
+// What was read, and the place after it.
+#[derive(Clone, Copy, Debug, PartialEq, Eq)]
+pub struct Read<T> {
+    pub value: T,
+    pub next: usize,
+}
+
+// What is wrong with a script, in document 01's order of numbers.
+#[derive(Clone, Copy, Debug, PartialEq, Eq)]
+pub enum Fault {
+    // 2: an unknown command.
+    Unknown,
+    // 3: an argument, count or counted command that is missing, unreadable or out of range.
+    Argument,
+    // 4: a qualifier that cannot stand there.
+    Qualifier,
+    // 5: a bracket that is unmatched, too deep or never closed.
+    Bracket,
+    // 6: no line Z.
+    NoZ,
+    // 33: a string that names no bytes.
+    Names,
+    // 34: an ill-formed pattern.
+    Pattern,
+}
+
+impl Fault {
+    // The refusal of what stands at a place.
+    pub fn at(self, place: usize) -> Refusal
+        ensures { result ≡ record { fault = self; place = place } }
+    {
+        Refusal { fault: self, place }
+    }
+}
+
+// Document 01's number of a fault.
+impl From<Fault> for u32 {
+    ghost from_gives = { λ fault n. n ≡ number_of fault };
+
+    fn from(fault: Fault) -> u32 {
+        match fault {
+            Fault::Unknown => 2,
+            Fault::Argument => 3,
+            Fault::Qualifier => 4,
+            Fault::Bracket => 5,
+            Fault::NoZ => 6,
+            Fault::Names => 33,
+            Fault::Pattern => 34,
+        }
+    }
+}
+
+// A refusal, which is passed upward as it is.
+#[derive(Clone, Copy, Debug, PartialEq, Eq)]
+pub struct Refusal {
+    pub fault: Fault,
+    pub place: usize,
+}
+
+pub type Answer<T> = Result<Read<T>, Refusal>;
+
+// A part of the script.
+#[derive(Clone, Copy, Debug, PartialEq, Eq)]
+pub struct Part {
+    pub start: usize,
+    pub end: usize,
+}
 
 // What must follow a command: nothing more, or a command or group; true: if that is a group, ELSE may follow it.
-#[derive(Clone, Copy)]
+#[derive(Clone, Copy, Debug, PartialEq, Eq)]
 pub enum Follow {
     Nothing,
     Body(bool),
 }
 
+// A command that was read: what must follow it, and the next free word.
+#[derive(Clone, Copy, Debug, PartialEq, Eq)]
+pub struct Command {
+    pub follow: Follow,
+    pub free: usize,
+}
+
 // The reader's state between two rounds: what was read so far, the place aside. The open groups' words are the last of the work area.
-#[derive(Clone, Copy)]
+#[derive(Clone, Copy, Debug, PartialEq, Eq)]
 pub struct State {
     // The next free word.
     pub k: usize,
@@ -23,62 +96,4 @@ pub struct State {
     pub elses: bool,
     // Open groups.
     pub depth: usize,
-}
-
-// What was read, and the place after it; or a refusal, which is passed upward as it is.
-#[derive(Clone, Copy)]
-pub enum Answer {
-    // Only the place after it.
-    Past(usize),
-    // A number.
-    Number(usize, usize),
-    // Two numbers: the lines of D and R, or where a part of the script begins and ends.
-    Two(usize, usize, usize),
-    Qualifiers(Quals, usize),
-    // A qualified string: the script's bytes from `start` to `end`.
-    OneString {
-        quals: Quals,
-        start: usize,
-        end: usize,
-        next: usize,
-    },
-    // A qualified string and a second string, from `second` to `second_end`: they share the middle delimiter.
-    TwoStrings {
-        quals: Quals,
-        start: usize,
-        end: usize,
-        second: usize,
-        second_end: usize,
-        next: usize,
-    },
-    // A search expression, and the next free word.
-    Search(usize, usize),
-    // A command, and the next free word.
-    Command(Follow, usize, usize),
-    // A round, after which reading goes on in a state.
-    More(State, usize),
-    // The script is read: the end of the items' words.
-    Done(usize),
-    // A refusal: its number and its place.
-    Refused(u32, usize),
-}
-
-// The number of a refusal; 0, which no refusal has, where something was read.
-pub fn number(a: Answer) -> u32
-    ensures { result ≡ number_of a }
-{
-    match a {
-        Answer::Refused(n, _) => n,
-        _ => 0,
-    }
-}
-
-// The place of a refusal; 0 where something was read.
-pub fn place(a: Answer) -> usize
-    ensures { result ≡ place_of a }
-{
-    match a {
-        Answer::Refused(_, p) => p,
-        _ => 0,
-    }
 }

@@ -1,47 +1,15 @@
 -- Laws of hexadecimal digits, and of what is written over the start of a buffer. Assumes nothing.
 use mathlib.Core.Path.{◌≡◌, refl, sym, ap, ◌∙◌}
 use mathlib.Core.List.{List, [], ◌∷◌, ◌++◌}
-use Prim.Native.Nat.{ℕ, zero, suc, ◌+◌, ◌-◌, ◌*◌, ◌/◌, ◌%◌, ◌≤◌, ◌<◌, min}
+use Prim.Native.Nat.{ℕ, zero, suc, ◌+◌, ◌-◌, ◌*◌, ◌/◌, ◌%◌, ◌<◌, min}
 use native.Mathlib.Nat.{not-suc-le-zero, le_of_suc-le-suc}
 use native.Mathlib.Numerals.{add-one}
 use native.Mathlib.Omega.{arith}
 use lib.ListN.{length, take, drop, get_or, set, length-take}
 use lib.Seq.{take-nil}
-use borrow.Author.Tests.{lt-ltb, le-ltb, le-leb, lt-leb}
 use Rattle.text.specs.Buffer.{laid}
 use Rattle.text.proofs.Buffer.{laid_none, laid-zero}
 use Rattle.cases.specs.Hex.{digit_of, hex_digit, from_hex, to_hex, bytes_for, digits_for}
-
--- ---- one digit
-
-module _ (b : ℕ) where
-  pub digit_low : b < 48 → digit_of b ≡ 0
-  unfolding digit_of
-  digit_low h = rw (lt-leb 48 b h, lt-leb 97 b (omega arith))
-
-  pub digit-decimal : 48 ≤ b → b ≤ 57 → digit_of b ≡ b - 48
-  unfolding digit_of
-  digit-decimal h k = rw (le-leb 48 b h, le-leb b 57 k)
-
-  pub digit-between : 57 < b → b < 97 → digit_of b ≡ 0
-  unfolding digit_of
-  digit-between h k = rw (le-leb 48 b (omega arith), lt-leb b 57 h, lt-leb 97 b k)
-
-  pub digit-letter : 97 ≤ b → b ≤ 102 → digit_of b ≡ b - 87
-  unfolding digit_of
-  digit-letter h k = rw (le-leb 48 b (omega arith), lt-leb b 57 (omega arith), le-leb 97 b h, le-leb b 102 k)
-
-  pub digit-high : 102 < b → digit_of b ≡ 0
-  unfolding digit_of
-  digit-high h = rw (le-leb 48 b (omega arith), lt-leb b 57 (omega arith), le-leb 97 b (omega arith), lt-leb b 102 h)
-
-  pub hex-decimal : b < 10 → hex_digit b ≡ 48 + b
-  unfolding hex_digit
-  hex-decimal h = rw (lt-ltb b 10 h)
-
-  pub hex-letter : 10 ≤ b → hex_digit b ≡ 87 + b
-  unfolding hex_digit
-  hex-letter h = rw (le-ltb b 10 h)
 
 -- ---- the first n of `out` written over the start of a buffer
 

@@ -14,20 +14,11 @@ use Rattle.scans.specs.declared.Kind.TheVariants.{Not}
 use Rattle.scans.proofs.Runs.{reach}
 use Rattle.cases.specs.declared.fields.Part.{Part}
 use Rattle.cases.specs.Hex.{digit_of, bytes_for}
-use Rattle.cases.specs.Fields.{next_of, next_line, field_from, field_bytes, value_of, number_in, hex_in}
+use Rattle.cases.specs.Fields.{next_of, field_from, field_bytes, value_of, number_in, hex_in}
 
 pub next-is : (b : ℕ) (s : List ℕ) (at r : ℕ) → r ≡ reach (is_of (Not b)) s at (length s) → r ≡ next_of b s at
 unfolding next_of is_of
 next-is b s at r e = e
-
-module _ (s : List ℕ) (at e : ℕ) (is : e ≡ next_of 10 s at) where
-  pub line_after : e < length s → e + 1 ≡ next_line s at
-  unfolding next_line
-  line_after h = rw (← is) (omega arith)
-
-  pub line-last : length s ≤ e → e ≤ length s → e ≡ next_line s at
-  unfolding next_line
-  line-last h k = rw (← is) (omega arith)
 
 -- ---- fields
 

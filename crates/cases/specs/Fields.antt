@@ -9,10 +9,6 @@ use Rattle.cases.specs.Hex.{digit_of, bytes_for}
 unfoldable pub next_of : ℕ → List ℕ → ℕ → ℕ
 next_of b s at = at + leading (λ x. not (eqb x b)) (length s - at) (drop at s)
 
--- the place after the next line end
-unfoldable pub next_line : List ℕ → ℕ → ℕ
-next_line s at = min (next_of 10 s at + 1) (length s)
-
 -- the field after k spaces from `at` on; what follows the last space where there are fewer
 unfoldable pub field_from : ℕ → List ℕ → ℕ → Part
 field_from zero s at = record { start = at; end = next_of 32 s at }

@@ -2,22 +2,16 @@
 ghost use Rattle.std.specs.Prelude.{◌≡◌, length, replicate};
 ghost use Rattle.cases.specs.Buffers.{all_are};
 
-use scans::{Kind, past};
-
 // Sets each byte to 7.
 pub fn fill(s: &mut [u8])
     ensures { s.new ≡ replicate (length s.old) 7 }
 {
-    let mut i: usize = 0;
-    while i < s.len() {
-        s[i] = 7;
-        i += 1;
-    }
+    s.fill(7);
 }
 
 // Whether each byte is `b`.
 pub fn all_are(s: &[u8], b: u8) -> bool
     ensures { result ≡ all_are b s.now }
 {
-    past(s, 0, s.len(), Kind::Only(b)) == s.len()
+    s.iter().all(|x| *x == b)
 }

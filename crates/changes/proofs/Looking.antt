@@ -1,4 +1,6 @@
 -- A look at the current line: the byte at p, the match of a string. Assumes nothing.
+use Rattle.std.specs.Prelude as Prelude
+use Rattle.std.specs.Prelude.{Some, None}
 use mathlib.Core.Path.{◌≡◌, refl, sym, ap, ◌∙◌}
 use mathlib.Core.Bool.{Bool, true, false, true≢false}
 use mathlib.Core.Option.{Option, none, some}
@@ -21,15 +23,14 @@ use Rattle.definitions.specs.Edit.{stop_if, or_stop, line_in, line_or, match_or2
 use Rattle.theorems.proofs.Places.{match-inside}
 use Rattle.taking.specs.Ways.{found_of}
 use Rattle.taking.specs.declared.Found.{Found}
-use Rattle.taking.specs.declared.Found.TheVariants.{At, Nothing}
 use Rattle.editor.specs.Shows.{Shows, point_of, lent}
 use Rattle.editor.specs.Current.{current_line, PointIn, TableOf, Ready, IsReady}
 use Rattle.editor.specs.declared.State.{State}
 use Rattle.editor.proofs.Parts.{shown-record, shown-eof}
 use Rattle.editor.proofs.CurrentText.{line-window, shown-short}
-use Rattle.changes.specs.declared.look.Byte.TheVariants.{Here, Lacks}
-use Rattle.changes.specs.declared.look.Matched.TheVariants.{Nowhere}
-use Rattle.changes.specs.declared.look.Matched.TheVariants.{At as MatchedAt}
+use Rattle.std.specs.Prelude.{Ok}
+use Rattle.editor.specs.Stops.{stopping}
+use Rattle.editor.specs.declared.Stop.TheVariants.{AtEof, NoMatch, PointAtEnd}
 use Rattle.changes.specs.Current.{byte_at, match_at, ByteIs, MatchIs, Sights, Finds}
 
 -- ---- what a part of a step comes to
@@ -140,20 +141,20 @@ module _ {A : Type 0} (g : Given) (c : Carried) (k : Line × ℕ → Program A) 
 -- ---- what `byte_here` answers
 
 module _ (table j : List ℕ) (st : State) where
-  pub sights-eof : length j ≤ st.back → Sights table j st (Lacks 20)
+  pub sights-eof : length j ≤ st.back → Sights table j st (stopping AtEof st)
   unfolding ByteIs stop_number
-  sights-eof end (ed b [] p) c t w = (n20, refl, see-eof (lent j) c t b p)
+  sights-eof end (ed b [] p) c t w = (refl, (n20, refl, see-eof (lent j) c t b p))
   sights-eof end (ed b (r ∷ a) p) c t w = absurd (shown-eof b r a p t w.shows end)
 
   module _ (more : st.back < length j) (line : List ℕ) (is : (e : Ed) (t : Tape) → Shows j st e t → TableOf table e t → line ≡ current_line e) where
-    pub sights-end : length line ≤ st.p → Sights table j st (Lacks 27)
+    pub sights-end : length line ≤ st.p → Sights table j st (stopping PointAtEnd st)
     unfolding ByteIs stop_number
     sights-end end (ed b [] p) c t w = absurd (shown-record b p t w.shows more)
     sights-end end (ed b (r ∷ a) p) c t w =
         let long : length (current r) ≤ p = omega (arith, end, ap length (is (ed b (r ∷ a) p) t w.shows w.old), w.shows.p) in
-        (n27, refl, see-end (lent j) c t b r a p (le-leb (length (current r)) p long))
+        (refl, (n27, refl, see-end (lent j) c t b r a p (le-leb (length (current r)) p long)))
 
-    pub sights-on : st.p < length line → Sights table j st (Here (get_or line st.p 0))
+    pub sights-on : st.p < length line → Sights table j st (Ok (get_or line st.p 0))
     unfolding ByteIs
     sights-on inside (ed b [] p) c t w = absurd (shown-record b p t w.shows more)
     sights-on inside (ed b (r ∷ a) p) c t w =
@@ -224,13 +225,13 @@ line-fits more line is (e, t, w) =
     (line-window more e t w.shows w.point line l, omega (arith, ap length l, shown-short e t w.shows))
 
 module _ (isWord : ℕ → Bool) (table j : List ℕ) (st : State) (q : Qualified) where
-  pub finds-eof : length j ≤ st.back → Finds isWord table j st q (Nowhere 20)
+  pub finds-eof : length j ≤ st.back → Finds isWord table j st q (stopping AtEof st)
   unfolding MatchIs stop_number
-  finds-eof end (ed b [] p) c t w = (n20, refl, find-eof (lent j) c isWord q t b p)
+  finds-eof end (ed b [] p) c t w = (refl, (n20, refl, find-eof (lent j) c isWord q t b p))
   finds-eof end (ed b (r ∷ a) p) c t w = absurd (shown-eof b r a p t w.shows end)
 
   module _ (more : st.back < length j) (line : List ℕ) (is : (e : Ed) (t : Tape) → Shows j st e t → TableOf table e t → line ≡ current_line e)
-      (f : Found) (found : found_of f ≡ match_of isWord q st.p line) where
+      (f : Prelude.Option Found) (found : found_of f ≡ match_of isWord q st.p line) where
     match_is : (b : List Record) (r : Record) (a : List Record) (p : ℕ) (t : Tape) → Ready table j st (ed b (r ∷ a) p) t → (o : Option Match) → found_of f ≡ o → match_of isWord q p (current r) ≡ o
     match_is b r a p t w o s = rw (← is (ed b (r ∷ a) p) t w.shows w.old, ← w.shows.p) (sym found ∙ s)
 
@@ -239,12 +240,12 @@ module _ (isWord : ℕ → Bool) (table j : List ℕ) (st : State) (q : Qualifie
     match-runs c b r a p t w o s =
         find-line (lent j) c isWord q t b r a p ∙ ap (λ (y : Option Match). runs (lent j) c (or_stop n24 y) (ed b (r ∷ a) p) t) (match_is b r a p t w o s)
 
-    pub finds-none : f ≡ Nothing → Finds isWord table j st q (Nowhere 24)
+    pub finds-none : f ≡ None → Finds isWord table j st q (stopping NoMatch st)
     unfolding or_stop runs MatchIs stop_number found_of
     finds-none z (ed b [] p) c t w = absurd (shown-record b p t w.shows more)
-    finds-none z (ed b (r ∷ a) p) c t w = (n24, refl, match-runs c b r a p t w none (rw z))
+    finds-none z (ed b (r ∷ a) p) c t w = (refl, (n24, refl, match-runs c b r a p t w none (rw z)))
 
-    pub finds-on : (i n : ℕ) → f ≡ At i n → Finds isWord table j st q (MatchedAt i n)
+    pub finds-on : (m : Found) → f ≡ Some m → Finds isWord table j st q (Ok (m.at, m.width))
     unfolding or_stop runs MatchIs found_of
-    finds-on i n z (ed b [] p) c t w = absurd (shown-record b p t w.shows more)
-    finds-on i n z (ed b (r ∷ a) p) c t w = match-runs c b r a p t w (some (matched i n)) (rw z)
+    finds-on m z (ed b [] p) c t w = absurd (shown-record b p t w.shows more)
+    finds-on m z (ed b (r ∷ a) p) c t w = match-runs c b r a p t w (some (matched m.at m.width)) (rw z)

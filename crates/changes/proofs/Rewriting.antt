@@ -16,7 +16,9 @@ use Rattle.text.specs.Lines.{part}
 use Rattle.editor.specs.Records.{enc, mark, Good}
 use Rattle.editor.specs.Shows.{Holds, Shows, ShowsText, Completes}
 use Rattle.editor.specs.declared.State.{State}
-use Rattle.editor.specs.declared.Moved.TheVariants.{On, Stop}
+use Rattle.std.specs.Prelude.{Ok}
+use Rattle.editor.specs.Stops.{stopping}
+use Rattle.editor.specs.declared.Stop.TheVariants.{JournalFull}
 use Rattle.editor.proofs.Records.{line-short}
 use Rattle.editor.proofs.Held.{held-mark}
 use Rattle.editor.proofs.Reading.{journal-is}
@@ -184,7 +186,7 @@ module _ {j : List ℕ} {st : State} (l : Line) (fine : is_line l ≡ true) (d r
         (omega (arith, w.4.ends, w.4.holds.order), w.4.fits)
 
     -- what `rewrite_current` does: there is no room
-    pub rewrites-full : (q : ℕ) → c.end < st.front + c.n → (x : Carried) → Completes x j st (gives (changes (retext l q ∷ []))) j (Stop 26 st)
+    pub rewrites-full : (q : ℕ) → c.end < st.front + c.n → (x : Carried) → Completes x j st (gives (changes (retext l q ∷ []))) j (stopping JournalFull st)
     unfolding before_of after_of edits edit
     rewrites-full q few x (ed b [] p) t h = absurd (shown-record b p t h more)
     rewrites-full q few x (ed b (r ∷ a) p) t h =
@@ -202,6 +204,6 @@ module _ {j : List ℕ} {st : State} (l : Line) (fine : is_line l ≡ true) (d r
         let w : SetTo st c.end c.n k s b (rewrite r l ∷ A) q = puts b r A (rewrite r l) (replacing b r A h.holds h.grounded) in
         retext-shows l q b r a p t h w.holds w.furthest w.lines w.p
 
-    pub rewrites-on : (k : List ℕ) (q : ℕ) (s : State) → length k ≡ length j → Replaces j st c.end rec c.n q k s → (x : Carried) → Completes x j st (gives (changes (retext l q ∷ []))) k (On s)
+    pub rewrites-on : (k : List ℕ) (q : ℕ) (s : State) → length k ≡ length j → Replaces j st c.end rec c.n q k s → (x : Carried) → Completes x j st (gives (changes (retext l q ∷ []))) k (Ok s)
     unfolding edits
     rewrites-on k q s same puts x e t h = changes-on x (retext l q ∷ []) e t j k s same (rewritten-shows k q s puts e t h)

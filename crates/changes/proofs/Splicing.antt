@@ -20,8 +20,8 @@ use Rattle.theorems.specs.GoodLines.{splice-text, splice-length}
 use Rattle.editor.specs.Shows.{Shows, lent, Answered, Completes}
 use Rattle.editor.specs.Current.{current_line, TableOf}
 use Rattle.editor.specs.declared.State.{State}
-use Rattle.editor.specs.declared.Moved.{Moved}
-use Rattle.editor.specs.declared.Moved.TheVariants.{Stop}
+use Rattle.editor.specs.Stops.{Moved, stopping}
+use Rattle.editor.specs.declared.Stop.TheVariants.{LineLong}
 use Rattle.editor.proofs.Parts.{perform-as, perform-stop, came-stop}
 use Rattle.editor.proofs.CurrentText.{shown-good, shown-short}
 use Rattle.changes.specs.Current.{written, AtLine, HasLine, Splices, Writes}
@@ -31,10 +31,10 @@ use Rattle.changes.proofs.Written.{first-written}
 
 module _ (g : Given) (c : Carried) (l : Line) (q : ℕ) (e : Ed) (t : Tape) where
   -- 25
-  pub write-long : (j : List ℕ) (st : State) → 255 < length l → Shows j st e t → Answered j (Stop 25 st) (perform g (write l q) (state e c) t)
+  pub write-long : (j : List ℕ) (st : State) → 255 < length l → Shows j st e t → Answered j (stopping LineLong st) (perform g (write l q) (state e c) t)
   unfolding write stop_number
   write-long j st long h =
-      perform-stop g c (write l q) e t j 25 st (came-stop (runs-halt g c n25 (ltb 255 (length l)) (gives (changes (retext l q ∷ []))) e t (lt-ltb 255 (length l) long)) refl h)
+      perform-stop g c (write l q) e t j LineLong st (came-stop LineLong (runs-halt g c n25 (ltb 255 (length l)) (gives (changes (retext l q ∷ []))) e t (lt-ltb 255 (length l) long)) refl h)
 
   pub write-on : length l ≤ 255 → perform g (write l q) (state e c) t ≡ perform g (gives (changes (retext l q ∷ []))) (state e c) t
   unfolding write
@@ -74,7 +74,7 @@ module _ (table j : List ℕ) (st : State) (i n : ℕ) (new d : List ℕ) (text 
 -- ---- what `splice_current` does
 
 module _ (table j : List ℕ) (st : State) (i n : ℕ) (new d line : List ℕ) (len : ℕ) (did : Splices table j st i n new d line len) where
-  pub writes-none : (q : ℕ) → 255 < len → Writes table j st (i + n) (λ l. splice l i n new) q j (Stop 25 st)
+  pub writes-none : (q : ℕ) → 255 < len → Writes table j st (i + n) (λ l. splice l i n new) q j (stopping LineLong st)
   writes-none q long e c t w =
       write-long (lent j) c (splice (current_line e) i n new) q e t j st (omega (arith, (did e t w).0, long)) w.text.shows
 

@@ -1,5 +1,5 @@
 -- What the functions promise that look at the current line, write its record anew, and do the commands. Assumes nothing.
-use Rattle.std.specs.Prelude.{◌≡◌, Bool, true, cond, List, ◌∷◌, ◌++◌, ℕ, zero, suc, ◌+◌, ◌≤◌, ◌<◌, length, take, drop, get_or, leb}
+use Rattle.std.specs.Prelude.{◌≡◌, Bool, true, cond, List, ◌∷◌, ◌++◌, ℕ, ◌+◌, ◌≤◌, ◌<◌, length, take, drop, get_or, leb, Result, Ok, Err}
 use Rattle.definitions.specs.Bytes.{Line, all_text}
 use Rattle.definitions.specs.Journal.{Record, kept, changed, deleted, inserted, old_of, rewrite}
 use Rattle.definitions.specs.Tape.{Tape}
@@ -14,14 +14,13 @@ use Rattle.text.specs.Lines.{part}
 use Rattle.matching.specs.Quals.{qualifiers_of}
 use Rattle.matching.specs.declared.Quals.{Quals}
 use Rattle.editor.specs.declared.State.{State}
-use Rattle.editor.specs.declared.Moved.{Moved}
+use Rattle.editor.specs.declared.Stopped.{Stopped}
+use Rattle.editor.specs.Stops.{Moved, numbered}
 use Rattle.editor.specs.Records.{enc, Good}
 use Rattle.editor.specs.Shows.{Holds, lent, Answered}
 use Rattle.editor.specs.Current.{current_line, Ready, ShowsOf}
-use Rattle.changes.specs.declared.look.Byte.{Byte}
-use Rattle.changes.specs.declared.look.Byte.TheVariants.{Here, Lacks}
-use Rattle.changes.specs.declared.look.Matched.{Matched}
-use Rattle.changes.specs.declared.look.Matched.TheVariants.{At, Nowhere}
+use Rattle.changes.specs.declared.Change.{Change as ChangeHere}
+use Rattle.changes.specs.declared.Change.TheVariants.{After, Before, Exchange}
 use Rattle.changes.specs.declared.rewrite.Ends.{Ends}
 use Rattle.changes.specs.declared.rewrite.Anew.{Anew}
 
@@ -31,19 +30,19 @@ written d x = x ++ drop (length x) d
 
 -- ---- the commands' arguments
 
--- 0: A; 1: B; 2 and more: E
-unfoldable pub change_of : ℕ → Change
-change_of zero = after_it
-change_of (suc zero) = before_it
-change_of (suc (suc n)) = exchange
+-- A; B; E
+unfoldable pub change_of : ChangeHere → Change
+change_of After = after_it
+change_of Before = before_it
+change_of Exchange = exchange
 
 -- the qualified string that the script has from `from` to `to`
 abbrev pub sought : Quals → List ℕ → ℕ → ℕ → Qualified
 sought q script from to = qualified (qualifiers_of q) (part from to script)
 
 -- A, B or E of it, with the bytes that the script has from `start` to `end`
-abbrev pub alter_of : ℕ → Bool → Quals → List ℕ → ℕ → ℕ → ℕ → ℕ → Op
-alter_of kind pointing q script from to start end = Op.alter (change_of kind) pointing (sought q script from to) (part start end script)
+abbrev pub alter_of : ChangeHere → Bool → Quals → List ℕ → ℕ → ℕ → ℕ → ℕ → Op
+alter_of change pointing q script from to start end = Op.alter (change_of change) pointing (sought q script from to) (part start end script)
 
 -- the script has a string from `from` to `to`, and one of text from `start` to `end`
 pub record StringsIn (script : List ℕ) (from to start end : ℕ) : Type 0 where
@@ -73,22 +72,22 @@ abbrev pub Halts : {A : Type 0} → ℕ → Ed → Tape → Ran A × Tape → Ty
 Halts m e t x = (n : StopNumber) × (m ≡ stop_number n) × (x ≡ (stopped n e, t))
 
 -- what `byte_here` answers, and what the look comes to
-unfoldable pub ByteIs : Byte → Ed → Tape → Ran ℕ × Tape → Type 0
-ByteIs (Here b) e t x = x ≡ (gave b e, t)
-ByteIs (Lacks m) e t x = Halts m e t x
+unfoldable pub ByteIs : State → Result ℕ Stopped → Ed → Tape → Ran ℕ × Tape → Type 0
+ByteIs st (Ok b) e t x = x ≡ (gave b e, t)
+ByteIs st (Err s) e t x = (s.st ≡ st) × Halts (numbered s.stop) e t x
 
 -- what `match_here` answers, and what the look comes to
-unfoldable pub MatchIs : Matched → Ed → Tape → Ran Match × Tape → Type 0
-MatchIs (At i n) e t x = x ≡ (gave (matched i n) e, t)
-MatchIs (Nowhere m) e t x = Halts m e t x
+unfoldable pub MatchIs : State → Result (ℕ × ℕ) Stopped → Ed → Tape → Ran Match × Tape → Type 0
+MatchIs st (Ok m) e t x = x ≡ (gave (matched m.0 m.1) e, t)
+MatchIs st (Err s) e t x = (s.st ≡ st) × Halts (numbered s.stop) e t x
 
 -- the byte at p is r
-abbrev pub Sights : List ℕ → List ℕ → State → Byte → Type 0
-Sights table j st r = (e : Ed) (c : Carried) (t : Tape) → ShowsOf table j st e t → ByteIs r e t (runs (lent j) c byte_at e t)
+abbrev pub Sights : List ℕ → List ℕ → State → Result ℕ Stopped → Type 0
+Sights table j st r = (e : Ed) (c : Carried) (t : Tape) → ShowsOf table j st e t → ByteIs st r e t (runs (lent j) c byte_at e t)
 
 -- the match of the string q is r
-abbrev pub Finds : (ℕ → Bool) → List ℕ → List ℕ → State → Qualified → Matched → Type 0
-Finds isWord table j st q r = (e : Ed) (c : Carried) (t : Tape) → Ready table j st e t → MatchIs r e t (runs (lent j) c (match_at isWord q) e t)
+abbrev pub Finds : (ℕ → Bool) → List ℕ → List ℕ → State → Qualified → Result (ℕ × ℕ) Stopped → Type 0
+Finds isWord table j st q r = (e : Ed) (c : Carried) (t : Tape) → Ready table j st e t → MatchIs st r e t (runs (lent j) c (match_at isWord q) e t)
 
 -- with the buffer j and its numbers st before, and the buffer k after, the function that answered r did the command, which looks for a string: it is told
 -- which bytes count for W
@@ -124,9 +123,9 @@ abbrev pub Writes : List ℕ → List ℕ → State → ℕ → (Line → Line) 
 Writes table j st w f q k r = CompletesAt table j st w (λ l. write (f l) q) k r
 
 -- A, B, E, AP, BP, EP where the string of n bytes is found at place i
-abbrev pub Alters : List ℕ → List ℕ → State → ℕ → Bool → ℕ → ℕ → Line → List ℕ → Moved → Type 0
-Alters table j st kind pointing i n new k r =
-    Writes table j st (i + n) (λ l. altered (change_of kind) l i n new) (altered_point (change_of kind) pointing st.p i n (length new)) k r
+abbrev pub Alters : List ℕ → List ℕ → State → ChangeHere → Bool → ℕ → ℕ → Line → List ℕ → Moved → Type 0
+Alters table j st change pointing i n new k r =
+    Writes table j st (i + n) (λ l. altered (change_of change) l i n new) (altered_point (change_of change) pointing st.p i n (length new)) k r
 
 -- ---- the record that is written anew
 

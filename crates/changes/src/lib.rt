@@ -15,56 +15,70 @@ ghost use Rattle.editor.specs.Shows.{ShowsText, Performs, at_point};
 ghost use Rattle.editor.specs.Current.{ShownOf, PerformsOf, IsReady};
 ghost use Rattle.changes.specs.Current.{change_of, sought, alter_of, StringsIn, PerformsTold, HasLine, Alters};
 
-use editor::{Moved, State};
-use look::{Byte, Matched};
+use editor::{State, Stop, Stopped};
 use matching::Quals;
+use wordset::WordSet;
+
+// What comes in goes after the string (A), before it (B), or takes its place (E).
+#[derive(Clone, Copy, Debug, PartialEq, Eq)]
+pub enum Change {
+    After,
+    Before,
+    Exchange,
+}
 
 // p becomes q.
-fn point_to(st: State, q: usize) -> Moved
-    ensures { result ≡ Moved.On (at_point st q) }
+fn point_to(st: State, q: usize) -> State
+    ensures { result ≡ at_point st q }
 {
     let mut s = st;
     s.p = q;
-    Moved::On(s)
+    s
 }
 
 // PR: p = 0.
-pub fn point_start(j: &[u8], st: State) -> Moved
+pub fn point_start(j: &[u8], st: State) -> Result<State, Stopped>
     requires { ShowsText j.now st }
     ensures { (c : Carried) → Performs c j.now st Op.point_start j.now result }
 {
     let at = st.back;
     if at >= j.len() {
-        return Moved::Stop(20, st);
+        return Err(Stopped {
+            stop: Stop::AtEof,
+            st,
+        });
     }
-    point_to(st, 0)
+    Ok(point_to(st, 0))
 }
 
 // <: p one to the left.
-pub fn left(j: &[u8], st: State) -> Moved
+pub fn left(j: &[u8], st: State) -> Result<State, Stopped>
     requires { ShowsText j.now st }
     ensures { (c : Carried) → Performs c j.now st Op.left j.now result }
 {
     let at = st.back;
     if at >= j.len() {
-        return Moved::Stop(20, st);
+        return Err(Stopped {
+            stop: Stop::AtEof,
+            st,
+        });
     }
     if st.p == 0 {
-        return Moved::Stop(27, st);
+        return Err(Stopped {
+            stop: Stop::PointAtEnd,
+            st,
+        });
     }
-    point_to(st, st.p - 1)
+    Ok(point_to(st, st.p - 1))
 }
 
 // >: p one to the right.
-pub fn right<'a>(table: &'a [u8], j: &'a [u8], st: State) -> Moved
+pub fn right<'a>(table: &'a [u8], j: &'a [u8], st: State) -> Result<State, Stopped>
     requires { ShownOf table.now j.now st }
     ensures { PerformsOf table.now j.now st Op.right j.now result }
 {
-    let b = look::byte_here(table, j, st);
-    match b {
-        Byte::Lacks(n) => Moved::Stop(n, st),
-        Byte::Here(_) => point_to(st, st.p + 1),
-    }
+    look::byte_here(table, j, st)?;
+    Ok(point_to(st, st.p + 1))
 }
 
 // Where p stands after a string of n bytes at place i, or before it.
@@ -80,7 +94,7 @@ pub fn point_by(after: bool, i: usize, n: usize) -> usize
 
 // PA (after), PB: p after or before the string. The bytes of the set count for W.
 pub fn point<'a>(
-    set: &[u32],
+    set: &WordSet,
     table: &'a [u8],
     j: &'a [u8],
     st: State,
@@ -89,27 +103,21 @@ pub fn point<'a>(
     script: &[u8],
     from: usize,
     to: usize,
-) -> Moved
-    requires { (3 ≤ length set.now) × IsReady table.now j.now st × (from ≤ to) × (to ≤ length script.now) × (to ≤ from + 255) × Formed q (part from to script.now) }
+) -> Result<State, Stopped>
+    requires { IsReady table.now j.now st × (from ≤ to) × (to ≤ length script.now) × (to ≤ from + 255) × Formed q (part from to script.now) }
     ensures { PerformsTold (in_set set.now 0) table.now j.now st (Op.point after (sought q script.now from to)) j.now result }
 {
-    let found = look::match_here(set, table, j, st, q, script, from, to);
-    match found {
-        Matched::Nowhere(n) => Moved::Stop(n, st),
-        Matched::At(i, n) => point_to(st, point_by(after, i, n)),
-    }
+    let (i, n) = look::match_here(set, table, j, st, q, script, from, to)?;
+    Ok(point_to(st, point_by(after, i, n)))
 }
 
 // #: the byte at p is deleted.
-pub fn cut_byte(table: &[u8], j: &mut [u8], st: State) -> Moved
+pub fn cut_byte(table: &[u8], j: &mut [u8], st: State) -> Result<State, Stopped>
     requires { ShownOf table.now j.old st }
     ensures { PerformsOf table.now j.old st Op.cut_byte j.new result }
 {
-    let b = look::byte_here(table, j, st);
-    match b {
-        Byte::Lacks(n) => Moved::Stop(n, st),
-        Byte::Here(x) => rewrite::splice_current(table, j, st, st.p, 1, &[x], 0, st.p),
-    }
+    let x = look::byte_here(table, j, st)?;
+    rewrite::splice_current(table, j, st, st.p, 1, &[x], 0, st.p)
 }
 
 // A to Z become a to z.
@@ -136,31 +144,27 @@ fn cased(up: bool, b: u8) -> u8
 }
 
 // % (up), $: the byte at p in upper or lower case, and p one to the right.
-pub fn recase(table: &[u8], j: &mut [u8], st: State, up: bool) -> Moved
+pub fn recase(table: &[u8], j: &mut [u8], st: State, up: bool) -> Result<State, Stopped>
     requires { ShownOf table.now j.old st }
     ensures { PerformsOf table.now j.old st (Op.recase up) j.new result }
 {
-    let b = look::byte_here(table, j, st);
-    match b {
-        Byte::Lacks(n) => Moved::Stop(n, st),
-        Byte::Here(x) => {
-            rewrite::splice_current(table, j, st, st.p, 1, &[cased(up, x)], 1, st.p + 1)
-        }
-    }
+    let x = look::byte_here(table, j, st)?;
+    rewrite::splice_current(table, j, st, st.p, 1, &[cased(up, x)], 1, st.p + 1)
 }
 
 // Where p stands after a change: at a place i a string of n bytes was found, and m bytes come in.
-fn point_after(kind: u8, pointing: bool, p: usize, i: usize, n: usize, m: usize) -> usize
+fn point_after(change: Change, pointing: bool, p: usize, i: usize, n: usize, m: usize) -> usize
     requires { (i + n ≤ 255) × (m ≤ 16384) }
-    ensures { result ≡ altered_point (change_of kind) pointing p i n m }
+    ensures { result ≡ altered_point (change_of change) pointing p i n m }
 {
     if !pointing {
         return p;
     }
-    if kind < 2 {
-        return i + n + m;
+    match change {
+        Change::After => i + n + m,
+        Change::Before => i + n + m,
+        Change::Exchange => i + m,
     }
-    i + m
 }
 
 // A, B or E where the string of n bytes is found at place i of the current line.
@@ -168,33 +172,31 @@ fn alter_at(
     table: &[u8],
     j: &mut [u8],
     st: State,
-    kind: u8,
+    change: Change,
     pointing: bool,
     i: usize,
     n: usize,
     new: &[u8],
-) -> Moved
+) -> Result<State, Stopped>
     requires { HasLine table.now j.old st (i + n) × (length new.now ≤ 16384) × (all_text new.now ≡ true) }
-    ensures { Alters table.now j.old st kind pointing i n new.now j.new result }
+    ensures { Alters table.now j.old st change pointing i n new.now j.new result }
 {
     let m = new.len();
-    let q = point_after(kind, pointing, st.p, i, n, m);
-    if kind == 0 {
-        return rewrite::splice_current(table, j, st, i + n, 0, new, m, q);
+    let q = point_after(change, pointing, st.p, i, n, m);
+    match change {
+        Change::After => rewrite::splice_current(table, j, st, i + n, 0, new, m, q),
+        Change::Before => rewrite::splice_current(table, j, st, i, 0, new, m, q),
+        Change::Exchange => rewrite::splice_current(table, j, st, i, n, new, m, q),
     }
-    if kind == 1 {
-        return rewrite::splice_current(table, j, st, i, 0, new, m, q);
-    }
-    rewrite::splice_current(table, j, st, i, n, new, m, q)
 }
 
-// A, B, E; with pointing AP, BP, EP. kind: 0 for A, 1 for B, 2 for E. The bytes of the set count for W.
+// A, B, E; with pointing AP, BP, EP. The bytes of the set count for W.
 pub fn alter(
-    set: &[u32],
+    set: &WordSet,
     table: &[u8],
     j: &mut [u8],
     st: State,
-    kind: u8,
+    change: Change,
     pointing: bool,
     q: Quals,
     script: &[u8],
@@ -202,13 +204,10 @@ pub fn alter(
     to: usize,
     start: usize,
     end: usize,
-) -> Moved
-    requires { (3 ≤ length set.now) × IsReady table.now j.old st × StringsIn script.now from to start end × (to ≤ from + 255) × Formed q (part from to script.now) }
-    ensures { PerformsTold (in_set set.now 0) table.now j.old st (alter_of kind pointing q script.now from to start end) j.new result }
+) -> Result<State, Stopped>
+    requires { IsReady table.now j.old st × StringsIn script.now from to start end × (to ≤ from + 255) × Formed q (part from to script.now) }
+    ensures { PerformsTold (in_set set.now 0) table.now j.old st (alter_of change pointing q script.now from to start end) j.new result }
 {
-    let found = look::match_here(set, table, j, st, q, script, from, to);
-    match found {
-        Matched::Nowhere(n) => Moved::Stop(n, st),
-        Matched::At(i, n) => { alter_at(table, j, st, kind, pointing, i, n, &script[start..end]) }
-    }
+    let (i, n) = look::match_here(set, table, j, st, q, script, from, to)?;
+    alter_at(table, j, st, change, pointing, i, n, &script[start..end])
 }

@@ -7,44 +7,37 @@ ghost use Rattle.matching.specs.Quals.{Formed};
 ghost use Rattle.editor.specs.Current.{ShownOf, IsReady};
 ghost use Rattle.changes.specs.Current.{written, sought, HasLine, Sights, Finds, Splices};
 
-use editor::State;
-use matching::{Found, Quals};
+use editor::{State, Stop, Stopped};
+use matching::Quals;
+use wordset::WordSet;
 
-// The byte at p, or the number to stop with.
-#[derive(Clone, Copy)]
-pub enum Byte {
-    Here(u8),
-    Lacks(usize),
-}
-
-// The match of a string, its place and its width, or the number to stop with.
-#[derive(Clone, Copy)]
-pub enum Matched {
-    At(usize, usize),
-    Nowhere(usize),
-}
-
-// The byte at p of the current line. 20: EOF is current. 27: p is at the line's end.
-pub fn byte_here<'a>(table: &'a [u8], j: &'a [u8], st: State) -> Byte
+// The byte at p of the current line. A stop comes with the numbers as they were: put together by the callers, they cost each step more.
+pub fn byte_here<'a>(table: &'a [u8], j: &'a [u8], st: State) -> Result<u8, Stopped>
     requires { ShownOf table.now j.now st }
     ensures { Sights table.now j.now st result }
 {
     let at = st.back;
     if at >= j.len() {
-        return Byte::Lacks(20);
+        return Err(Stopped {
+            stop: Stop::AtEof,
+            st,
+        });
     }
     let line = editor::current::current_line(table, j, st);
     let p = st.p;
     if p >= line.len() {
-        return Byte::Lacks(27);
+        return Err(Stopped {
+            stop: Stop::PointAtEnd,
+            st,
+        });
     }
-    Byte::Here(line[p])
+    Ok(line[p])
 }
 
-// The match in the current line's window of the string that the script has from `from` to `to`, where the bytes of the set count for W. 20: EOF is
-// current. 24: no match.
+// The place and the width of the match in the current line's window of the string that the script has from `from` to `to`, where the bytes of the set
+// count for W. Nothing moves.
 pub fn match_here<'a>(
-    set: &[u32],
+    set: &WordSet,
     table: &'a [u8],
     j: &'a [u8],
     st: State,
@@ -52,19 +45,25 @@ pub fn match_here<'a>(
     script: &[u8],
     from: usize,
     to: usize,
-) -> Matched
-    requires { (3 ≤ length set.now) × IsReady table.now j.now st × (from ≤ to) × (to ≤ length script.now) × (to ≤ from + 255) × Formed q (part from to script.now) }
+) -> Result<(usize, usize), Stopped>
+    requires { IsReady table.now j.now st × (from ≤ to) × (to ≤ length script.now) × (to ≤ from + 255) × Formed q (part from to script.now) }
     ensures { Finds (in_set set.now 0) table.now j.now st (sought q script.now from to) result }
 {
     let at = st.back;
     if at >= j.len() {
-        return Matched::Nowhere(20);
+        return Err(Stopped {
+            stop: Stop::AtEof,
+            st,
+        });
     }
     let line = editor::current::current_line(table, j, st);
     let found = matching::find(set, line, st.p, q, &script[from..to]);
     match found {
-        Found::At(i, n) => Matched::At(i, n),
-        Found::Nothing => Matched::Nowhere(24),
+        Some(found) => Ok((found.at, found.width)),
+        None => Err(Stopped {
+            stop: Stop::NoMatch,
+            st,
+        }),
     }
 }
 

@@ -9,7 +9,7 @@ ghost use Rattle.definitions.specs.StepProgram.{gives, changes};
 ghost use Rattle.editor.specs.Shows.{Holds, ShowsText, Completes};
 ghost use Rattle.changes.specs.Current.{written, EndsAt, HasEnds, Builds, MakesAnew, Replaces, Replacing, HasLine, Writes};
 
-use editor::{Moved, State};
+use editor::{State, Stop, Stopped};
 
 // Where the first line of the current record ends, the old one where it is changed; and where the record does.
 #[derive(Clone, Copy)]
@@ -127,7 +127,13 @@ pub fn put_record(j: &mut [u8], st: State, end: usize, rec: &[u8], n: usize, q: 
 }
 
 // The current line's text becomes the first len bytes of line, and p becomes q. 26: the journal would exceed its buffer.
-fn rewrite_current(j: &mut [u8], st: State, line: &[u8], len: usize, q: usize) -> Moved
+fn rewrite_current(
+    j: &mut [u8],
+    st: State,
+    line: &[u8],
+    len: usize,
+    q: usize,
+) -> Result<State, Stopped>
     requires { ShowsText j.old st × (st.back < length j.old) × (len ≤ length line.now) × (is_line (take len line.now) ≡ true) }
     ensures { (c : Carried) → Completes c j.old st (gives (changes (retext (take len line.now) q ∷ []))) j.new result }
 {
@@ -137,9 +143,12 @@ fn rewrite_current(j: &mut [u8], st: State, line: &[u8], len: usize, q: usize) -
     let n = c.n;
     let front = st.front;
     if end - front < n {
-        return Moved::Stop(26, st);
+        return Err(Stopped {
+            stop: Stop::JournalFull,
+            st,
+        });
     }
-    Moved::On(put_record(j, st, end, &rec, n, q))
+    Ok(put_record(j, st, end, &rec, n, q))
 }
 
 // The first m bytes of `new` come for the n bytes of the current line from place i on, and p becomes q. 25: the line is over 255.
@@ -152,14 +161,17 @@ pub fn splice_current(
     new: &[u8],
     m: usize,
     q: usize,
-) -> Moved
+) -> Result<State, Stopped>
     requires { HasLine table.now j.old st (i + n) × (m ≤ length new.now) × (m ≤ 16384) × (all_text (take m new.now) ≡ true) }
     ensures { Writes table.now j.old st (i + n) (λ l. splice l i n (take m new.now)) q j.new result }
 {
     let mut line = [0u8; 255];
     let len = crate::look::splice_text(&mut line, table, j, st, i, n, new, m);
     if 255 < len {
-        return Moved::Stop(25, st);
+        return Err(Stopped {
+            stop: Stop::LineLong,
+            st,
+        });
     }
     rewrite_current(j, st, &line, len, q)
 }

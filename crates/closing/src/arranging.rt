@@ -9,16 +9,16 @@ fn arrange_row(s: &mut [u8], at: usize) -> usize
     requires { at ≤ length s.old }
     ensures { ArrangesRow s.old at s.new result × (at ≤ result) × (result ≤ length s.old) }
 {
-    let came = rows::line_with(s, at, 43);
+    let came = rows::line_with(s, at, b'+');
     let left = rows::lines_below(s, came, 44);
-    let end = rows::lines_below(s, left, 60);
+    let end = rows::lines_below(s, left, b'<');
     if left < end {
         gathering::gather(&mut s[came..end]);
     }
     end
 }
 
-// All records.
+// All records. The slice is written while its rows are passed, so that no iterator can borrow it.
 pub fn arrange(s: &mut [u8])
     requires { HasRecords s.old }
     ensures { Arranges s.old s.new }

@@ -6,10 +6,7 @@ ghost use Rattle.closing.specs.Closing.{line_end};
 fn ended(x: u8) -> u8
     ensures { result ≡ line_end x }
 {
-    if x == 0 {
-        return 10;
-    }
-    x
+    if x == 0 { b'\n' } else { x }
 }
 
 // Each 0 of the first n bytes becomes a line feed.
@@ -17,10 +14,8 @@ pub fn end_lines(j: &mut [u8], n: usize)
     requires { n ≤ length j.old }
     ensures { j.new ≡ map line_end (take n j.old) ++ drop n j.old }
 {
-    let mut i: usize = 0;
-    while i < n {
+    for b in j[..n].iter_mut() {
         // Every byte is stored: without a branch many bytes are done at a time.
-        j[i] = ended(j[i]);
-        i += 1;
+        *b = ended(*b);
     }
 }

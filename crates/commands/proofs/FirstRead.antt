@@ -21,8 +21,10 @@ use Rattle.theorems.specs.Programs.{runs-assoc}
 use Rattle.editor.specs.Shows.{lent, Came, Answered, Completes, point_of}
 use Rattle.editor.specs.Current.{current_line, TableOf, ShowsOf, ShownOf}
 use Rattle.editor.specs.declared.State.{State}
-use Rattle.editor.specs.declared.Moved.{Moved}
-use Rattle.editor.specs.declared.Moved.TheVariants.{On, Stop}
+use Rattle.std.specs.Prelude.{Ok}
+use Rattle.editor.specs.Stops.{Moved, stopping}
+use Rattle.editor.specs.declared.Stop.TheVariants.{AtEof}
+use Rattle.editor.specs.declared.Stop.{Stop}
 use Rattle.editor.proofs.Parts.{lent_same, Went, went, perform-stop, perform-halt, perform-no-line, then-stop}
 use Rattle.spans.specs.Spans.{span_here, change_here}
 use Rattle.spans.proofs.ReadFirst.{Added, Still, still-then, part-first, past-added, HasLine, line-runs, line_stays, line_same, ahead-first}
@@ -36,7 +38,7 @@ use Rattle.joins.specs.Joining.{Joins}
 
 module _ (c : Carried) (f : ℕ → List Editing) (b : Through) (e : Ed) (t : Tape) (j : List ℕ) where
   -- their lines cannot be read
-  pub here-unread : (i : List ℕ) {m : Moved} {n : ℕ} {s : State} → m ≡ Stop n s → Came i m (runs (lent j) c (span_here b) e t) → Answered i m (perform (lent j) (change_here f b) (state e c) t)
+  pub here-unread : (i : List ℕ) {m : Moved} {n : Stop} {s : State} → m ≡ stopping n s → Came i m (runs (lent j) c (span_here b) e t) → Answered i m (perform (lent j) (change_here f b) (state e c) t)
   unfolding change_here
   here-unread i {m} {n} {s} q h = rw q (perform-halt (lent j) c (span_here b) (λ n. gives (changes (f n))) e t i n s (rw q at h))
 
@@ -50,7 +52,7 @@ module _ (c : Carried) (f : ℕ → List Editing) (b : Through) (e : Ed) (t : Ta
   calm = calm-then (span_here b) (λ n. gives (changes (f n))) (λ n. tt)
 
   -- they are read: the rest is as where no global stands
-  pub here-read : {i : List ℕ} {m : Moved} {s : State} (k : List ℕ) (r : Moved) → m ≡ On s → Came i m (runs (lent j) c (span_here b) e t) → length i ≡ length j
+  pub here-read : {i : List ℕ} {m : Moved} {s : State} (k : List ℕ) (r : Moved) → m ≡ Ok s → Came i m (runs (lent j) c (span_here b) e t) → length i ≡ length j
       → Completes no_globals i s (change_here f b) k r → Answered k r (perform (lent j) (change_here f b) (state e c) t)
   here-read {i} {m} {s} k r q h long plain = by (went (runs (lent j) c (span_here b) e t) (rw q at h))
     where
@@ -60,7 +62,7 @@ module _ (c : Carried) (f : ℕ → List Editing) (b : Through) (e : Ed) (t : Ta
           (rw (lent_same j i long) at (plain w.text w.tape w.shows))
 
 -- what M names cannot be read or moved to
-pub from-unmoved : (c : Carried) (f : ℕ → List Editing) (a : Target) (b : Through) (e : Ed) (t : Tape) (j i : List ℕ) {m : Moved} {n : ℕ} {s : State} → m ≡ Stop n s
+pub from-unmoved : (c : Carried) (f : ℕ → List Editing) (a : Target) (b : Through) (e : Ed) (t : Tape) (j i : List ℕ) {m : Moved} {n : Stop} {s : State} → m ≡ stopping n s
     → Came i m (runs (lent j) c (go_to a) e t) → Answered i m (perform (lent j) (◌>>=◌ (span a b) (λ n. gives (changes (f n)))) (state e c) t)
 from-unmoved c f a b e t j i q h = rw q (from-stop c f a b e t j i refl (rw q at h))
 
@@ -118,28 +120,28 @@ module _ (s : Line) where
 
   module _ {table j : List ℕ} {st : State} (c : Carried) (e : Ed) (t : Tape) (h : ShowsOf table j st e t) where
     -- EOF is current
-    pub join-eof : length j ≤ st.back → Answered j (Stop 20 st) (step (lent j) (Op.join s) (state e c) t)
+    pub join-eof : length j ≤ st.back → Answered j (stopping AtEof st) (step (lent j) (Op.join s) (state e c) t)
     unfolding step words_in program stop_number
-    join-eof end = perform-no-line (lent j) c n20 (λ y. ◌>>=◌ next_or30 (λ m. write_joined (y.0 ++ (s ++ m)) y.1)) e t h.shows 20 refl end
+    join-eof end = perform-no-line (lent j) c n20 (λ y. ◌>>=◌ next_or30 (λ m. write_joined (y.0 ++ (s ++ m)) y.1)) e t h.shows AtEof refl end
 
     module _ (more : st.back < length j) (i : List ℕ) {m : Moved} {s' : State} (w : Came i m (runs (lent j) c (read_past 1) e t)) where
       -- the next live line cannot be read
-      pub join-unread : {n : ℕ} → m ≡ Stop n s' → Answered i m (step (lent j) (Op.join s) (state e c) t)
+      pub join-unread : {n : Stop} → m ≡ stopping n s' → Answered i m (step (lent j) (Op.join s) (state e c) t)
       unfolding step words_in
       join-unread {n} q = rw q (perform-stop (lent j) c (program (words_of c) (Op.join s)) e t i n s' (halts (rw q at w)))
         where
-          halts : Came i (Stop n s') (runs (lent j) c (read_past 1) e t) → Came i (Stop n s') (runs (lent j) c (program (words_of c) (Op.join s)) e t)
+          halts : Came i (stopping n s') (runs (lent j) c (read_past 1) e t) → Came i (stopping n s') (runs (lent j) c (program (words_of c) (Op.join s)) e t)
           halts v = rw (join_runs (words_of c) (lent j) c e t (line-here e t h.shows more)) (then-stop (lent j) c (read_past 1) (join_rest (current_line e, point_of e)) e t i n s' v)
 
       -- the text is shown that it came to, of the same table
-      pub join-shown : m ≡ On s' → ShownOf table i s'
+      pub join-shown : m ≡ Ok s' → ShownOf table i s'
       join-shown q = by (went (runs (lent j) c (read_past 1) e t) (rw q at w))
         where
           by : Went i s' (runs (lent j) c (read_past 1) e t) → ShownOf table i s'
           by v = (v.text, v.tape, record { shows = v.shows; old = part-table j c (read_past 1) e t v.text v.tape h.old v.is })
 
       -- it is read: the rest is as where no global stands
-      pub join-read : (k : List ℕ) (r : Moved) → m ≡ On s' → length i ≡ length j → Joins table i s' s k r → Answered k r (step (lent j) (Op.join s) (state e c) t)
+      pub join-read : (k : List ℕ) (r : Moved) → m ≡ Ok s' → length i ≡ length j → Joins table i s' s k r → Answered k r (step (lent j) (Op.join s) (state e c) t)
       unfolding step words_in
       join-read k r q long plain = by (went (runs (lent j) c (read_past 1) e t) (rw q at w))
         where

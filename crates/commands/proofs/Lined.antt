@@ -21,7 +21,7 @@ use Rattle.items.specs.Simple.{CommandAt}
 use Rattle.items.proofs.Meaning.{SpanRead, through_code, moving, deleting, stringing, replacing, lining, form_of, Means, pair_left, four-left, is-insert, is_join, meant, meant-as}
 use Rattle.items.proofs.Strings.{string-inside, string-is}
 use Rattle.editor.specs.declared.State.{State}
-use Rattle.editor.specs.declared.Moved.{Moved}
+use Rattle.editor.specs.Stops.{Moved}
 use Rattle.editor.specs.Records.{LineIn}
 use Rattle.editor.specs.Shows.{lent, Answered, target_numbered}
 use Rattle.reading.specs.Carrying.{PerformsBy}

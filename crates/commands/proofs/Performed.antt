@@ -19,8 +19,8 @@ use Rattle.items.specs.Words.{kind_at}
 use Rattle.items.specs.Simple.{line_op, word_op}
 use Rattle.items.proofs.Meaning.{words, form_of, Means, shape-left, meant, meant-as}
 use Rattle.editor.specs.declared.State.{State}
-use Rattle.editor.specs.declared.Moved.{Moved}
-use Rattle.editor.specs.declared.Moved.TheVariants.{Stop}
+use Rattle.editor.specs.Stops.{Moved, stopping}
+use Rattle.editor.specs.declared.Stop.TheVariants.{Quit}
 use Rattle.editor.specs.Shows.{lent, ShowsText, Answers, Answered, Performs}
 use Rattle.items.specs.Reserve.{reserve}
 use Rattle.globals.specs.Standing.{standing}
@@ -33,7 +33,7 @@ use Rattle.editor.specs.Current.{ShownOf, PerformsOf, IsReady}
 use Rattle.commands.specs.Performing.{SomeCommand, PerformsAt, PerformsLines, PerformsWith}
 
 -- W
-pub quits : (table j : List ℕ) (st : State) → PerformsOf table j st quit j (Stop 0 st)
+pub quits : (table j : List ℕ) (st : State) → PerformsOf table j st quit j (stopping Quit st)
 unfolding Answers step words_in perform bind runs finish program
 quits table j st e c t h = (refl, h.shows)
 

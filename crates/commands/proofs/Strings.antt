@@ -30,8 +30,9 @@ use Rattle.items.proofs.Strings.{string-inside, string-is}
 use Rattle.globals.specs.Standing.{set_in, Standing}
 use Rattle.globals.proofs.Standing.{set-counts}
 use Rattle.editor.specs.declared.State.{State}
-use Rattle.editor.specs.declared.Moved.{Moved}
+use Rattle.editor.specs.Stops.{Moved}
 use Rattle.editor.specs.Shows.{lent, Answered}
+use Rattle.changes.specs.declared.Change.{Change as ChangeHere}
 use Rattle.changes.specs.Current.{change_of, sought, StringsIn, PerformsTold}
 use Rattle.commands.specs.Performing.{split_by, change_by, pointing_by, SomeCommand, PerformsAt}
 
@@ -168,10 +169,10 @@ module _ (s w : List ℕ) (k kind : ℕ) (is : kind ≡ kind_at w k) where
         on (after, q, reads, inr (o, kinds)) = rw o (rw ((split-back kind after kinds).1, string-read s w (k + 1) h.end q reads qs from len q-is from_is len_is) at (does e c t (counts c stands) ready))
 
     pub alters-as : shape_of kind ≡ change_shape → is_global kind ≡ false → (at : ℕ) → at ≡ end_at w (k + 1) → (start : ℕ) → start ≡ string_start (get_or w at 0) → (more : ℕ) → more ≡ string_length (get_or w at 0)
-        → (change : ℕ) → change ≡ change_by kind → (points : Bool) → points ≡ pointing_by kind
-        → PerformsTold (in_set set 0) table j st (Op.alter (change_of change) points (sought qs s from (from + len)) (part start (start + more) s)) b r → PerformsAt s table w k j st b r
+        → (way : ChangeHere) → way ≡ change_by kind → (points : Bool) → points ≡ pointing_by kind
+        → PerformsTold (in_set set 0) table j st (Op.alter (change_of way) points (sought qs s from (from + len)) (part start (start + more) s)) b r → PerformsAt s table w k j st b r
     unfolding Means
-    alters-as shape other at at-is start start_is more more-is change change-is points points-is does op e c t h stands ready = on (alters-mean shape other op h)
+    alters-as shape other at at-is start start_is more more-is way change-is points points-is does op e c t h stands ready = on (alters-mean shape other op h)
       where
         new_is : (new : Line) (n : ℕ) → end_at w (k + 1) ≡ n → StringIn s (get_or w n 0) new → part start (start + more) s ≡ new
         new_is new n ends x = rw (start_is, more-is, at-is ∙ ends) (string-part s (get_or w n 0) new (script-short s h.form) x)

@@ -9,8 +9,10 @@ use Rattle.definitions.specs.Edit.{Op, step}
 use Rattle.items.specs.Kinds.{split_after_kind, split_before_kind, after_kind, after_pointing_kind, before_kind, before_pointing_kind, exchange_pointing_kind, cancel_kind, word_set_kind, is_global}
 use Rattle.items.specs.Words.{kind_at, part_of}
 use Rattle.items.specs.Simple.{CommandAt}
+use Rattle.changes.specs.declared.Change.{Change}
+use Rattle.changes.specs.declared.Change.TheVariants.{After, Before, Exchange}
 use Rattle.editor.specs.declared.State.{State}
-use Rattle.editor.specs.declared.Moved.{Moved}
+use Rattle.editor.specs.Stops.{Moved}
 use Rattle.editor.specs.Shows.{Shows, lent, Answered, target_numbered}
 use Rattle.editor.specs.Current.{Ready, ShowsOf}
 use Rattle.globals.specs.Standing.{Standing}
@@ -23,9 +25,9 @@ use Rattle.replacing.specs.Freed.{replacing}
 unfoldable pub split_by : ℕ → Bool
 split_by kind = eqb kind split_after_kind || eqb kind split_before_kind
 
--- what a change does, as the number that stands for it: 0 for A, 1 for B, 2 for E
-unfoldable pub change_by : ℕ → ℕ
-change_by kind = cond (eqb kind after_kind || eqb kind after_pointing_kind) 0 (cond (eqb kind before_kind || eqb kind before_pointing_kind) 1 2)
+-- what a change does: A, B, E
+unfoldable pub change_by : ℕ → Change
+change_by kind = cond (eqb kind after_kind || eqb kind after_pointing_kind) After (cond (eqb kind before_kind || eqb kind before_pointing_kind) Before Exchange)
 
 -- AP, BP and EP
 unfoldable pub pointing_by : ℕ → Bool

@@ -10,12 +10,19 @@ ghost use Rattle.editor.specs.Current.{IsReady};
 ghost use Rattle.reading.specs.Carrying.{SomeStand};
 ghost use Rattle.commands.specs.Performing.{SomeCommand, LeavesCarried, PerformsAt};
 
-use editor::{Moved, State};
+use editor::{State, Stopped};
 use items::heads::{kind_of, shape_of};
 use items::kinds::{FOURS, PAIRS, STRINGS, WORDS};
 
 // The simple command whose words stand at k, whatever is carried; GE, GA, GB, CG and WORD are performed elsewhere, for they change what is carried.
-pub fn perform(script: &[u8], table: &[u8], w: &[u32], k: usize, j: &mut [u8], st: State) -> Moved
+pub fn perform(
+    script: &[u8],
+    table: &[u8],
+    w: &[u32],
+    k: usize,
+    j: &mut [u8],
+    st: State,
+) -> Result<State, Stopped>
     requires { SomeCommand script.now w.now k × SomeStand script.now w.now × LeavesCarried w.now k × IsReady table.now j.old st }
     ensures { PerformsAt script.now table.now w.now k j.old st j.new result }
 {

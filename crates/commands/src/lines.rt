@@ -7,10 +7,9 @@ ghost use Rattle.editor.specs.Current.{IsReady};
 ghost use Rattle.reading.specs.Carrying.{SomeStand};
 ghost use Rattle.commands.specs.Performing.{SomeCommand, PerformsAt, PerformsLines};
 
-use crate::passing::anew;
 use editor::edits::insert_line;
 use editor::moves::move_to;
-use editor::{Moved, State};
+use editor::{State, Stopped};
 use globals::none_stands;
 use inserts::insert_at;
 use items::arguments::{span_from, span_through, string_length, string_start};
@@ -28,7 +27,7 @@ pub fn of_two_words(
     kind: u32,
     j: &mut [u8],
     st: State,
-) -> Moved
+) -> Result<State, Stopped>
     requires { SomeCommand script.now w.now k × SomeStand script.now w.now × IsReady table.now j.old st × (kind ≡ kind_at w.now k) × (shape_of kind ≡ pair_shape) }
     ensures { PerformsAt script.now table.now w.now k j.old st j.new result }
 {
@@ -50,8 +49,7 @@ pub fn of_two_words(
     let n = string_length(word);
     if kind == JOIN {
         if none_stands(w) {
-            let r = joins::join(table, j, st, script, from, n);
-            return anew(r);
+            return Ok(joins::join(table, j, st, script, from, n)?);
         }
         return crate::passing::join(script, table, w, j, st, from, n);
     }
@@ -66,7 +64,7 @@ pub fn of_four_words(
     kind: u32,
     j: &mut [u8],
     st: State,
-) -> Moved
+) -> Result<State, Stopped>
     requires { SomeCommand script.now w.now k × SomeStand script.now w.now × ShowsText j.old st × (kind ≡ kind_at w.now k) × (shape_of kind ≡ four_shape) × (kind ≡ word_set_kind → ⊥) }
     ensures { PerformsLines script.now w.now k j.old st j.new result }
 {
@@ -76,8 +74,7 @@ pub fn of_four_words(
     if kind == REPLACE {
         let through = span_through(number_of(w, k), word);
         if none_stands(w) {
-            let r = replace_span(j, st, span_from(word), through, script, start, end);
-            return anew(r);
+            return Ok(replace_span(j, st, span_from(word), through, script, start, end)?);
         }
         return crate::passing::replace_span(script, w, j, st, span_from(word), through, start, end);
     }

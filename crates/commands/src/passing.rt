@@ -1,5 +1,6 @@
 // The commands that read, where globals stand (document 02, wish 2): each reads first, through the globals, and then does what it does where none stands.
-ghost use Rattle.std.specs.Prelude.{◌≡◌, [], ◌∷◌};
+// `Ok(f(..)?)` puts the answer together anew: so the compiler need not keep that of the plain command in memory too.
+ghost use Rattle.std.specs.Prelude.{[], ◌∷◌};
 ghost use Rattle.definitions.specs.Editor.{strike};
 ghost use Rattle.definitions.specs.Edit.{Op};
 ghost use Rattle.editor.specs.Records.{LineIn};
@@ -10,52 +11,51 @@ ghost use Rattle.inserts.specs.Lines.{Insertable};
 ghost use Rattle.spans.specs.Spans.{through_of, change_here};
 ghost use Rattle.commands.specs.Performing.{ReplacesHere, ReplacesSpan, InsertsAt, JoinsAt};
 
-use editor::{Moved, State};
+use editor::{State, Stop, Stopped};
 use spans::ahead::{go_ahead, go_to, read_ahead, read_span};
 
-// The answer, put together anew: so the compiler need not keep that of the plain command in memory too.
-pub fn anew(r: Moved) -> Moved
-    ensures { result ≡ r }
-{
-    match r {
-        Moved::On(s) => Moved::On(s),
-        Moved::Stop(n, s) => Moved::Stop(n, s),
-    }
-}
-
 // N
-pub fn next_line(script: &[u8], w: &[u32], j: &mut [u8], st: State) -> Moved
+pub fn next_line(script: &[u8], w: &[u32], j: &mut [u8], st: State) -> Result<State, Stopped>
     requires { SomeStand script.now w.now × ShowsText j.old st }
     ensures { PerformsBy script.now w.now j.old st Op.next_line j.new result }
 {
     let at = st.back;
     if at >= j.len() {
-        return Moved::Stop(20, st);
+        return Err(Stopped {
+            stop: Stop::AtEof,
+            st,
+        });
     }
-    let r = go_ahead(script, w, j, st);
-    anew(r)
+    Ok(go_ahead(script, w, j, st)?)
 }
 
 // M
-pub fn move_to(script: &[u8], w: &[u32], j: &mut [u8], st: State, target: usize) -> Moved
+pub fn move_to(
+    script: &[u8],
+    w: &[u32],
+    j: &mut [u8],
+    st: State,
+    target: usize,
+) -> Result<State, Stopped>
     requires { SomeStand script.now w.now × ShowsText j.old st }
     ensures { PerformsBy script.now w.now j.old st (Op.move (target_numbered target)) j.new result }
 {
-    let r = go_to(script, w, j, st, target);
-    anew(r)
+    Ok(go_to(script, w, j, st, target)?)
 }
 
 // D from the current line on.
-fn delete_here(script: &[u8], w: &[u32], j: &mut [u8], st: State, through: usize) -> Moved
+fn delete_here(
+    script: &[u8],
+    w: &[u32],
+    j: &mut [u8],
+    st: State,
+    through: usize,
+) -> Result<State, Stopped>
     requires { SomeStand script.now w.now × ShowsText j.old st }
     ensures { CompletesBy script.now w.now j.old st (change_here (λ n. strike n ∷ []) (through_of through)) j.new result }
 {
-    let read = read_span(script, w, j, st, through);
-    let Moved::On(s) = read else {
-        return read;
-    };
-    let r = spans::deleting::delete_here(j, s, through);
-    anew(r)
+    let s = read_span(script, w, j, st, through)?;
+    Ok(spans::deleting::delete_here(j, s, through)?)
 }
 
 // D
@@ -66,14 +66,11 @@ pub fn delete_span(
     st: State,
     from: usize,
     through: usize,
-) -> Moved
+) -> Result<State, Stopped>
     requires { SomeStand script.now w.now × ShowsText j.old st }
     ensures { PerformsBy script.now w.now j.old st (Op.delete (target_numbered from) (through_of through)) j.new result }
 {
-    let moved = go_to(script, w, j, st, from);
-    let Moved::On(there) = moved else {
-        return moved;
-    };
+    let there = go_to(script, w, j, st, from)?;
     delete_here(script, w, j, there, through)
 }
 
@@ -86,16 +83,12 @@ fn replace_here(
     through: usize,
     start: usize,
     end: usize,
-) -> Moved
+) -> Result<State, Stopped>
     requires { SomeStand script.now w.now × ShowsText j.old st × Insertable script.now start end }
     ensures { ReplacesHere script.now w.now start end j.old st through j.new result }
 {
-    let read = read_span(script, w, j, st, through);
-    let Moved::On(s) = read else {
-        return read;
-    };
-    let r = replacing::replace_here(j, s, through, script, start, end);
-    anew(r)
+    let s = read_span(script, w, j, st, through)?;
+    Ok(replacing::replace_here(j, s, through, script, start, end)?)
 }
 
 // R
@@ -108,14 +101,11 @@ pub fn replace_span(
     through: usize,
     start: usize,
     end: usize,
-) -> Moved
+) -> Result<State, Stopped>
     requires { SomeStand script.now w.now × ShowsText j.old st × Insertable script.now start end }
     ensures { ReplacesSpan script.now w.now start end j.old st from through j.new result }
 {
-    let moved = go_to(script, w, j, st, from);
-    let Moved::On(there) = moved else {
-        return moved;
-    };
+    let there = go_to(script, w, j, st, from)?;
     replace_here(script, w, j, there, through, start, end)
 }
 
@@ -128,17 +118,14 @@ pub fn insert_at(
     spot: usize,
     start: usize,
     end: usize,
-) -> Moved
+) -> Result<State, Stopped>
     requires { SomeStand script.now w.now × ShowsText j.old st × Insertable script.now start end }
     ensures { InsertsAt script.now w.now start end j.old st spot j.new result }
 {
     if spot == 0 {
         return inserts::insert_lines(j, st, script, start, end);
     }
-    let moved = go_to(script, w, j, st, spot - 1);
-    let Moved::On(there) = moved else {
-        return moved;
-    };
+    let there = go_to(script, w, j, st, spot - 1)?;
     inserts::insert_lines(j, there, script, start, end)
 }
 
@@ -151,18 +138,17 @@ pub fn join(
     st: State,
     from: usize,
     n: usize,
-) -> Moved
+) -> Result<State, Stopped>
     requires { SomeStand script.now w.now × ShownOf table.now j.old st × LineIn script.now from n }
     ensures { JoinsAt script.now table.now w.now j.old st from n j.new result }
 {
     let here = st.back;
     if here >= j.len() {
-        return Moved::Stop(20, st);
+        return Err(Stopped {
+            stop: Stop::AtEof,
+            st,
+        });
     }
-    let read = read_ahead(script, w, j, st);
-    let Moved::On(s) = read else {
-        return read;
-    };
-    let r = joins::join(table, j, s, script, from, n);
-    anew(r)
+    let s = read_ahead(script, w, j, st)?;
+    Ok(joins::join(table, j, s, script, from, n)?)
 }

@@ -6,7 +6,8 @@ ghost use Rattle.editor.specs.Current.{IsReady};
 ghost use Rattle.reading.specs.Carrying.{SomeStand};
 ghost use Rattle.commands.specs.Performing.{split_by, change_by, pointing_by, SomeCommand, PerformsAt};
 
-use editor::{Moved, State};
+use changes::Change;
+use editor::{State, Stopped};
 use globals::word_set;
 use items::arguments::{string_length, string_start};
 use items::kinds::{
@@ -35,7 +36,7 @@ pub fn aims(
     kind: u32,
     j: &mut [u8],
     st: State,
-) -> Moved
+) -> Result<State, Stopped>
     requires { SomeCommand script.now w.now k × SomeStand script.now w.now × IsReady table.now j.old st × (kind ≡ kind_at w.now k) × (shape_of kind ≡ string_shape) }
     ensures { PerformsAt script.now table.now w.now k j.old st j.new result }
 {
@@ -51,15 +52,15 @@ pub fn aims(
 }
 
 // What a change of this kind does.
-fn change_of(kind: u32) -> u8
+fn change_of(kind: u32) -> Change
     ensures { result ≡ change_by kind }
 {
     match kind {
-        AFTER => 0,
-        AFTER_POINTING => 0,
-        BEFORE => 1,
-        BEFORE_POINTING => 1,
-        _ => 2,
+        AFTER => Change::After,
+        AFTER_POINTING => Change::After,
+        BEFORE => Change::Before,
+        BEFORE_POINTING => Change::Before,
+        _ => Change::Exchange,
     }
 }
 
@@ -83,7 +84,7 @@ pub fn alters(
     kind: u32,
     j: &mut [u8],
     st: State,
-) -> Moved
+) -> Result<State, Stopped>
     requires { SomeCommand script.now w.now k × SomeStand script.now w.now × IsReady table.now j.old st × (kind ≡ kind_at w.now k) × (shape_of kind ≡ change_shape) × (is_global kind ≡ false) }
     ensures { PerformsAt script.now table.now w.now k j.old st j.new result }
 {

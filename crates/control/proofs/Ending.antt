@@ -8,18 +8,21 @@ use native.Mathlib.Omega.{arith}
 use lib.ListN.{length, get_or}
 use Rattle.definitions.specs.Control.{Opener, times, forever, bare, branch, loop, Item, opens, close, otherwise, Frame, frame, running, body_end, pull_at, pull}
 use Rattle.items.specs.Words.{kind_at, place_at, OpenerAt}
-use Rattle.items.specs.Kinds.{shape_of}
 use Rattle.items.specs.Reserve.{reserve}
-use Rattle.items.specs.Ends.{place_of, is_one_word, end_by, counting, repeating, looping, way_of, way_by}
+use Rattle.items.specs.Kinds.{shape_of}
+use Rattle.items.specs.Ends.{place_of, is_one_word, end_by, way_of, way_by}
 use Rattle.items.proofs.Reading.{ReadsBack, item-reads, opener-reads, times-reads}
 use Rattle.items.proofs.OpenerWords.{times_way, opener-way, else-way}
+use Rattle.control.specs.declared.Mode.TheVariants.{Running}
 use Rattle.control.specs.Items.{starts_group}
-use Rattle.control.specs.Shown.{OpenedAt, FrameAt, FramesAt, InFrames, Closing, ShowsCtl, ShowsStep, stand_at}
-use Rattle.control.specs.declared.Control.{Control}
+use Rattle.control.specs.Shown.{OpenedAt, FrameAt, FramesAt, InFrames, Closing, ShowsPoint, ShowsStep, stand_at}
+use Rattle.control.specs.declared.Point.{Point}
 use Rattle.control.specs.declared.Step.{Step}
 use Rattle.control.specs.declared.Step.TheVariants.{On}
 use Rattle.control.proofs.Standing.{stands-in, stands-less, runs_past, runs-body}
 use Rattle.control.proofs.Starting.{goes, shows-as}
+use Rattle.items.specs.declared.openers.Way.{Way}
+use Rattle.items.specs.declared.openers.Way.TheVariants.{Counting, Repeating, Looping}
 
 -- ---- the opener of a body
 
@@ -54,7 +57,7 @@ Ends bare = Unit {0}
 Ends (branch c) = Unit {0}
 Ends (loop c) = ⊥
 
-pub ends-once : (o : Opener) (way : ℕ) → way ≡ way_of o → (way ≡ counting → ⊥) → (way ≡ repeating → ⊥) → (way ≡ looping → ⊥) → Ends o
+pub ends-once : (o : Opener) (way : Way) → way ≡ way_of o → (way ≡ Counting → ⊥) → (way ≡ Repeating → ⊥) → (way ≡ Looping → ⊥) → Ends o
 unfolding way_of Ends
 ends-once (times n) way h a b c = absurd (a h)
 ends-once forever way h a b c = absurd (b h)
@@ -62,13 +65,12 @@ ends-once bare way h a b c = tt
 ends-once (branch d) way h a b c = tt
 ends-once (loop d) way h a b c = absurd (c h)
 
-pub ends-zero : (s w : List ℕ) (k m place : ℕ) (o : Opener) (left : ℕ) → OpenedAt s w k m place o left → way_of o ≡ counting → left ≡ 0 → Ends o
+pub ends-zero : (s w : List ℕ) (k m place : ℕ) (o : Opener) (left : ℕ) → OpenedAt s w k m place o left → way_of o ≡ Counting → left ≡ 0 → Ends o
 unfolding OpenedAt Ends way_of
 ends-zero s w k m place (times n) left h few none = omega (arith, h.1, none)
-ends-zero s w k m place forever left h few none = absurd (omega (arith, few))
 ends-zero s w k m place bare left h few none = tt
 ends-zero s w k m place (branch c) left h few none = tt
-ends-zero s w k m place (loop c) left h few none = absurd (omega (arith, few))
+ends-zero s w k m place other left h few none = absurd (cc (few))
 
 pull-ends : (o : Opener) (g : Bool) (place : ℕ) (body items : List Item) (frames : List Frame) → Ends o
     → pull (running items frames) ≡ pull (running (close ∷ items) (frame g place o body ∷ frames))
@@ -127,10 +129,10 @@ module _ (s w : List ℕ) (end at next depth : ℕ) (items : List Item) (g : Boo
   closing-left = ap (λ (x : ℕ). get_or w x 0 / 65536) words-at ∙ frame-left s w end (end + length frames) (length frames + 1) g place o body h.top
 
   -- out of the body
-  pub out-shows : (k : Control) → k ≡ stand_at 0 next (depth - 1) 0 → ShowsCtl s w end k (running items frames)
-  unfolding ShowsCtl
+  pub out-shows : (k : Point) → k ≡ stand_at Running next (depth - 1) → ShowsPoint s w end k (running items frames)
+  unfolding ShowsPoint
   out-shows k e =
-      shows-as s w end k (stand_at 0 next (depth - 1) 0) (running items frames) e
+      shows-as s w end k (stand_at Running next (depth - 1)) (running items frames) e
       (refl, runs_past s w end next (depth - 1) items h.past frames (record { stands = h.rest; framed = h.framed; deep = omega (arith, h.deep) }))
 
   -- the body once more
@@ -143,13 +145,13 @@ module _ (s w : List ℕ) (end at next depth : ℕ) (items : List Item) (g : Boo
         deep = omega (arith, h.deep);
       }
 
-  pub again-shows : (k : Control) → k ≡ stand_at 0 h.top.start depth 0 → ShowsCtl s w end k (running body (frame g place o body ∷ frames))
-  unfolding ShowsCtl
+  pub again-shows : (k : Point) → k ≡ stand_at Running h.top.start depth → ShowsPoint s w end k (running body (frame g place o body ∷ frames))
+  unfolding ShowsPoint
   again-shows k e =
-      shows-as s w end k (stand_at 0 h.top.start depth 0) (running body (frame g place o body ∷ frames)) e
+      shows-as s w end k (stand_at Running h.top.start depth) (running body (frame g place o body ∷ frames)) e
       (refl, runs-body s w end h.top.start depth body g place o frames (inr h.top.group) body-within)
 
-  pub end-out : (r : Step) (k : Control) → k ≡ stand_at 0 next (depth - 1) 0 → r ≡ On k → Ends o → ShowsStep s w end at r (running (close ∷ items) (frame g place o body ∷ frames))
+  pub end-out : (r : Step) (k : Point) → k ≡ stand_at Running next (depth - 1) → r ≡ On k → Ends o → ShowsStep s w end at r (running (close ∷ items) (frame g place o body ∷ frames))
   end-out r k e er ends =
       goes s w end at (running (close ∷ items) (frame g place o body ∷ frames)) r (running items frames) (running items frames) k er
-      (pull-ends o g place body items frames ends) (out-shows k e) (rw e h.less) (rw e (omega arith))
+      (pull-ends o g place body items frames ends) (out-shows k e) (rw e h.less)

@@ -6,60 +6,46 @@ use mathlib.Core.Logic.{inl, inr}
 use Prim.Native.Nat.{ℕ, zero, suc, ◌+◌, ◌-◌, ◌*◌, ◌≤◌, ◌<◌}
 use native.Mathlib.Omega.{arith}
 use lib.ListN.{set}
-use Rattle.definitions.specs.Control.{bare, Item, simple, seek, opens, bracket, close, otherwise, leave, line_end, Frame, frame, running, failing, leaving, pull_at, pull_else, pull_line, pull}
+use Rattle.definitions.specs.Control.{bare, Item, opens, close, otherwise, line_end, Frame, frame, running, failing, leaving, pull_at, pull_else, pull_line, pull}
 use Rattle.theorems.specs.NestingLaws.{may_bracket}
-use Rattle.items.specs.Kinds.{line_end_kind, close_kind, else_kind}
-use Rattle.items.specs.Ends.{class_of, opener_class}
+use Rattle.items.specs.Ends.{class_of}
 use Rattle.items.specs.Depth.{open_after}
-use Rattle.control.specs.Shown.{ItemsFrom, OpenedAt, FramesAt, InFrames, entered, ShowsCtl, Onward, stand_at}
-use Rattle.control.specs.declared.Control.{Control}
+use Rattle.control.specs.declared.Mode.TheVariants.{Running, Failing, Leaving}
+use Rattle.control.specs.Shown.{ItemsFrom, OpenedAt, FramesAt, InFrames, entered, ShowsPoint, Onward, stand_at}
+use Rattle.control.specs.declared.Point.{Point}
 use Rattle.control.proofs.Standing.{within-as, within_word, runs-body}
 use Rattle.control.proofs.Classes.{Reading, At, at_item, runs_on, as_line, as-close, as-otherwise, as-opens}
 use Rattle.control.proofs.Passing.{onward-as}
+use Rattle.items.specs.declared.ends.Class.{Class}
+use Rattle.items.specs.declared.ends.Class.TheVariants.{LineEnd, Close, Else, Opens}
 
 -- no opener, no close, no ELSE
 unfoldable pub Plain : Item → Type 0
 Plain (opens p o) = ⊥
 Plain close = ⊥
 Plain otherwise = ⊥
-Plain line_end = Unit {0}
-Plain bracket = Unit {0}
-Plain (leave p) = Unit {0}
-Plain (simple p op) = Unit {0}
-Plain (seek p f se) = Unit {0}
+Plain other = Unit {0}
 
 plain-open : (d : ℕ) (i : Item) → Plain i → d ≤ open_after d i
 unfolding Plain open_after
 plain-open d (opens p o) h = absurd h
 plain-open d close h = absurd h
 plain-open d otherwise h = absurd h
-plain-open d line_end h = omega arith
-plain-open d bracket h = omega arith
-plain-open d (leave p) h = omega arith
-plain-open d (simple p op) h = omega arith
-plain-open d (seek p f se) h = omega arith
+plain-open d other h = omega arith
 
-is_plain : (class : ℕ) (i : Item) → class ≡ class_of i → (class ≡ opener_class → ⊥) → (class ≡ close_kind → ⊥) → (class ≡ else_kind → ⊥) → Plain i
+is_plain : (class : Class) (i : Item) → class ≡ class_of i → (class ≡ Opens → ⊥) → (class ≡ Close → ⊥) → (class ≡ Else → ⊥) → Plain i
 unfolding Plain class_of
 is_plain class (opens p o) e a b c = a e
 is_plain class close e a b c = b e
 is_plain class otherwise e a b c = c e
-is_plain class line_end e a b c = tt
-is_plain class bracket e a b c = tt
-is_plain class (leave p) e a b c = tt
-is_plain class (simple p op) e a b c = tt
-is_plain class (seek p f se) e a b c = tt
+is_plain class other e a b c = tt
 
 pull-else-plain : (i : Item) (items : List Item) (k : ℕ) (frames : List Frame) → Plain i → pull_else items k frames ≡ pull_else (i ∷ items) k frames
 unfolding Plain pull_else
 pull-else-plain (opens p o) items k frames h = absurd h
 pull-else-plain close items k frames h = absurd h
 pull-else-plain otherwise items k frames h = absurd h
-pull-else-plain line_end items k frames h = refl
-pull-else-plain bracket items k frames h = refl
-pull-else-plain (leave p) items k frames h = refl
-pull-else-plain (simple p op) items k frames h = refl
-pull-else-plain (seek p f se) items k frames h = refl
+pull-else-plain other items k frames h = refl
 
 module _ (k : ℕ) (items : List Item) (frames : List Frame) where
   pull-else-last : k ≡ 1 → pull_at items frames ≡ pull_else (close ∷ items) k frames
@@ -84,7 +70,7 @@ pull-else-inner (suc (suc k)) items frames le more = refl
 
 -- ---- to the ELSE or the close
 
-module _ (w : List ℕ) (end at next depth count class : ℕ) (reads : Reading w at class next) (less : at < end) (r : Control) (le : 1 ≤ count) (s : List ℕ) (items : List Item) (frames : List Frame)
+module _ (w : List ℕ) (end at next depth count : ℕ) (class : Class) (reads : Reading w at class next) (less : at < end) (r : Point) (le : 1 ≤ count) (s : List ℕ) (items : List Item) (frames : List Frame)
     (h : InFrames s w end at depth (depth + count) items frames) where
   abbrev Goal : List Item → Type 0
   Goal l = Onward s w end at r (failing count l frames)
@@ -92,49 +78,46 @@ module _ (w : List ℕ) (end at next depth count class : ℕ) (reads : Reading w
   here-is : At s w end at next depth (depth + count) class frames items
   here-is = at_item s w end at next depth (depth + count) class frames reads items less h
 
-  pub else-opens : r ≡ stand_at 2 next depth (count + 1) → class ≡ opener_class → Onward s w end at r (failing count items frames)
-  unfolding ShowsCtl open_after pull pull_else
+  pub else-opens : r ≡ stand_at (Failing (count + 1)) next depth → class ≡ Opens → Onward s w end at r (failing count items frames)
+  unfolding ShowsPoint open_after pull pull_else
   else-opens e q =
       as-opens s w end at next depth (depth + count) class frames Goal q items here-is
-      (λ p o rest x. onward-as s w end at r (stand_at 2 next depth (count + 1)) (failing count (opens p o ∷ rest) frames) e (record {
+      (λ p o rest x. onward-as s w end at r (stand_at (Failing (count + 1)) next depth) (failing count (opens p o ∷ rest) frames) e (record {
         to = failing (suc count) rest frames;
-        shows = (refl, omega arith, omega arith, within-as s w end frames next depth (depth + count + 1) (depth + suc count) rest (omega arith) x.rest);
+        shows = (ap Failing (omega arith), omega arith, within-as s w end frames next depth (depth + count + 1) (depth + suc count) rest (omega arith) x.rest);
         same = refl;
         further = x.less;
-        no_search = omega arith;
       }))
 
-  pub else-last : r ≡ stand_at 0 next depth 0 → class ≡ close_kind → count ≡ 1 → Onward s w end at r (failing count items frames)
-  unfolding ShowsCtl open_after pull may_bracket
+  pub else-last : r ≡ stand_at Running next depth → class ≡ Close → count ≡ 1 → Onward s w end at r (failing count items frames)
+  unfolding ShowsPoint open_after pull may_bracket
   else-last e q one =
       as-close s w end at next depth (depth + count) class frames Goal q items here-is
-      (λ rest x. onward-as s w end at r (stand_at 0 next depth 0) (failing count (close ∷ rest) frames) e (record {
+      (λ rest x. onward-as s w end at r (stand_at Running next depth) (failing count (close ∷ rest) frames) e (record {
         to = running rest frames;
         shows = (refl, runs_on s w end at next depth (depth + count) class frames close rest x refl (omega (arith, one)));
         same = pull-else-last count rest frames one;
         further = x.less;
-        no_search = omega arith;
       }))
 
-  pub else-close : r ≡ stand_at 2 next depth (count - 1) → class ≡ close_kind → (count ≡ 1 → ⊥) → Onward s w end at r (failing count items frames)
-  unfolding ShowsCtl open_after pull
+  pub else-close : r ≡ stand_at (Failing (count - 1)) next depth → class ≡ Close → (count ≡ 1 → ⊥) → Onward s w end at r (failing count items frames)
+  unfolding ShowsPoint open_after pull
   else-close e q more =
       as-close s w end at next depth (depth + count) class frames Goal q items here-is
-      (λ rest x. onward-as s w end at r (stand_at 2 next depth (count - 1)) (failing count (close ∷ rest) frames) e (record {
+      (λ rest x. onward-as s w end at r (stand_at (Failing (count - 1)) next depth) (failing count (close ∷ rest) frames) e (record {
         to = failing (count - 1) rest frames;
-        shows = (refl, refl, omega (arith, le, more), within-as s w end frames next depth (depth + count - 1) (depth + (count - 1)) rest (omega (arith, le)) x.rest);
+        shows = (refl, omega (arith, le, more), within-as s w end frames next depth (depth + count - 1) (depth + (count - 1)) rest (omega (arith, le)) x.rest);
         same = pull-else-more count rest frames le more;
         further = x.less;
-        no_search = omega arith;
       }))
 
   -- the group after ELSE runs
-  pub else-group : (w' : List ℕ) → w' ≡ set w (end + depth) (at + 65536 * 0) → r ≡ stand_at 0 next (depth + 1) 0 → class ≡ else_kind → count ≡ 1
+  pub else-group : (w' : List ℕ) → w' ≡ set w (end + depth) (at + 65536 * 0) → r ≡ stand_at Running next (depth + 1) → class ≡ Else → count ≡ 1
       → Onward s w' end at r (failing count items frames)
-  unfolding ShowsCtl open_after pull OpenedAt
+  unfolding ShowsPoint open_after pull OpenedAt
   else-group w' pushed e q one =
       as-otherwise s w end at next depth (depth + count) class frames (λ l. Onward s w' end at r (failing count l frames)) q items here-is
-      (λ rest x. onward-as s w' end at r (stand_at 0 next (depth + 1) 0) (failing count (otherwise ∷ rest) frames) e (record {
+      (λ rest x. onward-as s w' end at r (stand_at Running next (depth + 1)) (failing count (otherwise ∷ rest) frames) e (record {
         to = running rest (frame false 0 bare rest ∷ frames);
         shows = (
           refl,
@@ -144,79 +127,68 @@ module _ (w : List ℕ) (end at next depth count class : ℕ) (reads : Reading w
         );
         same = pull-else-group count rest frames one;
         further = x.less;
-        no_search = omega arith;
       }))
 
-  pub else-inner : r ≡ stand_at 2 next depth count → class ≡ else_kind → (count ≡ 1 → ⊥) → Onward s w end at r (failing count items frames)
-  unfolding ShowsCtl open_after pull
+  pub else-inner : r ≡ stand_at (Failing count) next depth → class ≡ Else → (count ≡ 1 → ⊥) → Onward s w end at r (failing count items frames)
+  unfolding ShowsPoint open_after pull
   else-inner e q more =
       as-otherwise s w end at next depth (depth + count) class frames Goal q items here-is
-      (λ rest x. onward-as s w end at r (stand_at 2 next depth count) (failing count (otherwise ∷ rest) frames) e (record {
+      (λ rest x. onward-as s w end at r (stand_at (Failing count) next depth) (failing count (otherwise ∷ rest) frames) e (record {
         to = failing count rest frames;
-        shows = (refl, refl, le, x.rest);
+        shows = (refl, le, x.rest);
         same = pull-else-inner count rest frames le more;
         further = x.less;
-        no_search = omega arith;
       }))
 
-  pub else-plain : r ≡ stand_at 2 next depth count → (class ≡ opener_class → ⊥) → (class ≡ close_kind → ⊥) → (class ≡ else_kind → ⊥) → Onward s w end at r (failing count items frames)
-  unfolding At ShowsCtl pull
+  pub else-plain : r ≡ stand_at (Failing count) next depth → (class ≡ Opens → ⊥) → (class ≡ Close → ⊥) → (class ≡ Else → ⊥) → Onward s w end at r (failing count items frames)
+  unfolding At ShowsPoint pull
   else-plain e a b c = go items here-is
     where
       go : (l : List Item) → At s w end at next depth (depth + count) class frames l → Onward s w end at r (failing count l frames)
       go [] x = absurd x
       go (i ∷ rest) x =
           let plain = is_plain class i x.is_class a b c in
-          onward-as s w end at r (stand_at 2 next depth count) (failing count (i ∷ rest) frames) e (record {
+          onward-as s w end at r (stand_at (Failing count) next depth) (failing count (i ∷ rest) frames) e (record {
             to = failing count rest frames;
-            shows = (refl, refl, le, within-as s w end frames next depth (open_after (depth + count) i) (depth + count) rest (plain-open (depth + count) i plain) x.rest);
+            shows = (refl, le, within-as s w end frames next depth (open_after (depth + count) i) (depth + count) rest (plain-open (depth + count) i plain) x.rest);
             same = pull-else-plain i rest count frames plain;
             further = x.less;
-            no_search = omega arith;
           })
 
 -- ---- to the line end
 
-pull-line-plain : (class : ℕ) (i : Item) (items : List Item) → class ≡ class_of i → (class ≡ line_end_kind → ⊥) → pull_line items ≡ pull_line (i ∷ items)
+pull-line-plain : (class : Class) (i : Item) (items : List Item) → class ≡ class_of i → (class ≡ LineEnd → ⊥) → pull_line items ≡ pull_line (i ∷ items)
 unfolding class_of pull_line
-pull-line-plain class (opens p o) items e a = refl
-pull-line-plain class close items e a = refl
-pull-line-plain class otherwise items e a = refl
 pull-line-plain class line_end items e a = absurd (a e)
-pull-line-plain class bracket items e a = refl
-pull-line-plain class (leave p) items e a = refl
-pull-line-plain class (simple p op) items e a = refl
-pull-line-plain class (seek p f se) items e a = refl
+pull-line-plain class other items e a = refl
 
 pub outside : (s w : List ℕ) (end k d : ℕ) (items : List Item) → ItemsFrom s w end k d items → InFrames s w end k 0 d items []
 unfolding FramesAt
 outside s w end k d items h = record { stands = h; framed = tt; deep = refl }
 
-module _ (w : List ℕ) (at next class : ℕ) (reads : Reading w at class next) (r : Control) (s : List ℕ) (end d : ℕ) (items : List Item) (h : ItemsFrom s w end at d items) (less : at < end) where
-  pub line-end : r ≡ stand_at 0 next 0 0 → class ≡ line_end_kind → Onward s w end at r (leaving items)
-  unfolding ShowsCtl entered open_after pull pull_line
+module _ (w : List ℕ) (at next : ℕ) (class : Class) (reads : Reading w at class next) (r : Point) (s : List ℕ) (end d : ℕ) (items : List Item) (h : ItemsFrom s w end at d items) (less : at < end) where
+  pub line-end : r ≡ stand_at Running next 0 → class ≡ LineEnd → Onward s w end at r (leaving items)
+  unfolding ShowsPoint entered open_after pull pull_line
   line-end e q =
       as_line s w end at next 0 d class [] (λ l. Onward s w end at r (leaving l)) q items
       (at_item s w end at next 0 d class [] reads items less (outside s w end at d items h))
-      (λ rest x. onward-as s w end at r (stand_at 0 next 0 0) (leaving (line_end ∷ rest)) e (record {
+      (λ rest x. onward-as s w end at r (stand_at Running next 0) (leaving (line_end ∷ rest)) e (record {
         to = running rest [];
         shows = (refl, within-as s w end [] next 0 d 0 rest (omega arith) x.rest);
         same = refl;
         further = x.less;
-        no_search = omega arith;
       }))
 
-  pub line_plain : r ≡ stand_at 3 next 0 0 → (class ≡ line_end_kind → ⊥) → Onward s w end at r (leaving items)
-  unfolding At ShowsCtl pull
+  pub line_plain : r ≡ stand_at Leaving next 0 → (class ≡ LineEnd → ⊥) → Onward s w end at r (leaving items)
+  unfolding At ShowsPoint pull
   line_plain e a = go items (at_item s w end at next 0 d class [] reads items less (outside s w end at d items h))
     where
       go : (l : List Item) → At s w end at next 0 d class [] l → Onward s w end at r (leaving l)
       go [] x = absurd x
       go (i ∷ rest) x =
-          onward-as s w end at r (stand_at 3 next 0 0) (leaving (i ∷ rest)) e (record {
+          onward-as s w end at r (stand_at Leaving next 0) (leaving (i ∷ rest)) e (record {
             to = leaving rest;
             shows = (refl, (open_after d i, x.rest.stands));
             same = pull-line-plain class i rest x.is_class a;
             further = x.less;
-            no_search = omega arith;
           })

@@ -10,20 +10,22 @@ use borrow.Author.Tests.{eq-eqb, ne_eqb}
 use Rattle.definitions.specs.Control.{Opener, Item, simple, seek, opens, bracket, close, otherwise, leave, line_end, Frame, frame, skipping, leaving, leave_to}
 use Rattle.items.specs.Words.{kind_at, ItemAt}
 use Rattle.items.specs.Kinds.{bracket_kind}
-use Rattle.items.specs.Ends.{class_of, class_in, end_by}
+use Rattle.items.specs.Ends.{class_of, mark_by, class_in, end_by}
 use Rattle.items.proofs.Reading.{item-reads}
+use Rattle.control.specs.declared.Mode.TheVariants.{Skipping, Leaving}
 use Rattle.control.specs.Items.{starts_group}
-use Rattle.control.specs.Shown.{ItemsFrom, FrameAt, FramesAt, InFrames, ShowsCtl, stand_at}
-use Rattle.control.specs.declared.Control.{Control}
+use Rattle.control.specs.Shown.{ItemsFrom, FrameAt, FramesAt, InFrames, ShowsPoint, stand_at}
+use Rattle.control.specs.declared.Point.{Point}
 use Rattle.control.proofs.Standing.{stands-in, stands-less, first_of, none-stands, no_more}
 use Rattle.control.proofs.Starting.{shows-as}
 use Rattle.control.proofs.Ending.{frame-item, frame-says}
+use Rattle.items.specs.declared.ends.Class.TheVariants.{Bracket}
 
 -- ---- is a body a group
 
 -- an item of another class is no bracket
-no-bracket : (s w : List ℕ) (end k d : ℕ) (i : Item) (items : List Item) → (bracket_kind ≡ class_of i → ⊥) → ItemsFrom s w end k d (i ∷ items) → eqb (kind_at w k) bracket_kind ≡ false
-unfolding class_in
+no-bracket : (s w : List ℕ) (end k d : ℕ) (i : Item) (items : List Item) → (Bracket ≡ class_of i → ⊥) → ItemsFrom s w end k d (i ∷ items) → eqb (kind_at w k) bracket_kind ≡ false
+unfolding class_in mark_by
 no-bracket s w end k d i items other h =
     let f = first_of s w end k d i items h in
     ne_eqb (kind_at w k) bracket_kind (λ e. other (rw e at (item-reads s w k f.next i f.item).class))
@@ -32,13 +34,13 @@ starts-as : (s w : List ℕ) (end k d : ℕ) (body : List Item) → ItemsFrom s 
 unfolding starts_group class_of ItemAt
 starts-as s w end k d [] h less = absurd (omega (arith, less, none-stands s w end k d h))
 starts-as s w end k d (bracket ∷ items) h less = eq-eqb (kind_at w k) bracket_kind (omega (arith, (first_of s w end k d bracket items h).item.1))
-starts-as s w end k d (line_end ∷ items) h less = no-bracket s w end k d line_end items (λ q. omega (arith, q)) h
-starts-as s w end k d (close ∷ items) h less = no-bracket s w end k d close items (λ q. omega (arith, q)) h
-starts-as s w end k d (otherwise ∷ items) h less = no-bracket s w end k d otherwise items (λ q. omega (arith, q)) h
-starts-as s w end k d (leave p ∷ items) h less = no-bracket s w end k d (leave p) items (λ q. omega (arith, q)) h
-starts-as s w end k d (simple p op ∷ items) h less = no-bracket s w end k d (simple p op) items (λ q. omega (arith, q)) h
-starts-as s w end k d (seek p f se ∷ items) h less = no-bracket s w end k d (seek p f se) items (λ q. omega (arith, q)) h
-starts-as s w end k d (opens p o ∷ items) h less = no-bracket s w end k d (opens p o) items (λ q. omega (arith, q)) h
+starts-as s w end k d (line_end ∷ items) h less = no-bracket s w end k d line_end items (λ q. cc q) h
+starts-as s w end k d (close ∷ items) h less = no-bracket s w end k d close items (λ q. cc q) h
+starts-as s w end k d (otherwise ∷ items) h less = no-bracket s w end k d otherwise items (λ q. cc q) h
+starts-as s w end k d (leave p ∷ items) h less = no-bracket s w end k d (leave p) items (λ q. cc q) h
+starts-as s w end k d (simple p op ∷ items) h less = no-bracket s w end k d (simple p op) items (λ q. cc q) h
+starts-as s w end k d (seek p f se ∷ items) h less = no-bracket s w end k d (seek p f se) items (λ q. cc q) h
+starts-as s w end k d (opens p o ∷ items) h less = no-bracket s w end k d (opens p o) items (λ q. cc q) h
 
 module _ (w : List ℕ) (end j kind start : ℕ) (kind-is : kind ≡ kind_at w (get_or w j 0 % 65536)) (start_is : start ≡ end_by w (get_or w j 0 % 65536) kind)
     (s : List ℕ) (d : ℕ) (g : Bool) (place : ℕ) (o : Opener) (body : List Item) (h : FrameAt s w end j d g place o body) where
@@ -65,13 +67,12 @@ pub record Left (s w : List ℕ) (end depth d : ℕ) (items : List Item) (frames
   pub deep : d ≡ length rest
   pub same : leave_to (depth - d) items rest ≡ leave_to 0 items frames
 
-shown-group : (s w : List ℕ) (end next depth d : ℕ) (items : List Item) (fs : List Frame) (r : Control) → r ≡ stand_at 1 next (d - 1) (depth - (d - 1)) → 0 < d → d ≤ depth → d ≡ suc (length fs)
-    → ItemsFrom s w end next depth items → FramesAt s w end fs → ShowsCtl s w end r (skipping (suc (depth - d)) items fs)
-unfolding ShowsCtl
+shown-group : (s w : List ℕ) (end next depth d : ℕ) (items : List Item) (fs : List Frame) (r : Point) → r ≡ stand_at (Skipping (depth - (d - 1))) next (d - 1) → 0 < d → d ≤ depth → d ≡ suc (length fs)
+    → ItemsFrom s w end next depth items → FramesAt s w end fs → ShowsPoint s w end r (skipping (suc (depth - d)) items fs)
+unfolding ShowsPoint
 shown-group s w end next depth d items fs r e some le deep st f =
-    shows-as s w end r (stand_at 1 next (d - 1) (depth - (d - 1))) (skipping (suc (depth - d)) items fs) e (
-      refl,
-      omega (arith, some, le),
+    shows-as s w end r (stand_at (Skipping (depth - (d - 1))) next (d - 1)) (skipping (suc (depth - d)) items fs) e (
+      ap Skipping (omega (arith, some, le)),
       omega arith,
       record { stands = stands-less s w end next depth (d - 1 + suc (depth - d)) items (omega (arith, some, le)) st; framed = f; deep = omega (arith, deep) },
     )
@@ -101,15 +102,15 @@ module _ (s w : List ℕ) (end next depth : ℕ) (items : List Item) (frames : L
 
     module _ (is-group : Bool) (found : (z : List ℕ) (n : ℕ) (g : Bool) (place : ℕ) (o : Opener) (body : List Item) → FrameAt z w end (end + (d - 1)) n g place o body → is-group ≡ g) where
       -- a group
-      pub left-group : is-group ≡ true → (r : Control) → r ≡ stand_at 1 next (d - 1) (depth - (d - 1)) → ShowsCtl s w end r (leave_to 0 items frames)
+      pub left-group : is-group ≡ true → (r : Point) → r ≡ stand_at (Skipping (depth - (d - 1))) next (d - 1) → ShowsPoint s w end r (leave_to 0 items frames)
       unfolding leave_to
-      left-group yes-group r e = innermost (ShowsCtl s w end r (leave_to 0 items frames)) go
+      left-group yes-group r e = innermost (ShowsPoint s w end r (leave_to 0 items frames)) go
         where
           go : (g : Bool) (fs : List Frame) (place : ℕ) (o : Opener) (body : List Item) → FrameAt s w end (end + (d - 1)) (length fs + 1) g place o body → FramesAt s w end fs → d ≡ suc (length fs)
-              → leave_to (depth - d) items (frame g place o body ∷ fs) ≡ leave_to 0 items frames → ShowsCtl s w end r (leave_to 0 items frames)
+              → leave_to (depth - d) items (frame g place o body ∷ fs) ≡ leave_to 0 items frames → ShowsPoint s w end r (leave_to 0 items frames)
           go false fs place o body f rest deep same = absurd (false≢true (sym (found s (length fs + 1) false place o body f) ∙ yes-group))
           go true fs place o body f rest deep same =
-              subst (λ c. ShowsCtl s w end r c) same (shown-group s w end next depth d items fs r e some le deep h.stands rest)
+              subst (λ c. ShowsPoint s w end r c) same (shown-group s w end next depth d items fs r e some le deep h.stands rest)
 
       -- a body that is no group is left too
       pub left-more : is-group ≡ false → Left s w end depth (d - 1) items frames
@@ -128,10 +129,10 @@ module _ (s w : List ℕ) (end next depth : ℕ) (items : List Item) (frames : L
               }
 
   -- there is no group
-  pub left-none : (d : ℕ) → d ≡ 0 → (r : Control) → r ≡ stand_at 3 next 0 0 → Left s w end depth d items frames → ShowsCtl s w end r (leave_to 0 items frames)
-  unfolding ShowsCtl leave_to
+  pub left-none : (d : ℕ) → d ≡ 0 → (r : Point) → r ≡ stand_at Leaving next 0 → Left s w end depth d items frames → ShowsPoint s w end r (leave_to 0 items frames)
+  unfolding ShowsPoint leave_to
   left-none d none r e l = go l.rest l.deep l.same
     where
-      go : (fs : List Frame) → d ≡ length fs → leave_to (depth - d) items fs ≡ leave_to 0 items frames → ShowsCtl s w end r (leave_to 0 items frames)
-      go [] deep same = subst (λ c. ShowsCtl s w end r c) same (shows-as s w end r (stand_at 3 next 0 0) (leaving items) e (refl, (depth, h.stands)))
+      go : (fs : List Frame) → d ≡ length fs → leave_to (depth - d) items fs ≡ leave_to 0 items frames → ShowsPoint s w end r (leave_to 0 items frames)
+      go [] deep same = subst (λ c. ShowsPoint s w end r c) same (shows-as s w end r (stand_at Leaving next 0) (leaving items) e (refl, (depth, h.stands)))
       go (f ∷ fs) deep same = absurd (omega (arith, none, deep))

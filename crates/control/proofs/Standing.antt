@@ -14,8 +14,10 @@ use Rattle.items.specs.Ends.{place_of}
 use Rattle.control.specs.Items.{count_of, starts_group, Proper}
 use Rattle.items.specs.Depth.{open_after}
 use Rattle.items.specs.Reserve.{reserve}
-use Rattle.control.specs.Shown.{ItemsKept, ItemsFrom, OpenedAt, FrameAt, FramesAt, InFrames, entered, Runs, ShowsCtl}
+use Rattle.control.specs.Shown.{ItemsKept, ItemsFrom, OpenedAt, FrameAt, FramesAt, InFrames, entered, Runs, ShowsPoint, ShowsCtl}
+use Rattle.control.specs.declared.Point.{Point}
 use Rattle.control.specs.declared.Control.{Control}
+use Rattle.control.specs.declared.Control.TheVariants.{Items, Seeking}
 use Rattle.items.proofs.Deepest.{deepest-low, deepest-next, deepest-more}
 use Rattle.items.proofs.Reading.{item-reads, items-end}
 use Rattle.items.proofs.Keeping.{items_kept, item-kept, opener-kept, times-kept, search-kept}
@@ -242,19 +244,27 @@ module _ (s w w' : List ℕ) (end n : ℕ) (ke : WordsKept w w' n) (below : n + 
       }
 
   -- where the run stands it still stands
-  pub ctl-stays : (c : Control) (from : Ctl) → ShowsCtl s w end c from → ShowsCtl s w' end c from
-  unfolding ShowsCtl
-  ctl-stays c (running items frames) h = (h.0, frames-stay _ _ _ items (entered items frames) (omega arith) h.1)
-  ctl-stays c (skipping k items frames) h = (h.0, h.1, h.2, frames-stay _ _ _ items frames (omega arith) h.3)
-  ctl-stays c (failing k items frames) h = (h.0, h.1, h.2, frames-stay _ _ _ items frames (omega arith) h.3)
-  ctl-stays c (leaving items) h =
+  point-stays : (c : Point) (from : Ctl) → ShowsPoint s w end c from → ShowsPoint s w' end c from
+  unfolding ShowsPoint
+  point-stays c (running items frames) h = (h.0, frames-stay _ _ _ items (entered items frames) (omega arith) h.1)
+  point-stays c (skipping k items frames) h = (h.0, h.1, frames-stay _ _ _ items frames (omega arith) h.2)
+  point-stays c (failing k items frames) h = (h.0, h.1, frames-stay _ _ _ items frames (omega arith) h.2)
+  point-stays c (leaving items) h =
       let room = stands-in s w end c.at h.1.0 items h.1.1 in
       (h.0, (h.1.0, stands-kept s w end w' (words-less w w' n end (omega (arith, room.2, below)) ke) c.at h.1.0 items h.1.1))
-  ctl-stays c (seeking place f se k items frames) h =
-      let room = stands-in s w end c.at c.depth items h.4.stands in (
+  point-stays c (seeking place f se k items frames) h = absurd h
+
+  pub ctl-stays : (c : Control) (from : Ctl) → ShowsCtl s w end c from → ShowsCtl s w' end c from
+  unfolding ShowsCtl ShowsPoint
+  ctl-stays (Items c) from h = point-stays c from h
+  ctl-stays (Seeking item lines to) (running items frames) h = absurd h
+  ctl-stays (Seeking item lines to) (skipping k items frames) h = absurd h
+  ctl-stays (Seeking item lines to) (failing k items frames) h = absurd h
+  ctl-stays (Seeking item lines to) (leaving items) h = absurd h
+  ctl-stays (Seeking item lines to) (seeking place f se k items frames) h =
+      let room = stands-in s w end to.at to.depth items h.3.1.stands in (
         h.0,
         h.1,
-        h.2,
-        search-kept s w w' end (λ i lt. ke.same i (omega (arith, lt, room.2, below))) (omega (arith, room.2, ke.as_long)) c.item c.at _ se room.0 h.3,
-        frames-stay _ _ _ items (entered items frames) (omega arith) h.4,
+        search-kept s w w' end (λ i lt. ke.same i (omega (arith, lt, room.2, below))) (omega (arith, room.2, ke.as_long)) item to.at _ se room.0 h.2,
+        point-stays to (running items frames) h.3,
       )

@@ -1,5 +1,5 @@
 -- How numbers and the words of the work area show where the run stands, and what comes next.
-use Rattle.std.specs.Prelude.{◌≡◌, ◌⊎◌, Bool, false, cond, ◌||◌, List, [], ◌∷◌, ℕ, ◌+◌, ◌-◌, ◌*◌, ◌≤◌, ◌<◌, length, get_or, eqb}
+use Rattle.std.specs.Prelude.{◌≡◌, ◌⊎◌, Bool, false, cond, ◌||◌, Option, Some, None, List, [], ◌∷◌, ℕ, ◌+◌, ◌-◌, ◌*◌, ◌≤◌, ◌<◌, length, get_or, eqb}
 use Rattle.definitions.specs.Search.{Search}
 use Rattle.definitions.specs.Edit.{is, is_not, is_eof, Op, only_step, test, begin, begin_back, find, find_back, find_delete}
 use Rattle.definitions.specs.Control.{Opener, times, forever, bare, branch, loop, Item, opens, otherwise, Frame, frame, Ctl, running, skipping, failing, leaving, seeking, Pull, finished, want, lost, pull}
@@ -11,10 +11,12 @@ use Rattle.items.specs.Depth.{deepest}
 use Rattle.items.specs.Reserve.{reserve}
 use Rattle.control.specs.declared.Ask.{Ask}
 use Rattle.control.specs.declared.Ask.TheVariants.{Round, Holds, HoldsNot, AtEof, Begin, BeginBack, Find, FindBack, FindDelete, Command}
+use Rattle.control.specs.declared.Mode.{Mode}
+use Rattle.control.specs.declared.Mode.TheVariants.{Running, Skipping, Failing, Leaving}
+use Rattle.control.specs.declared.Point.{Point}
 use Rattle.control.specs.declared.Control.{Control}
+use Rattle.control.specs.declared.Control.TheVariants.{Items, Seeking}
 use Rattle.control.specs.declared.Wanted.{Wanted}
-use Rattle.control.specs.declared.Next.{Next}
-use Rattle.control.specs.declared.Next.TheVariants.{Finished, Want}
 use Rattle.control.specs.declared.Step.{Step}
 use Rattle.control.specs.declared.Step.TheVariants.{On, Gives}
 
@@ -73,22 +75,37 @@ entered items (frame g place o body ∷ frames) = frame (starts_group items || g
 abbrev pub Runs : List ℕ → List ℕ → ℕ → ℕ → ℕ → List Item → List Frame → Type 0
 Runs s w end k depth items frames = InFrames s w end k depth depth items (entered items frames)
 
--- ---- where the run stands: `mode` is 0 at items, 1 to go on after the kth close, 2 at an ELSE or after a close, 3 after a line end, 4 in a search
+-- ---- where the run stands
 
+-- among the items: at one, to go on after the kth close, at an ELSE or after a close, after a line end
+unfoldable pub ShowsPoint : List ℕ → List ℕ → ℕ → Point → Ctl → Type 0
+ShowsPoint s w end c (running items frames) = (c.mode ≡ Running) × Runs s w end c.at c.depth items frames
+ShowsPoint s w end c (skipping k items frames) = (c.mode ≡ Skipping k) × (1 ≤ k) × InFrames s w end c.at c.depth (c.depth + k) items frames
+ShowsPoint s w end c (failing k items frames) = (c.mode ≡ Failing k) × (1 ≤ k) × InFrames s w end c.at c.depth (c.depth + k) items frames
+ShowsPoint s w end c (leaving items) = (c.mode ≡ Leaving) × ((d : ℕ) × ItemsFrom s w end c.at d items)
+ShowsPoint s w end c (seeking place f se k items frames) = ⊥
+
+-- or in a search that has passed k lines, to go on at what stands after it
 unfoldable pub ShowsCtl : List ℕ → List ℕ → ℕ → Control → Ctl → Type 0
-ShowsCtl s w end c (running items frames) = (c.mode ≡ 0) × Runs s w end c.at c.depth items frames
-ShowsCtl s w end c (skipping k items frames) = (c.mode ≡ 1) × (c.count ≡ k) × (1 ≤ k) × InFrames s w end c.at c.depth (c.depth + k) items frames
-ShowsCtl s w end c (failing k items frames) = (c.mode ≡ 2) × (c.count ≡ k) × (1 ≤ k) × InFrames s w end c.at c.depth (c.depth + k) items frames
-ShowsCtl s w end c (leaving items) = (c.mode ≡ 3) × ((d : ℕ) × ItemsFrom s w end c.at d items)
-ShowsCtl s w end c (seeking place f se k items frames) =
-    (c.mode ≡ 4) × (c.lines ≡ k) × (place < 32768) × SearchAt s w c.item c.at (head (seek_kind f) place) se
-    × Runs s w end c.at c.depth items frames
+ShowsCtl s w end (Items c) from = ShowsPoint s w end c from
+ShowsCtl s w end (Seeking item lines to) (running items frames) = ⊥
+ShowsCtl s w end (Seeking item lines to) (skipping k items frames) = ⊥
+ShowsCtl s w end (Seeking item lines to) (failing k items frames) = ⊥
+ShowsCtl s w end (Seeking item lines to) (leaving items) = ⊥
+ShowsCtl s w end (Seeking item lines to) (seeking place f se k items frames) =
+    (lines ≡ k) × (place < 32768) × SearchAt s w item to.at (head (seek_kind f) place) se × ShowsPoint s w end to (running items frames)
 
-abbrev pub stand_at : ℕ → ℕ → ℕ → ℕ → Control
-stand_at mode at depth count = record { mode = mode; at = at; depth = depth; count = count; item = 0; lines = 0 }
+-- the lines that a search has passed
+unfoldable pub passed : Control → ℕ
+passed (Items c) = 0
+passed (Seeking item lines to) = lines
 
-abbrev pub seek_at : ℕ → ℕ → ℕ → ℕ → Control
-seek_at item at depth lines = record { mode = 4; at = at; depth = depth; count = 0; item = item; lines = lines }
+abbrev pub stand_at : Mode → ℕ → ℕ → Point
+stand_at mode at depth = record { mode = mode; at = at; depth = depth }
+
+-- in the search of the item at `item`, which starts, to go on at `at`
+abbrev pub seek_at : ℕ → ℕ → ℕ → Control
+seek_at item at depth = Seeking item 0 (stand_at Running at depth)
 
 -- the run stands at an opener, in the words from `at` up to `next`, and `items` after it
 pub record Opening (s w : List ℕ) (end at next depth place : ℕ) (o : Opener) (items : List Item) (frames : List Frame) : Type 0 where
@@ -110,6 +127,10 @@ pub record Closing (s w : List ℕ) (end at next depth : ℕ) (items : List Item
 
 abbrev pub wanted_at : Ask → ℕ → ℕ → Control → Control → Wanted
 wanted_at what place item after₁ after₀ = record { what = what; place = place; item = item; lines = 0; yes = after₁; no = after₀ }
+
+-- outside a search
+abbrev pub wants_at : Ask → ℕ → ℕ → Point → Point → Step
+wants_at what place item after₁ after₀ = Gives (Some (wanted_at what place item (Items after₁) (Items after₀)))
 
 -- what an opener's test asks, what begins a search, and what tests a line in it, by the kind
 unfoldable pub test_by : ℕ → Ask
@@ -145,25 +166,24 @@ pub record ShowsWant (s w : List ℕ) (end n : ℕ) (x : Wanted) (place : ℕ) (
   pub asks : Asks s w end x op
   pub yes_shows : ShowsCtl s w end x.yes c₁
   pub no_shows : ShowsCtl s w end x.no c₀
-  pub yes_few : x.yes.lines ≤ n
-  pub no_few : x.no.lines ≤ n
+  pub yes_few : passed x.yes ≤ n
+  pub no_few : passed x.no ≤ n
 
 -- where the definitions are lost, which no run of an accepted script is (theorems, Frames), the items are taken to be at their end
-unfoldable pub ShowsNext : List ℕ → List ℕ → ℕ → ℕ → Next → Pull → Type 0
-ShowsNext s w end n Finished finished = Unit {0}
-ShowsNext s w end n Finished (want place op c₁ c₀) = ⊥
-ShowsNext s w end n Finished lost = Unit {0}
-ShowsNext s w end n (Want x) finished = ⊥
-ShowsNext s w end n (Want x) (want place op c₁ c₀) = ShowsWant s w end n x place op c₁ c₀
-ShowsNext s w end n (Want x) lost = ⊥
+unfoldable pub ShowsNext : List ℕ → List ℕ → ℕ → ℕ → Option Wanted → Pull → Type 0
+ShowsNext s w end n None finished = Unit {0}
+ShowsNext s w end n None (want place op c₁ c₀) = ⊥
+ShowsNext s w end n None lost = Unit {0}
+ShowsNext s w end n (Some x) finished = ⊥
+ShowsNext s w end n (Some x) (want place op c₁ c₀) = ShowsWant s w end n x place op c₁ c₀
+ShowsNext s w end n (Some x) lost = ⊥
 
 -- where the run goes on without a step, further on in the items; what comes next from there is what comes next from `from`
-pub record Onward (s w : List ℕ) (end at : ℕ) (c : Control) (from : Ctl) : Type 0 where
+pub record Onward (s w : List ℕ) (end at : ℕ) (c : Point) (from : Ctl) : Type 0 where
   pub to : Ctl
-  pub shows : ShowsCtl s w end c to
+  pub shows : ShowsPoint s w end c to
   pub same : pull to ≡ pull from
   pub further : at < c.at
-  pub no_search : c.mode < 4
 
 unfoldable pub ShowsStep : List ℕ → List ℕ → ℕ → ℕ → Step → Ctl → Type 0
 ShowsStep s w end at (On c) from = Onward s w end at c from
@@ -171,4 +191,4 @@ ShowsStep s w end at (Gives r) from = ShowsNext s w end 0 r (pull from)
 
 -- the step that begins the search at `at`
 abbrev pub begin_at : List ℕ → ℕ → ℕ → ℕ → Step
-begin_at w at next depth = let on = seek_at at next depth 0 in Gives (Want (wanted_at (begin_by (kind_at w at)) (place_at w at) at on on))
+begin_at w at next depth = let on = seek_at at next depth in Gives (Some (wanted_at (begin_by (kind_at w at)) (place_at w at) at on on))

@@ -5,11 +5,11 @@ ghost use Rattle.definitions.specs.Control.{Opener, Item, Frame};
 ghost use Rattle.control.specs.Shown.{FrameAt, InFrames, test_by};
 ghost use Rattle.control.specs.Answers.{AtOpener, AtClose, SaysGroup, StartsBody, EndsBody, LeadsOut};
 
-use super::{Ask, Control, FAILING, LEAVING, RUNNING, SKIPPING, Step, stand, wants};
+use super::{Ask, Mode, Point, Step, stand, wants};
 use items::ends::end_of;
 use items::heads::{kind_of, place_of};
 use items::kinds::{BRACKET, IF, UNLESS, UNTIL, WHILE};
-use items::openers::{BRANCHING, COUNTING, LOOPING, REPEATING, times_at, way_of};
+use items::openers::{Way, times_at, way_of};
 
 // Opens a body above `depth` others.
 pub fn push(w: &mut [u32], end: usize, depth: usize, item: usize, left: u32)
@@ -20,14 +20,13 @@ pub fn push(w: &mut [u32], end: usize, depth: usize, item: usize, left: u32)
 }
 
 // What the test of an opener of this kind asks.
+#[tactic(auto, unfolding(crate::specs::Shown::test_by))]
 fn test_of(kind: u32) -> Ask
     ensures { result ≡ test_by kind }
 {
     match kind {
-        IF => Ask::Holds,
-        WHILE => Ask::Holds,
-        UNLESS => Ask::HoldsNot,
-        UNTIL => Ask::HoldsNot,
+        IF | WHILE => Ask::Holds,
+        UNLESS | UNTIL => Ask::HoldsNot,
         _ => Ask::AtEof,
     }
 }
@@ -47,18 +46,16 @@ fn is_group(w: &[u32], end: usize, j: usize) -> bool
 }
 
 // Where AGP leads: out of the innermost group and what it is the body of; where there is none, to the next line end.
-pub fn leave_to(w: &[u32], end: usize, next: usize, depth: usize) -> Control
+pub fn leave_to(w: &[u32], end: usize, next: usize, depth: usize) -> Point
     requires { (s : List ℕ) × (items : List Item) × (frames : List Frame) × InFrames s w.now end next depth depth items frames }
     ensures { LeadsOut w.now end next depth result }
 {
-    let mut d = depth;
-    while 0 < d {
-        d -= 1;
+    for d in (0..depth).rev() {
         if is_group(w, end, end + d) {
-            return stand(SKIPPING, next, d, depth - d);
+            return stand(Mode::Skipping(depth - d), next, d);
         }
     }
-    stand(LEAVING, next, 0, 0)
+    stand(Mode::Leaving, next, 0)
 }
 
 // At the opener at `at`, whose body starts at `next`.
@@ -67,27 +64,32 @@ pub fn start_body(w: &mut [u32], end: usize, at: usize, next: usize, depth: usiz
     ensures { StartsBody w.old w.new end at next depth result }
 {
     let kind = kind_of(w, at);
-    let way = way_of(kind);
     let place = place_of(w, at);
-    let yes = stand(RUNNING, next, depth + 1, 0);
-    if way == COUNTING {
-        let n = times_at(w, at);
-        if n == 0 {
-            return Step::On(stand(SKIPPING, next, depth, 1));
+    let yes = stand(Mode::Running, next, depth + 1);
+    match way_of(kind) {
+        Way::Counting => {
+            let n = times_at(w, at);
+            if n > 0 {
+                push(w, end, depth, at, n - 1);
+                return wants(Ask::Round, place, at, yes, yes);
+            }
+            Step::On(stand(Mode::Skipping(1), next, depth))
         }
-        push(w, end, depth, at, n - 1);
-        return wants(Ask::Round, place, at, yes, yes);
+        Way::Branching => {
+            push(w, end, depth, at, 0);
+            let no = stand(Mode::Failing(1), next, depth);
+            wants(test_of(kind), place, at, yes, no)
+        }
+        Way::Looping => {
+            push(w, end, depth, at, 0);
+            let no = stand(Mode::Skipping(1), next, depth);
+            wants(test_of(kind), place, at, yes, no)
+        }
+        _ => {
+            push(w, end, depth, at, 0);
+            wants(Ask::Round, place, at, yes, yes)
+        }
     }
-    push(w, end, depth, at, 0);
-    if way == BRANCHING {
-        let no = stand(FAILING, next, depth, 1);
-        return wants(test_of(kind), place, at, yes, no);
-    }
-    if way == LOOPING {
-        let no = stand(SKIPPING, next, depth, 1);
-        return wants(test_of(kind), place, at, yes, no);
-    }
-    wants(Ask::Round, place, at, yes, yes)
 }
 
 // At the close of the innermost of `depth` bodies; `next` is after it.
@@ -99,24 +101,21 @@ pub fn end_body(w: &mut [u32], end: usize, next: usize, depth: usize) -> Step
     let word = w[j];
     let item = (word % 65536) as usize;
     let kind = kind_of(w, item);
-    let way = way_of(kind);
-    let out = stand(RUNNING, next, depth - 1, 0);
+    let out = stand(Mode::Running, next, depth - 1);
     let start = end_of(w, item, kind);
-    let again = stand(RUNNING, start, depth, 0);
+    let again = stand(Mode::Running, start, depth);
     let place = place_of(w, item);
-    if way == COUNTING {
-        let left = word / 65536;
-        if left == 0 {
-            return Step::On(out);
+    match way_of(kind) {
+        Way::Counting => {
+            let left = word / 65536;
+            if left == 0 {
+                return Step::On(out);
+            }
+            w[j] = word - 65536;
+            wants(Ask::Round, place, item, again, again)
         }
-        w[j] = word - 65536;
-        return wants(Ask::Round, place, item, again, again);
+        Way::Repeating => wants(Ask::Round, place, item, again, again),
+        Way::Looping => wants(test_of(kind), place, item, again, out),
+        _ => Step::On(out),
     }
-    if way == REPEATING {
-        return wants(Ask::Round, place, item, again, again);
-    }
-    if way == LOOPING {
-        return wants(test_of(kind), place, item, again, out);
-    }
-    Step::On(out)
 }

@@ -5,36 +5,41 @@ mod bodies;
 
 ghost use Rattle.std.specs.Prelude.{◌≡◌, cond, List, ℕ, ◌+◌, ◌<◌, ◌≤◌, length};
 ghost use Rattle.definitions.specs.Control.{Item, Frame, Ctl};
-ghost use Rattle.control.specs.Shown.{ItemsFrom, InFrames, Runs, ShowsCtl, stand_at, wanted_at, look_by, begin_at};
-ghost use Rattle.control.specs.Answers.{SkipsItem, FailsItem, PassesItem, RunsItem, StepsFrom, LooksFrom, PullsFrom};
+ghost use Rattle.control.specs.Shown.{ItemsFrom, InFrames, Runs, ShowsPoint, ShowsCtl, passed, stand_at, wants_at, begin_by, look_by, begin_at};
+ghost use Rattle.control.specs.Answers.{SkipsItem, FailsItem, PassesItem, RunsItem, StepsFrom, LooksFrom, PullsItems, PullsFrom};
 
 use bodies::{end_body, leave_to, push, start_body};
-use items::ends::{OPENER, SEARCH, SIMPLE, here};
+use items::ends::{Class, here};
 use items::heads::{kind_of, place_of};
 use items::kinds;
-use items::kinds::{AGP, BRACKET, CLOSE, ELSE, LINE_END};
 
-// How the run stands: at an item; to go on after the `count`th close; at the ELSE, or after the close, of a test that failed, `count` bodies deep;
-// after the next line end; in the search of the item `item`, which has passed `lines` lines.
-pub const RUNNING: u32 = 0;
-
-pub const SKIPPING: u32 = 1;
-
-pub const FAILING: u32 = 2;
-
-pub const LEAVING: u32 = 3;
-
-pub const SEEKING: u32 = 4;
-
-// Where the run stands: how, the index of the next item, how many bodies are open, and what the way of standing needs.
+// How the run stands among the items: at an item; to go on after that many closes; at the ELSE, or after the close, of a test that failed, that many
+// bodies deep; after the next line end.
 #[derive(Clone, Copy)]
-pub struct Control {
-    pub mode: u32,
+pub enum Mode {
+    Running,
+    Skipping(usize),
+    Failing(usize),
+    Leaving,
+}
+
+// A place among the items: how the run stands, the index of the next item, and how many bodies are open.
+#[derive(Clone, Copy)]
+pub struct Point {
+    pub mode: Mode,
     pub at: usize,
     pub depth: usize,
-    pub count: usize,
-    pub item: usize,
-    pub lines: usize,
+}
+
+// Where the run stands: among the items; or in the search of the item `item`, which has passed `lines` lines and goes on at `to`.
+#[derive(Clone, Copy)]
+pub enum Control {
+    Items(Point),
+    Seeking {
+        item: usize,
+        lines: usize,
+        to: Point,
+    },
 }
 
 // What a step asks of the editor.
@@ -69,106 +74,101 @@ pub struct Wanted {
     pub no: Control,
 }
 
-#[derive(Clone, Copy)]
-pub enum Next {
-    Finished,
-    Want(Wanted),
-}
-
-// What an item leads to: another point without a step between, or what comes next.
+// What an item leads to: another point without a step between, or what comes next: the step that is wanted, or none at the end.
 #[derive(Clone, Copy)]
 pub enum Step {
-    On(Control),
-    Gives(Next),
+    On(Point),
+    Gives(Option<Wanted>),
 }
 
-// Where the run stands, outside a search.
-fn stand(mode: u32, at: usize, depth: usize, count: usize) -> Control
-    ensures { result ≡ stand_at mode at depth count }
+// Where the run stands among the items.
+fn stand(mode: Mode, at: usize, depth: usize) -> Point
+    ensures { result ≡ stand_at mode at depth }
 {
-    Control {
-        mode,
-        at,
-        depth,
-        count,
-        item: 0,
-        lines: 0,
-    }
+    Point { mode, at, depth }
 }
 
-// A step is wanted.
-fn wants(what: Ask, place: usize, item: usize, yes: Control, no: Control) -> Step
-    ensures { result ≡ Step.Gives (Next.Want (wanted_at what place item yes no)) }
+// A step is wanted, outside a search.
+fn wants(what: Ask, place: usize, item: usize, yes: Point, no: Point) -> Step
+    ensures { result ≡ wants_at what place item yes no }
 {
-    Step::Gives(Next::Want(Wanted {
+    Step::Gives(Some(Wanted {
         what,
         place,
         item,
         lines: 0,
-        yes,
-        no,
+        yes: Control::Items(yes),
+        no: Control::Items(no),
     }))
 }
 
 // Passes the item at `at`, to go on after the `count`th close.
-fn skip_item(w: &[u32], at: usize, depth: usize, count: usize) -> Control
+fn skip_item(w: &[u32], at: usize, depth: usize, count: usize) -> Point
     requires { ((s : List ℕ) × (end : ℕ) × (items : List Item) × (frames : List Frame) × InFrames s w.now end at depth (depth + count) items frames × (at < end)) × (1 ≤ count) }
     ensures { SkipsItem w.now at depth count result }
 {
     let seen = here(w, at);
-    let class = seen.class;
     let next = seen.next;
-    if class == OPENER {
-        return stand(SKIPPING, next, depth, count + 1);
-    }
-    if class == CLOSE {
-        if count == 1 {
-            return stand(RUNNING, next, depth, 0);
+    match seen.class {
+        Class::Opens => stand(Mode::Skipping(count + 1), next, depth),
+        Class::Close => {
+            if count == 1 {
+                return stand(Mode::Running, next, depth);
+            }
+            stand(Mode::Skipping(count - 1), next, depth)
         }
-        return stand(SKIPPING, next, depth, count - 1);
+        _ => stand(Mode::Skipping(count), next, depth),
     }
-    stand(SKIPPING, next, depth, count)
 }
 
 // Passes the item at `at`, to go on at the ELSE, or after the close, of a test that failed, `count` bodies deep.
-fn else_item(w: &mut [u32], end: usize, at: usize, depth: usize, count: usize) -> Control
+fn else_item(w: &mut [u32], end: usize, at: usize, depth: usize, count: usize) -> Point
     requires { ((s : List ℕ) × (items : List Item) × (frames : List Frame) × InFrames s w.old end at depth (depth + count) items frames) × (at < end) × (1 ≤ count) }
     ensures { FailsItem w.old w.new end at depth count result }
 {
     let seen = here(w, at);
-    let class = seen.class;
     let next = seen.next;
-    if class == OPENER {
-        return stand(FAILING, next, depth, count + 1);
-    }
-    if class == CLOSE {
-        if count == 1 {
-            return stand(RUNNING, next, depth, 0);
+    match seen.class {
+        Class::Opens => stand(Mode::Failing(count + 1), next, depth),
+        Class::Close => {
+            if count == 1 {
+                return stand(Mode::Running, next, depth);
+            }
+            stand(Mode::Failing(count - 1), next, depth)
         }
-        return stand(FAILING, next, depth, count - 1);
-    }
-    if class == ELSE {
-        if count == 1 {
-            push(w, end, depth, at, 0);
-            return stand(RUNNING, next, depth + 1, 0);
+        Class::Else => {
+            if count == 1 {
+                push(w, end, depth, at, 0);
+                return stand(Mode::Running, next, depth + 1);
+            }
+            stand(Mode::Failing(count), next, depth)
         }
-        return stand(FAILING, next, depth, count);
+        _ => stand(Mode::Failing(count), next, depth),
     }
-    stand(FAILING, next, depth, count)
 }
 
 // Passes the item at `at`, to go on after the next line end.
-fn line_item(w: &[u32], at: usize) -> Control
+fn line_item(w: &[u32], at: usize) -> Point
     requires { (s : List ℕ) × (end : ℕ) × (d : ℕ) × (items : List Item) × ItemsFrom s w.now end at d items × (at < end) }
     ensures { PassesItem w.now at result }
 {
     let seen = here(w, at);
-    let class = seen.class;
     let next = seen.next;
-    if class == LINE_END {
-        return stand(RUNNING, next, 0, 0);
+    match seen.class {
+        Class::LineEnd => stand(Mode::Running, next, 0),
+        _ => stand(Mode::Leaving, next, 0),
     }
-    stand(LEAVING, next, 0, 0)
+}
+
+// What begins a search of this kind.
+#[tactic(auto, unfolding(crate::specs::Shown::begin_by))]
+fn begin_of(kind: u32) -> Ask
+    ensures { result ≡ begin_by kind }
+{
+    match kind {
+        kinds::FIND_BACK => Ask::BeginBack,
+        _ => Ask::Begin,
+    }
 }
 
 // The step that begins the search at `at`.
@@ -176,19 +176,19 @@ fn begin_search(w: &[u32], at: usize, next: usize, depth: usize) -> Step
     requires { at < length w.now }
     ensures { result ≡ begin_at w.now at next depth }
 {
-    let on = Control {
-        mode: SEEKING,
-        at: next,
-        depth,
-        count: 0,
+    let on = Control::Seeking {
         item: at,
         lines: 0,
+        to: stand(Mode::Running, next, depth),
     };
-    let place = place_of(w, at);
-    if kind_of(w, at) == kinds::FIND_BACK {
-        return wants(Ask::BeginBack, place, at, on, on);
-    }
-    wants(Ask::Begin, place, at, on, on)
+    Step::Gives(Some(Wanted {
+        what: begin_of(kind_of(w, at)),
+        place: place_of(w, at),
+        item: at,
+        lines: 0,
+        yes: on,
+        no: on,
+    }))
 }
 
 // Runs the item at `at`.
@@ -197,56 +197,49 @@ fn run_item(w: &mut [u32], end: usize, at: usize, depth: usize) -> Step
     ensures { RunsItem w.old w.new end at depth result }
 {
     let seen = here(w, at);
-    let class = seen.class;
     let next = seen.next;
-    if class == OPENER {
-        return start_body(w, end, at, next, depth);
+    match seen.class {
+        Class::Opens => start_body(w, end, at, next, depth),
+        Class::Seeks => begin_search(w, at, next, depth),
+        Class::Simple => {
+            let on = stand(Mode::Running, next, depth);
+            wants(Ask::Command, place_of(w, at), at, on, on)
+        }
+        Class::Agp => {
+            let on = leave_to(w, end, next, depth);
+            wants(Ask::Round, place_of(w, at), at, on, on)
+        }
+        Class::LineEnd => Step::On(stand(Mode::Running, next, depth)),
+        // The others stand in bodies: outside all of them the run is at its end.
+        _ => {
+            if depth == 0 {
+                return Step::Gives(None);
+            }
+            match seen.class {
+                Class::Bracket => Step::On(stand(Mode::Running, next, depth)),
+                Class::Else => Step::On(stand(Mode::Skipping(1), next, depth - 1)),
+                _ => end_body(w, end, next, depth),
+            }
+        }
     }
-    if class == SEARCH {
-        return begin_search(w, at, next, depth);
-    }
-    if class == SIMPLE {
-        let on = stand(RUNNING, next, depth, 0);
-        return wants(Ask::Command, place_of(w, at), at, on, on);
-    }
-    if class == AGP {
-        let on = leave_to(w, end, next, depth);
-        return wants(Ask::Round, place_of(w, at), at, on, on);
-    }
-    if class == LINE_END {
-        return Step::On(stand(RUNNING, next, depth, 0));
-    }
-    if depth == 0 {
-        return Step::Gives(Next::Finished);
-    }
-    if class == BRACKET {
-        return Step::On(stand(RUNNING, next, depth, 0));
-    }
-    if class == ELSE {
-        return Step::On(stand(SKIPPING, next, depth - 1, 1));
-    }
-    end_body(w, end, next, depth)
 }
 
 // One item, by how the run stands.
-fn item_step(w: &mut [u32], end: usize, c: Control) -> Step
-    requires { ((s : List ℕ) × (from : Ctl) × ShowsCtl s w.old end c from) × (c.mode < 4) × (c.at < end) }
+fn item_step(w: &mut [u32], end: usize, c: Point) -> Step
+    requires { ((s : List ℕ) × (from : Ctl) × ShowsPoint s w.old end c from) × (c.at < end) }
     ensures { StepsFrom w.old w.new end c result }
 {
     let mode = c.mode;
-    if mode == RUNNING {
-        return run_item(w, end, c.at, c.depth);
+    match mode {
+        Mode::Running => run_item(w, end, c.at, c.depth),
+        Mode::Skipping(count) => Step::On(skip_item(w, c.at, c.depth, count)),
+        Mode::Failing(count) => Step::On(else_item(w, end, c.at, c.depth, count)),
+        Mode::Leaving => Step::On(line_item(w, c.at)),
     }
-    if mode == SKIPPING {
-        return Step::On(skip_item(w, c.at, c.depth, c.count));
-    }
-    if mode == FAILING {
-        return Step::On(else_item(w, end, c.at, c.depth, c.count));
-    }
-    Step::On(line_item(w, c.at))
 }
 
 // What tests a line in a search of this kind.
+#[tactic(auto, unfolding(crate::specs::Shown::look_by))]
 fn look_of(kind: u32) -> Ask
     ensures { result ≡ look_by kind }
 {
@@ -257,42 +250,37 @@ fn look_of(kind: u32) -> Ask
     }
 }
 
-// The test of a line in a search; `lines` lines have been passed.
-fn look(w: &[u32], c: Control) -> Next
-    requires { ((s : List ℕ) × (end : ℕ) × (from : Ctl) × ShowsCtl s w.now end c from) × (c.mode ≡ 4) × (c.lines < 18446744073709551615) }
-    ensures { LooksFrom w.now c result }
+// The test of a line in a search that has passed `lines` lines.
+fn look(w: &[u32], item: usize, lines: usize, to: Point) -> Wanted
+    requires { ((s : List ℕ) × (end : ℕ) × (from : Ctl) × ShowsCtl s w.now end (Control.Seeking item lines to) from) × (lines < 18446744073709551615) }
+    ensures { LooksFrom w.now item lines to result }
 {
-    let item = c.item;
-    let lines = c.lines;
-    let yes = stand(RUNNING, c.at, c.depth, 0);
-    let mut no = c;
-    no.lines = lines + 1;
-    Next::Want(Wanted {
+    Wanted {
         what: look_of(kind_of(w, item)),
         place: place_of(w, item),
         item,
         lines,
-        yes,
-        no,
-    })
+        yes: Control::Items(to),
+        no: Control::Seeking {
+            item,
+            lines: lines + 1,
+            to,
+        },
+    }
 }
 
 // The start of a run.
 pub fn start() -> Control
-    ensures { result ≡ stand_at 0 0 0 0 }
+    ensures { result ≡ Control.Items (stand_at Mode.Running 0 0) }
 {
-    stand(RUNNING, 0, 0, 0)
+    Control::Items(stand(Mode::Running, 0, 0))
 }
 
-// What comes next from where the run stands. The words below `end` stay, and those of the reserve.
-pub fn pull(w: &mut [u32], end: usize, c: Control) -> Next
-    requires { ((s : List ℕ) × (from : Ctl) × ShowsCtl s w.old end c from) × (c.lines < 18446744073709551615) }
-    ensures { PullsFrom w.old w.new end c result }
+// What comes next from a place among the items.
+fn pull_items(w: &mut [u32], end: usize, c: Point) -> Option<Wanted>
+    requires { (s : List ℕ) × (from : Ctl) × ShowsPoint s w.old end c from }
+    ensures { PullsItems w.old w.new end c result }
 {
-    let mode = c.mode;
-    if mode == SEEKING {
-        return look(w, c);
-    }
     let mut point = c;
     while point.at < end {
         let step = item_step(w, end, point);
@@ -305,15 +293,23 @@ pub fn pull(w: &mut [u32], end: usize, c: Control) -> Next
             }
         }
     }
-    Next::Finished
+    None
+}
+
+// What comes next from where the run stands: the step that is wanted, or none at the end. The words below `end` stay, and those of the reserve.
+pub fn pull(w: &mut [u32], end: usize, c: Control) -> Option<Wanted>
+    requires { ((s : List ℕ) × (from : Ctl) × ShowsCtl s w.old end c from) × (passed c < 18446744073709551615) }
+    ensures { PullsFrom w.old w.new end c result }
+{
+    match c {
+        Control::Items(point) => pull_items(w, end, point),
+        Control::Seeking { item, lines, to } => Some(look(w, item, lines, to)),
+    }
 }
 
 // How the run goes on after the answer.
 pub fn go_on(x: Wanted, answer: bool) -> Control
     ensures { result ≡ cond answer x.yes x.no }
 {
-    if answer {
-        return x.yes;
-    }
-    x.no
+    if answer { x.yes } else { x.no }
 }

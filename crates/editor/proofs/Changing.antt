@@ -19,7 +19,9 @@ use Rattle.theorems.specs.RecordLaws.{sources-append}
 use Rattle.theorems.specs.ReadLines.{seen_all}
 use Rattle.editor.specs.Shows.{Holds, Stays, Shows, lent, Answered, Puts, strike_over, raised, line_at}
 use Rattle.editor.specs.declared.State.{State}
-use Rattle.editor.specs.declared.Moved.TheVariants.{On, Stop}
+use Rattle.std.specs.Prelude.{Ok}
+use Rattle.editor.specs.Stops.{stopping}
+use Rattle.editor.specs.declared.Stop.TheVariants.{JournalFull}
 use Rattle.editor.proofs.Records.{sourced, sources-cons, sources-nil}
 use Rattle.editor.proofs.Reading.{reach_of, shows-anew, journal-is}
 use Rattle.editor.proofs.Reaching.{land_read, landing_all}
@@ -36,15 +38,15 @@ shows-fits (ed b a p) t h = omega (arith, ap journal_length (journal-is b a p t)
 
 module _ (c : Carried) (xs : List Editing) (e : Ed) (t : Tape) (j k : List ℕ) (s : State) where
   -- the changes are made
-  pub edited-on : length k ≡ length j → Shows k s (edits xs e) t → Answered k (On s) (finish (lent j) c (gave (changes xs) e) t)
+  pub edited-on : length k ≡ length j → Shows k s (edits xs e) t → Answered k (Ok s) (finish (lent j) c (gave (changes xs) e) t)
   edited-on q h = finish-edited c xs e t j k s (omega (arith, shows-fits (edits xs e) t h)) h
 
   -- THE LAW OF CHANGES: a command that is nothing but changes
-  pub changes-on : length k ≡ length j → Shows k s (edits xs e) t → Answered k (On s) (perform (lent j) (gives (changes xs)) (state e c) t)
+  pub changes-on : length k ≡ length j → Shows k s (edits xs e) t → Answered k (Ok s) (perform (lent j) (gives (changes xs)) (state e c) t)
   changes-on q h = rw (perform-changes c xs e t (lent j)) (edited-on q h)
 
   -- there is no room for them
-  pub changes-full : length j < journal_length (journal (edits xs e) t) → Shows k s e t → Answered k (Stop 26 s) (perform (lent j) (gives (changes xs)) (state e c) t)
+  pub changes-full : length j < journal_length (journal (edits xs e) t) → Shows k s e t → Answered k (stopping JournalFull s) (perform (lent j) (gives (changes xs)) (state e c) t)
   changes-full full h = rw (perform-changes c xs e t (lent j)) (finish-full c xs e t j k s full h)
 
 -- ---- lines put before the current one
@@ -65,19 +67,19 @@ put-journal ls (ed b a p) t h =
 
 -- I and IS where the current line is
 module _ {j : List ℕ} {st : State} (c : Carried) (ls : List Line) (e : Ed) (t : Tape) (h : Shows j st e t) where
-  pub put_on : {k : List ℕ} {s : State} → length k ≡ length j → Puts ls j st k s → Answered k (On s) (perform (lent j) (gives (changes (put ls ∷ []))) (state e c) t)
+  pub put_on : {k : List ℕ} {s : State} → length k ≡ length j → Puts ls j st k s → Answered k (Ok s) (perform (lent j) (gives (changes (put ls ∷ []))) (state e c) t)
   unfolding edits
   put_on {k} {s} q puts = changes-on c (put ls ∷ []) e t j k s q (put-shows ls e t h puts)
 
-  pub put_full : st.back - st.front < journal_length (map inserted ls) → Answered j (Stop 26 st) (perform (lent j) (gives (changes (put ls ∷ []))) (state e c) t)
+  pub put_full : st.back - st.front < journal_length (map inserted ls) → Answered j (stopping JournalFull st) (perform (lent j) (gives (changes (put ls ∷ []))) (state e c) t)
   unfolding edits
   put_full full = changes-full c (put ls ∷ []) e t j j st (omega (arith, put-journal ls e t h)) h
 
-  pub insert-on : {k : List ℕ} {s : State} → length k ≡ length j → Puts ls j st k s → Answered k (On s) (step (lent j) (Op.insert none ls) (state e c) t)
+  pub insert-on : {k : List ℕ} {s : State} → length k ≡ length j → Puts ls j st k s → Answered k (Ok s) (step (lent j) (Op.insert none ls) (state e c) t)
   unfolding step program
   insert-on q puts = put_on q puts
 
-  pub insert-full : st.back - st.front < journal_length (map inserted ls) → Answered j (Stop 26 st) (step (lent j) (Op.insert none ls) (state e c) t)
+  pub insert-full : st.back - st.front < journal_length (map inserted ls) → Answered j (stopping JournalFull st) (step (lent j) (Op.insert none ls) (state e c) t)
   unfolding step program
   insert-full full = put_full full
 

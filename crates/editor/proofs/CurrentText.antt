@@ -22,8 +22,8 @@ use Rattle.editor.specs.Records.{enc, Good, old_bytes, LineIn}
 use Rattle.editor.specs.Shows.{Shows, TextAt, lent, Performs}
 use Rattle.editor.specs.Current.{current_line, PointIn, TableOf, ShowsOf, ShownOf, CopiesLine, PerformsOf}
 use Rattle.editor.specs.declared.State.{State}
-use Rattle.editor.specs.declared.Moved.{Moved}
-use Rattle.editor.specs.declared.Moved.TheVariants.{Stop}
+use Rattle.editor.specs.Stops.{Moved, stopping}
+use Rattle.editor.specs.declared.Stop.TheVariants.{AtEof}
 use Rattle.editor.proofs.Records.{text-place, line-text, line-short, old-bytes-nil, old-bytes-reverse}
 use Rattle.editor.proofs.Held.{held-mark}
 use Rattle.editor.proofs.Reading.{journal-is}
@@ -130,9 +130,9 @@ copies-line text d k is built e t h =
     (ap length q, built ∙ rw (none, take_all (length text) text (omega arith)) (ap (λ (l : List ℕ). l ++ drop (length text) d) q))
 
 -- IC at EOF
-pub copy-eof : {table j : List ℕ} {st : State} → length j ≤ st.back → PerformsOf table j st Op.copy j (Stop 20 st)
+pub copy-eof : {table j : List ℕ} {st : State} → length j ≤ st.back → PerformsOf table j st Op.copy j (stopping AtEof st)
 unfolding step program stop_number
-copy-eof {j = j} end e c t h = perform-no-line (lent j) c n20 (λ x. gives (changes (put (x.0 ∷ []) ∷ []))) e t h.shows 20 refl end
+copy-eof {j = j} end e c t h = perform-no-line (lent j) c n20 (λ x. gives (changes (put (x.0 ∷ []) ∷ []))) e t h.shows AtEof refl end
 
 -- IC elsewhere: the insertion of the current line's text, which is copied to the start of `line`
 module _ {table j : List ℕ} {st : State} (d line : List ℕ) (n : ℕ) (copied : CopiesLine table j st d line n) where

@@ -21,8 +21,10 @@ use Rattle.gap.proofs.Laws.{down-parts}
 use Rattle.editor.specs.Records.{enc_all, enc_before}
 use Rattle.editor.specs.Shows.{Holds, Stays, Shows, rest_of, Came, Answered, PassesOver, PassesBack, Lands, Walks, to_source, raised, at_point, line_at, target_numbered}
 use Rattle.editor.specs.declared.State.{State}
-use Rattle.editor.specs.declared.Moved.{Moved}
-use Rattle.editor.specs.declared.Moved.TheVariants.{On, Stop}
+use Rattle.std.specs.Prelude.{Ok}
+use Rattle.editor.specs.Stops.{Moved, numbered, stopping}
+use Rattle.editor.specs.declared.Stop.TheVariants.{AtEof, MetEof, NoPrevious, LineDeleted}
+use Rattle.editor.specs.declared.Stop.{Stop}
 use Rattle.editor.proofs.Records.{sources-cons, sources-nil, old-bytes-nil, old-bytes-reverse, all-before, goods-reverse}
 use Rattle.editor.proofs.Held.{holds_as, holds-lists, held-length, held_first, held_none, held_start, held-mark, placed_by}
 use Rattle.editor.proofs.Reading.{reach_of, shown-reach, shows-at, shows-of, shows-anew, reads-line, reads-eof, line_read, eof-far, eof-read}
@@ -35,10 +37,10 @@ use Rattle.editor.proofs.Walking.{Way, way_back, back_at}
 -- it lands on a live record
 pub reached-on : {k : List ℕ} {s : State} (g : Given) (c : Carried) (x : Move) (e : Ed) (t : Tape) (whole : Got Ed) → MovesAlike (map kept (rest_lines t)) (moved x e) whole
     → (f d : List Record) → whole ≡ got (ed f d 0) → Holds k s f d → s.furthest ≡ reach_of s.lines t → s.p ≡ 0
-    → Came k (On s) (runs g c (go x) e t)
+    → Came k (Ok s) (runs g c (go x) e t)
 reached-on {k} {s} g c x e t whole w f d q h far p = by (moved x e) whole w refl q
   where
-    by : (part whole : Got Ed) → MovesAlike (map kept (rest_lines t)) part whole → moved x e ≡ part → whole ≡ got (ed f d 0) → Came k (On s) (runs g c (go x) e t)
+    by : (part whole : Got Ed) → MovesAlike (map kept (rest_lines t)) part whole → moved x e ≡ part → whole ≡ got (ed f d 0) → Came k (Ok s) (runs g c (go x) e t)
     by _ _ (stops n) is q = absurd (let z : ◌≡◌ {A = ℕ} 0 1 = cc in omega arith)
     by _ _ (lands_on f' r d' live) is q =
         let one : f ≡ f' = cc in
@@ -47,10 +49,10 @@ reached-on {k} {s} g c x e t whole w f d q h far p = by (moved x e) whole w refl
 
 -- it stops, and the buffer shows the text as it was
 pub reached-stop : {k : List ℕ} {s : State} (g : Given) (c : Carried) (x : Move) (e : Ed) (t : Tape) (whole : Got Ed) → MovesAlike (map kept (rest_lines t)) (moved x e) whole
-    → (i : ℕ) (n : StopNumber) → whole ≡ stop n → i ≡ stop_number n → Shows k s e t → Came k (Stop i s) (runs g c (go x) e t)
+    → (i : Stop) (n : StopNumber) → whole ≡ stop n → numbered i ≡ stop_number n → Shows k s e t → Came k (stopping i s) (runs g c (go x) e t)
 reached-stop {k} {s} g c x e t whole w i n q number h = by (moved x e) whole w refl q
   where
-    by : (part whole : Got Ed) → MovesAlike (map kept (rest_lines t)) part whole → moved x e ≡ part → whole ≡ stop n → Came k (Stop i s) (runs g c (go x) e t)
+    by : (part whole : Got Ed) → MovesAlike (map kept (rest_lines t)) part whole → moved x e ≡ part → whole ≡ stop n → Came k (stopping i s) (runs g c (go x) e t)
     by _ _ (stops m) is q =
         let same : stop m ≡ stop n = q in
         go-stop g c x e t i (is ∙ same) number h
@@ -82,7 +84,7 @@ landing-shows {k} {l} {s} b a t total far held p is =
 
 -- over the current record and the deleted ones after it
 pub ahead-on : {j k i : List ℕ} {st s l m : State} (g : Given) (e : Ed) (t : Tape) → Shows j st e t → st.back < length j → PassesOver j st k s → Lands k s i l
-    → ((b : List Record) (a : List Record) → Holds i l b a → m ≡ raised l (line_at b a)) → Came i (On m) (runs g no_globals go_ahead e t)
+    → ((b : List Record) (a : List Record) → Holds i l b a → m ≡ raised l (line_at b a)) → Came i (Ok m) (runs g no_globals go_ahead e t)
 unfolding before_of after_of
 ahead-on g (ed b [] p) t h more passes landed reads = absurd (shown-record b p t h more)
 ahead-on {j} {k} {i} {st} {s} {l} {m} g (ed b (r ∷ a) p) t h more passes landed reads =
@@ -101,7 +103,7 @@ dead_goes w more moves dead = way_back w more moves (λ r c d was h. back-over c
 
 -- a live one is the one that is looked for
 pub back_on : {j k i : List ℕ} {st s u : State} (g : Given) (c : Carried) (e : Ed) (t : Tape) → Shows j st e t → Way go_back k s (before_of e) (rest_of e t) → 0 < s.front
-    → PassesBack k s i u → (get_or i u.back 0 ≡ 45 → ⊥) → Stays st u → Came i (On (at_point u 0)) (runs g c (go Move.back) e t)
+    → PassesBack k s i u → (get_or i u.back 0 ≡ 45 → ⊥) → Stays st u → Came i (Ok (at_point u 0)) (runs g c (go Move.back) e t)
 unfolding before_of after_of moved
 back_on {u = u} g c (ed b a p) t h w more moves live stays =
     let x : (f : List Record) × (r : Record) × (d : List Record) × Holds _ u f (r ∷ d) × (go_back (r ∷ f) d ≡ go_back b (a ++ map kept (rest_lines t))) = back_at w more moves in
@@ -111,12 +113,12 @@ back_on {u = u} g c (ed b a p) t h w more moves live stays =
 
 -- there is none
 pub back-stop : {j k : List ℕ} {st s : State} (g : Given) (c : Carried) (e : Ed) (t : Tape) → Shows j st e t → Way go_back k s (before_of e) (rest_of e t) → s.front ≡ 0
-    → Came j (Stop 22 st) (runs g c (go Move.back) e t)
+    → Came j (stopping NoPrevious st) (runs g c (go Move.back) e t)
 unfolding before_of after_of moved stop_number
 back-stop g c (ed b a p) t h w none =
     let whole : go_back b (a ++ map kept (rest_lines t)) ≡ stop n22 =
     sym w.way ∙ ap (λ (z : List Record). go_back z w.back) (held_start w.holds none) ∙ back_none w.back in
-    reached-stop g c Move.back (ed b a p) t (go_back b (a ++ map kept (rest_lines t))) (back-reached (map kept (rest_lines t)) b a) 22 n22 whole refl h
+    reached-stop g c Move.back (ed b a p) t (go_back b (a ++ map kept (rest_lines t))) (back-reached (map kept (rest_lines t)) b a) NoPrevious n22 whole refl h
 
 -- ---- to source line n
 
@@ -143,10 +145,10 @@ module _ {j k : List ℕ} {s u : State} (g : Given) (c : Carried) (n : ℕ) (pos
   unfolding moved records
   reached = locate-reached U (n - 1) [] (reverse_aux b a) (line_read n (ed b a p) t h pos far)
 
-  line-eof-at : length k ≤ u.back → Came j (Stop 21 s) (runs g c (go (to (Target.line n))) (ed b a p) t)
+  line-eof-at : length k ≤ u.back → Came j (stopping MetEof s) (runs g c (go (to (Target.line n))) (ed b a p) t)
   unfolding stop_number
   line-eof-at end =
-      reached-stop g c (to (Target.line n)) (ed b a p) t _ reached 21 n21 (whole_is ∙ ap (judged F) (held_none held end) ∙ judged-none F) refl h
+      reached-stop g c (to (Target.line n)) (ed b a p) t _ reached MetEof n21 (whole_is ∙ ap (judged F) (held_none held end) ∙ judged-none F) refl h
 
   module _ (more : u.back < length k) where
     first : (r : Record) × (d : List Record) × (D ≡ r ∷ d)
@@ -155,13 +157,13 @@ module _ {j k : List ℕ} {s u : State} (g : Given) (c : Carried) (n : ℕ) (pos
     first-held : Holds k u F (first.0 ∷ first.1)
     first-held = holds-lists refl first.2 held
 
-    line-dead-at : get_or k u.back 0 ≡ 45 → Came j (Stop 23 s) (runs g c (go (to (Target.line n))) (ed b a p) t)
+    line-dead-at : get_or k u.back 0 ≡ 45 → Came j (stopping LineDeleted s) (runs g c (go (to (Target.line n))) (ed b a p) t)
     unfolding stop_number
     line-dead-at dead =
-        reached-stop g c (to (Target.line n)) (ed b a p) t _ reached 23 n23
+        reached-stop g c (to (Target.line n)) (ed b a p) t _ reached LineDeleted n23
         (whole_is ∙ ap (judged F) first.2 ∙ judged-dead F first.0 first.1 (sym (held-mark first-held) ∙ dead)) refl h
 
-    line-live-at : (get_or k u.back 0 ≡ 45 → ⊥) → Came k (On (at_point u 0)) (runs g c (go (to (Target.line n))) (ed b a p) t)
+    line-live-at : (get_or k u.back 0 ≡ 45 → ⊥) → Came k (Ok (at_point u 0)) (runs g c (go (to (Target.line n))) (ed b a p) t)
     line-live-at live =
         reached-on g c (to (Target.line n)) (ed b a p) t _ reached F (first.0 ∷ first.1)
         (whole_is ∙ ap (judged F) first.2 ∙ judged-live F first.0 first.1 (λ m. live (held-mark first-held ∙ m)))
@@ -181,14 +183,14 @@ line-then {j} {st} {s} g n e t k r h is f =
 
 module _ {j k : List ℕ} {st s u : State} (g : Given) (n : ℕ) (pos : 0 < n) (e : Ed) (t : Tape) (h : Shows j st e t) (is : s ≡ raised st n)
     (walks : Walks (to_source (n - 1)) j s k u) where
-  pub line-eof : length k ≤ u.back → Came j (Stop 21 s) (runs g no_globals (go_to (Target.line n)) e t)
-  line-eof end = line-then g n e t j (Stop 21 s) h is (λ b a p v w far. line-eof-at g no_globals n pos b a p v w far walks end)
+  pub line-eof : length k ≤ u.back → Came j (stopping MetEof s) (runs g no_globals (go_to (Target.line n)) e t)
+  line-eof end = line-then g n e t j (stopping MetEof s) h is (λ b a p v w far. line-eof-at g no_globals n pos b a p v w far walks end)
 
-  pub line_dead : u.back < length k → get_or k u.back 0 ≡ 45 → Came j (Stop 23 s) (runs g no_globals (go_to (Target.line n)) e t)
-  line_dead more dead = line-then g n e t j (Stop 23 s) h is (λ b a p v w far. line-dead-at g no_globals n pos b a p v w far walks more dead)
+  pub line_dead : u.back < length k → get_or k u.back 0 ≡ 45 → Came j (stopping LineDeleted s) (runs g no_globals (go_to (Target.line n)) e t)
+  line_dead more dead = line-then g n e t j (stopping LineDeleted s) h is (λ b a p v w far. line-dead-at g no_globals n pos b a p v w far walks more dead)
 
-  pub line-live : u.back < length k → (get_or k u.back 0 ≡ 45 → ⊥) → Came k (On (at_point u 0)) (runs g no_globals (go_to (Target.line n)) e t)
-  line-live more live = line-then g n e t k (On (at_point u 0)) h is (λ b a p v w far. line-live-at g no_globals n pos b a p v w far walks more live)
+  pub line-live : u.back < length k → (get_or k u.back 0 ≡ 45 → ⊥) → Came k (Ok (at_point u 0)) (runs g no_globals (go_to (Target.line n)) e t)
+  line-live more live = line-then g n e t k (Ok (at_point u 0)) h is (λ b a p v w far. line-live-at g no_globals n pos b a p v w far walks more live)
 
 -- ---- to EOF
 
@@ -221,7 +223,7 @@ eof-holds {j} {k} {st} {s} b a h q f e n l o z =
 eof-at : {j k : List ℕ} {st s : State} (g : Given) (c : Carried) (e : Ed) (t : Tape) → Shows j st e t → st.furthest ≡ st.lines + 1
     → k ≡ moved_down st.front st.back (length j - st.back) j
     → s.front ≡ st.front + (length j - st.back) → s.back ≡ st.back + (length j - st.back) → s.past ≡ st.lines → s.lines ≡ st.lines
-    → s.source ≡ st.size → s.size ≡ st.size → s.furthest ≡ st.furthest → s.p ≡ 0 → Came k (On s) (runs g c (go (to Target.eof)) e t)
+    → s.source ≡ st.size → s.size ≡ st.size → s.furthest ≡ st.furthest → s.p ≡ 0 → Came k (Ok s) (runs g c (go (to Target.eof)) e t)
 unfolding moved before_of after_of rest_lines reach_of
 eof-at {j} {k} {st} {s} g c (ed b a p) t h all q f b' n l o z far p' =
     let is : t ≡ ended = eof-read (ed b a p) t h all in
@@ -232,10 +234,10 @@ eof-at {j} {k} {st} {s} g c (ed b a p) t h all q f b' n l o z far p' =
 pub eof-on : {j k : List ℕ} {st r s : State} (g : Given) (e : Ed) (t : Tape) → Shows j st e t → r ≡ raised st (st.lines + 1)
     → k ≡ moved_down st.front st.back (length j - st.back) j
     → s.front ≡ st.front + (length j - st.back) → s.back ≡ st.back + (length j - st.back) → s.past ≡ st.lines → s.lines ≡ r.lines
-    → s.source ≡ st.size → s.size ≡ r.size → s.furthest ≡ r.furthest → s.p ≡ 0 → Came k (On s) (runs g no_globals (go_to Target.eof) e t)
+    → s.source ≡ st.size → s.size ≡ r.size → s.furthest ≡ r.furthest → s.p ≡ 0 → Came k (Ok s) (runs g no_globals (go_to Target.eof) e t)
 unfolding go_to ◌>>◌
 eof-on {j} {k} {st} {r} {s} g e t h is q f b n l o z far p =
-    then-on g no_globals (read_up_to Target.eof) (λ x. go (to Target.eof)) e t k (On s) (reads-eof g e t h)
+    then-on g no_globals (read_up_to Target.eof) (λ x. go (to Target.eof)) e t k (Ok s) (reads-eof g e t h)
     (λ v x u w. eof-at g no_globals x u w (eof-far e t h) q f b n (l ∙ ap (λ (y : State). y.lines) is) o (z ∙ ap (λ (y : State). y.size) is) (far ∙ ap (λ (y : State). y.furthest) is) p)
 
 -- ---- p
@@ -244,7 +246,7 @@ pub point-shows : {j : List ℕ} {st : State} (q : ℕ) (b a : List Record) (p :
 unfolding before_of after_of
 point-shows {st = st} q b a p t h = shows-anew (ed b a p) (ed b a q) t h (holds_as (placed_by st _ _) h.holds) refl refl refl h.grounded
 
-pub point-on : {j : List ℕ} {st : State} (g : Given) (c : Carried) (q : ℕ) (e : Ed) (t : Tape) → Shows j st e t → Came j (On (at_point st q)) (runs g c (go (Move.point_to q)) e t)
+pub point-on : {j : List ℕ} {st : State} (g : Given) (c : Carried) (q : ℕ) (e : Ed) (t : Tape) → Shows j st e t → Came j (Ok (at_point st q)) (runs g c (go (Move.point_to q)) e t)
 unfolding moved
 point-on g c q (ed b a p) t h = go_on g c (Move.point_to q) (ed b a p) t refl (point-shows q b a p t h)
 
@@ -252,7 +254,7 @@ here-runs : (g : Given) (c : Carried) (b a : List Record) (p : ℕ) (t : Tape) �
 unfolding go_to read_up_to go ◌>>◌ ◌>>=◌ runs bind read_to once_read once_moved moved
 here-runs g c b a p t = refl
 
-pub here_on : {j : List ℕ} {st : State} (g : Given) (c : Carried) (e : Ed) (t : Tape) → Shows j st e t → Came j (On (at_point st 0)) (runs g c (go_to Target.here) e t)
+pub here_on : {j : List ℕ} {st : State} (g : Given) (c : Carried) (e : Ed) (t : Tape) → Shows j st e t → Came j (Ok (at_point st 0)) (runs g c (go_to Target.here) e t)
 here_on g c (ed b a p) t h = came-on (here-runs g c b a p t) (point-shows 0 b a p t h)
 
 -- ---- to what M names, by its number
@@ -272,15 +274,15 @@ target-line n p q = rw (ne_eqb n 0 p, ne_eqb n 65536 q)
 pub target-by : (g : Given) (c : Carried) (e : Ed) (t : Tape) (k : List ℕ) (r : Moved) (n : ℕ) {a : Target} → target_numbered n ≡ a → Came k r (runs g c (go_to a) e t) → Came k r (runs g c (go_to (target_numbered n)) e t)
 target-by g c e t k r n q h = rw q h
 
-pub here-by : {j : List ℕ} {st : State} (g : Given) (c : Carried) (e : Ed) (t : Tape) (r : Moved) (n : ℕ) → Shows j st e t → n ≡ 0 → r ≡ On (at_point st 0)
+pub here-by : {j : List ℕ} {st : State} (g : Given) (c : Carried) (e : Ed) (t : Tape) (r : Moved) (n : ℕ) → Shows j st e t → n ≡ 0 → r ≡ Ok (at_point st 0)
     → Came j r (runs g c (go_to (target_numbered n)) e t)
 here-by {j} {st} g c e t r n h z q = target-by g c e t j r n (target-here n z) (rw q (here_on g c e t h))
 
 -- ---- N, P and M
 
-pub next-eof : {j : List ℕ} {st : State} (g : Given) (c : Carried) (e : Ed) (t : Tape) → Shows j st e t → length j ≤ st.back → Answered j (Stop 20 st) (step g Op.next_line (state e c) t)
+pub next-eof : {j : List ℕ} {st : State} (g : Given) (c : Carried) (e : Ed) (t : Tape) → Shows j st e t → length j ≤ st.back → Answered j (stopping AtEof st) (step g Op.next_line (state e c) t)
 unfolding step program ◌>>◌ stop_number
-next-eof g c e t h end = perform-no-line g c n20 (λ x. ◌>>=◌ go_ahead (λ a. goes_on)) e t h 20 refl end
+next-eof g c e t h end = perform-no-line g c n20 (λ x. ◌>>=◌ go_ahead (λ a. goes_on)) e t h AtEof refl end
 
 pub next-on : {j : List ℕ} {st : State} (g : Given) (c : Carried) (e : Ed) (t : Tape) (k : List ℕ) (r : Moved) → Shows j st e t → st.back < length j → Came k r (runs g c go_ahead e t)
     → Answered k r (step g Op.next_line (state e c) t)

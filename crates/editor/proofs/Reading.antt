@@ -15,7 +15,7 @@ use Rattle.theorems.specs.RecordLaws.{reverse-append, sources-append, sources-re
 use Rattle.theorems.specs.ReadLines.{read_next, seen_all, next-all, next-ended, next-keeps, read-line, read-eof}
 use Rattle.editor.specs.Shows.{Holds, Placed, Shows, point_of, rest_of, GroundedAt, CameTo, Came, raised}
 use Rattle.editor.specs.declared.State.{State}
-use Rattle.editor.specs.declared.Moved.TheVariants.{On}
+use Rattle.std.specs.Prelude.{Ok}
 use Rattle.editor.proofs.Records.{sources-nil}
 use Rattle.editor.proofs.Held.{holds_as, holds-lists, placed_by}
 
@@ -135,11 +135,11 @@ all_read {st = st} e (unread ls) h =
 all_read {st = st} e ended h = rw (next-ended 1) at (reading {s = raised st (st.lines + 1)} 1 e ended h (placed_by st _ _) refl (omega (arith, shown-reach e ended h)))
 
 module _ {j : List ℕ} {st : State} (g : Given) (e : Ed) (t : Tape) (h : Shows j st e t) where
-  pub reads-line : (a : ℕ) → Came j (On (raised st a)) (runs g no_globals (read_up_to (Target.line a)) e t)
+  pub reads-line : (a : ℕ) → Came j (Ok (raised st a)) (runs g no_globals (read_up_to (Target.line a)) e t)
   unfolding CameTo
   reads-line a = rw (read-line g a e t) (reading (a - sources (records e)) e t h (placed_by st _ _) refl (raise-line a e t h))
 
-  pub reads-eof : Came j (On (raised st (st.lines + 1))) (runs g no_globals (read_up_to Target.eof) e t)
+  pub reads-eof : Came j (Ok (raised st (st.lines + 1))) (runs g no_globals (read_up_to Target.eof) e t)
   unfolding CameTo
   reads-eof = rw (read-eof g e t) (all_read e t h)
 

@@ -9,7 +9,7 @@ use Rattle.definitions.specs.Editor.{Ed, ed, journal, current}
 use Rattle.definitions.specs.StepProgram.{state, text_of, Out, on, edited, halt}
 use Rattle.definitions.specs.Edit.{Op, step}
 use Rattle.editor.specs.declared.State.{State}
-use Rattle.editor.specs.declared.Moved.{Moved}
+use Rattle.editor.specs.Stops.{Moved}
 use Rattle.editor.specs.Shows.{Shows, lent, Answered}
 
 -- the current line's text; none where EOF is current

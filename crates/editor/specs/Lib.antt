@@ -1,3 +1,4 @@
 pub mod Records
 pub mod Shows
 pub mod Current
+pub mod Stops

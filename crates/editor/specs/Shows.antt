@@ -1,5 +1,5 @@
 -- How the journal buffer and the numbers that go with it show the text of a run, and what the functions on them promise. Assumes nothing.
-use Rattle.std.specs.Prelude.{◌≡◌, true, false, cond, ℕ, suc, ◌+◌, ◌-◌, ◌≤◌, ◌<◌, min, max, length, take, drop, leb, eqb}
+use Rattle.std.specs.Prelude.{◌≡◌, true, false, cond, ℕ, suc, ◌+◌, ◌-◌, ◌≤◌, ◌<◌, min, max, length, take, drop, leb, eqb, Ok, Err}
 use mathlib.Core.List.{List, [], ◌∷◌, ◌++◌, map, reverse_aux}
 use Rattle.definitions.specs.Bytes.{Line}
 use Rattle.definitions.specs.Journal.{Record, kept, changed, deleted, erase, up_to_line, after_line}
@@ -11,8 +11,7 @@ use Rattle.definitions.specs.StepProgram.{Program, runs, state, Did, Out, on, ed
 use Rattle.definitions.specs.Edit.{Op, step}
 use Rattle.gap.specs.Gap.{zeros}
 use Rattle.editor.specs.declared.State.{State}
-use Rattle.editor.specs.declared.Moved.{Moved}
-use Rattle.editor.specs.declared.Moved.TheVariants.{On, Stop}
+use Rattle.editor.specs.Stops.{Moved, numbered}
 use Rattle.editor.specs.Records.{enc, enc_all, enc_before, Good, Goods, old_bytes}
 
 -- ---- a buffer that holds records
@@ -105,23 +104,23 @@ lent j = given (Room.bytes (length j))
 
 -- what a function answers that does a part of a step, and what that part comes to: a stop too leaves the buffer showing the text as it then is
 unfoldable pub CameTo : {A : Type 0} → List ℕ → Moved → Ran A → Tape → Type 0
-CameTo j (On s) (gave a e) t = Shows j s e t
-CameTo j (On s) (stopped n e) t = ⊥
-CameTo j (Stop m s) (gave a e) t = ⊥
-CameTo j (Stop m s) (stopped n e) t = (m ≡ stop_number n) × Shows j s e t
+CameTo j (Ok s) (gave a e) t = Shows j s e t
+CameTo j (Ok s) (stopped n e) t = ⊥
+CameTo j (Err x) (gave a e) t = ⊥
+CameTo j (Err x) (stopped n e) t = (numbered x.stop ≡ stop_number n) × Shows j x.st e t
 
 abbrev pub Came : {A : Type 0} → List ℕ → Moved → Ran A × Tape → Type 0
 Came j r x = CameTo j r x.0 x.1
 
 -- what a command's function answers, and what the command comes to
 unfoldable pub Answers : List ℕ → Moved → Out → Tape → Type 0
-Answers j (On s) (on true (state e c)) t = Shows j s e t
-Answers j (On s) (on false (state e c)) t = ⊥
-Answers j (On s) (edited (state e c)) t = Shows j s e t
-Answers j (On s) (halt n (state e c)) t = ⊥
-Answers j (Stop m s) (on b (state e c)) t = ⊥
-Answers j (Stop m s) (edited (state e c)) t = ⊥
-Answers j (Stop m s) (halt n (state e c)) t = (m ≡ n) × Shows j s e t
+Answers j (Ok s) (on true (state e c)) t = Shows j s e t
+Answers j (Ok s) (on false (state e c)) t = ⊥
+Answers j (Ok s) (edited (state e c)) t = Shows j s e t
+Answers j (Ok s) (halt n (state e c)) t = ⊥
+Answers j (Err x) (on b (state e c)) t = ⊥
+Answers j (Err x) (edited (state e c)) t = ⊥
+Answers j (Err x) (halt n (state e c)) t = (numbered x.stop ≡ n) × Shows j x.st e t
 
 abbrev pub Answered : List ℕ → Moved → Out × Tape → Type 0
 Answered j r x = Answers j r x.0 x.1

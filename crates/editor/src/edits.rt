@@ -8,7 +8,7 @@ ghost use Rattle.editor.specs.Records.{enc_before, LineIn};
 ghost use Rattle.editor.specs.Shows.{Holds, HoldsCut, ShowsText, Performs, Puts, Strikes, Cuts};
 ghost use Rattle.editor.specs.Current.{ShownOf, PerformsOf};
 
-use crate::{Moved, State};
+use crate::{State, Stop, Stopped};
 
 // The n bytes of s from `from` on become an inserted record before the current one. There is room for it.
 pub fn put_line(j: &mut [u8], st: State, s: &[u8], from: usize, n: usize) -> State
@@ -28,15 +28,24 @@ pub fn put_line(j: &mut [u8], st: State, s: &[u8], from: usize, n: usize) -> Sta
 }
 
 // IS: the n bytes of s from `from` on are inserted before the current line.
-pub fn insert_line(j: &mut [u8], st: State, s: &[u8], from: usize, n: usize) -> Moved
+pub fn insert_line(
+    j: &mut [u8],
+    st: State,
+    s: &[u8],
+    from: usize,
+    n: usize,
+) -> Result<State, Stopped>
     requires { ShowsText j.old st × LineIn s.now from n }
     ensures { (c : Carried) → Performs c j.old st (Op.insert none (take n (drop from s.now) ∷ [])) j.new result }
 {
     let room = st.back - st.front;
     if room < n + 3 {
-        return Moved::Stop(26, st);
+        return Err(Stopped {
+            stop: Stop::JournalFull,
+            st,
+        });
     }
-    Moved::On(put_line(j, st, s, from, n))
+    Ok(put_line(j, st, s, from, n))
 }
 
 // The record from f up to the gap is of a changed line, but for its mark, which is that of a deleted one: its new text goes.
@@ -77,13 +86,16 @@ pub fn strike_record(j: &mut [u8], st: State, f: usize) -> State
 }
 
 // IC: a copy of the current line is inserted before it.
-pub fn copy_line(table: &[u8], j: &mut [u8], st: State) -> Moved
+pub fn copy_line(table: &[u8], j: &mut [u8], st: State) -> Result<State, Stopped>
     requires { ShownOf table.now j.old st }
     ensures { PerformsOf table.now j.old st Op.copy j.new result }
 {
     let at = st.back;
     if at >= j.len() {
-        return Moved::Stop(20, st);
+        return Err(Stopped {
+            stop: Stop::AtEof,
+            st,
+        });
     }
     // The text may be a part of the journal, which is written.
     let mut line = [0u8; 256];

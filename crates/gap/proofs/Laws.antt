@@ -1,25 +1,24 @@
 -- The laws of moving bytes over a gap of zeros. Assumes nothing.
 use mathlib.Core.Path.{◌≡◌, sym, ap, ◌∙◌}
 use mathlib.Core.Logic.{⊎_elim}
-use Prim.Native.Nat.{ℕ, suc, ◌+◌, ◌-◌, ◌≤◌, ◌<◌, min}
+use Prim.Native.Nat.{ℕ, ◌+◌, ◌-◌, ◌≤◌, ◌<◌, min}
 use native.Mathlib.Nat.{le_of_eq, eq-zero-or-pos}
-use native.Mathlib.Numerals.{add-one}
 use native.Mathlib.Omega.{arith}
 use mathlib.Core.List.{List, ◌++◌, append_assoc}
-use lib.ListN.{length, take, drop, get_or, set, length-append, length-drop, length-replicate, get_or-replicate, replicate-append-replicate, take-append-drop}
-use lib.Seq.{paste, paste-suc, take_at, drop_at, take_all, drop-append-le, length-take-le}
+use lib.ListN.{length, take, drop, length-append, length-drop, length-replicate, replicate-append-replicate, take-append-drop}
+use lib.Seq.{paste, drop-drop, take_at, drop_at, take_all, drop-append-le, length-take-le}
+use Rattle.text.proofs.Parts.{put}
 use Rattle.text.proofs.Pastes.{paste-parts}
 use Rattle.gap.specs.Gap.{zeros, ZeroGap, moved_down, moved_up, cleared}
 
 -- ---- bytes that are cleared
 
-pub clear_step : (d : List ℕ) (from i n : ℕ) → from + n ≤ length d → i < n
-    → set (paste d from (zeros n) i) (from + i) 0 ≡ paste d from (zeros n) (i + 1)
-clear_step d from i n hd h =
-    let in-z : i < length (zeros n) = simp length-replicate (omega arith) in
-    let z : get_or (zeros n) i 0 ≡ 0 = get_or-replicate n i 0 0 h in
-    let q : set (paste d from (zeros n) i) (from + i) (get_or (zeros n) i 0) ≡ paste d from (zeros n) (suc i) = paste-suc d from (zeros n) i 0 (omega arith) in-z in
-    rw (add-one i) (rw z at q)
+-- n bytes that are lent, and are zeros when they come back
+pub clear-lent : (x ys : List ℕ) (from n : ℕ) → ys ≡ zeros n → put from (from + n) x ys ≡ cleared from n x
+unfolding cleared
+clear-lent x ys from n is =
+    let wide : from + n - from ≡ n = omega arith in
+    rw (is, wide, drop-drop n from x, take_all n (zeros n) (le_of_eq (length-replicate n 0))) (sym (append_assoc (take from x) (zeros n) (drop (from + n) x)))
 
 pub clear-parts : (A M Z : List ℕ) (at n : ℕ) → length A ≡ at → length M ≡ n → cleared at n (A ++ (M ++ Z)) ≡ A ++ (zeros n ++ Z)
 unfolding cleared

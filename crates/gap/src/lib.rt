@@ -10,11 +10,7 @@ pub fn clear(j: &mut [u8], from: usize, n: usize)
     requires { from + n ≤ length j.old }
     ensures { j.new ≡ cleared from n j.old }
 {
-    let mut i: usize = 0;
-    while i < n {
-        j[from + i] = 0;
-        i += 1;
-    }
+    j[from..from + n].fill(0);
 }
 
 // Moves the n bytes from b down to f. The bytes from f to b are 0 before.
@@ -22,9 +18,9 @@ pub fn shift_down(j: &mut [u8], f: usize, b: usize, n: usize)
     requires { (f ≤ b) × (b + n ≤ length j.old) × ZeroGap f b j.old }
     ensures { j.new ≡ moved_down f b n j.old }
 {
-    text::copies::copy_down(j, f, b, n);
+    j.copy_within(b..b + n, f);
     // Where they stood, those that are not written over are cleared: no more than the gap is wide.
-    let k = text::copies::lesser(n, b - f);
+    let k = n.min(b - f);
     clear(j, b + n - k, k);
 }
 
@@ -34,8 +30,8 @@ pub fn shift_up(j: &mut [u8], lo: usize, f: usize, b: usize)
     ensures { j.new ≡ moved_up lo f b j.old }
 {
     let n = f - lo;
-    text::copies::copy_up(j, b - n, lo, n);
-    let k = text::copies::lesser(n, b - f);
+    j.copy_within(lo..f, b - n);
+    let k = n.min(b - f);
     clear(j, lo, k);
 }
 

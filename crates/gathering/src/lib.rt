@@ -10,6 +10,7 @@ const SHORT: usize = 2048;
 
 // In a short part a line that begins with a `-` moves down to the others of its kind, any other into the array, whose bytes come behind in the end.
 // The first p bytes are those of the first kind, and the array has the others of the `at` bytes that were looked at.
+// The slice is written while its lines are passed, so that no iterator can borrow it.
 fn gather_short(s: &mut [u8]) -> usize
     requires { length s.old ≤ 2048 }
     ensures { Gathered s.old s.new result }
@@ -19,11 +20,12 @@ fn gather_short(s: &mut [u8]) -> usize
     let mut at: usize = 0;
     while at < s.len() {
         let e = text::feeds::line_after(s, at);
-        if s[at] == 45 {
-            text::copies::copy_down(s, p, at, e - at);
-            p += e - at;
+        let n = e - at;
+        if s[at] == b'-' {
+            s.copy_within(at..e, p);
+            p += n;
         } else {
-            text::copies::copy_in(&mut others, at - p, s, at, e - at);
+            text::copies::copy_in(&mut others, at - p, s, at, n);
         }
         at = e;
     }
@@ -48,13 +50,10 @@ fn gather_line(s: &[u8]) -> usize
     requires { line_length s.now ≡ length s.now }
     ensures { Gathered s.now s.now result }
 {
-    if s.len() == 0 {
-        return 0;
+    match s.first() {
+        Some(b'-') => s.len(),
+        _ => 0,
     }
-    if s[0] == 45 {
-        return s.len();
-    }
-    0
 }
 
 // Puts the lines that begin with a `-` before the others, each kind in its order, and hands back how many bytes the first kind has.

@@ -1,4 +1,5 @@
 -- What the words of GE, GA and GB say: the two strings, and what is put for the first. Assumes nothing.
+use Rattle.std.specs.Prelude.{Ok}
 use mathlib.Core.Path.{◌≡◌, refl, sym, ap, ◌∙◌, subst}
 use mathlib.Core.Bool.{true, not, ◌&&◌, false≢true}
 use mathlib.Core.List.{List, [], ◌∷◌, ◌++◌, append-nil}
@@ -28,9 +29,7 @@ use Rattle.items.proofs.Strings.{string-inside, string-is}
 use Rattle.globals.specs.Standing.{GlobalAt}
 use Rattle.text.specs.Lines.{part}
 use Rattle.text.proofs.Parts.{part_none, part_length}
-use Rattle.globals.specs.Passing.{LeftAs, next_place, Occurs, through_one, MakesGlobal, PassesOne}
-use Rattle.globals.specs.declared.Passed.{Passed}
-use Rattle.globals.specs.declared.Passed.TheVariants.{Text}
+use Rattle.globals.specs.Passing.{Passed, LeftAs, next_place, Occurs, through_one, MakesGlobal, PassesOne}
 use Rattle.globals.proofs.Putting.{stays}
 
 has-bytes : (l : Line) → not (is_empty l) ≡ true → 0 < length l
@@ -206,14 +205,14 @@ module _ (s w : List ℕ) (k : ℕ) (line : List ℕ) (n from len start m : ℕ)
   first-asked few fits = (omega arith, rw (length-take-le n line fits) few, read_short w (k + 1) s (quals_at w (k + 1)) from len refl from_is len_is)
 
   -- it does not occur
-  pub passes_none : n ≤ 255 → n ≤ length line → (first : ℕ) → first ≡ next_place F (take n line) 0 → first ≡ n → PassesOne s w k (take n line) (Text n) line
+  pub passes_none : n ≤ 255 → n ≤ length line → (first : ℕ) → first ≡ next_place F (take n line) 0 → first ≡ n → PassesOne s w k (take n line) (Ok n) line
   passes_none few fits first is none end x g inside =
       let p = parted s w end k x g in
       let y = some-put g.change g.first g.new in
       let same : g.first ≡ F = sym p.first ∙ F-is in
       let z : x ≡ global F y.0 = g.same ∙ y.1 ∙ ap (λ (l : Line). global l y.0) same in
       let pos : 0 < length F = subst (λ (l : Line). 0 < length l) same (good-first s w end k x g) in
-      subst (λ (y : Global). LeftAs (Text n) line (passed_through (y ∷ []) (take n line))) (sym z) (stays F y.0 line n pos few fits (sym is ∙ none))
+      subst (λ (y : Global). LeftAs (Ok n) line (passed_through (y ∷ []) (take n line))) (sym z) (stays F y.0 line n pos few fits (sym is ∙ none))
 
   -- what `rewrite` asks
   module _ (d : Decoded s w k) (few : n ≤ 255) (fits : n ≤ length line) (first : ℕ) (is : first ≡ next_place F (take n line) 0) where

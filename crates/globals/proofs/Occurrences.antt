@@ -1,4 +1,6 @@
 -- Where a global's string next occurs in a line, and what is put for it there. Assumes nothing.
+use Rattle.std.specs.Prelude as Prelude
+use Rattle.std.specs.Prelude.{Some, None}
 use mathlib.Core.Path.{◌≡◌, refl, sym, ap, ◌∙◌, subst}
 use mathlib.Core.Bool.{Bool, true, false, false≢true}
 use mathlib.Core.Option.{Option, none, some}
@@ -20,7 +22,6 @@ use Rattle.matching.proofs.Counts.{no_place, found_here, not-here}
 use Rattle.matching.proofs.Plain.{plain-none}
 use Rattle.taking.specs.Ways.{found_of}
 use Rattle.taking.specs.declared.Found.{Found}
-use Rattle.taking.specs.declared.Found.TheVariants.{At, Nothing}
 use Rattle.matching.specs.Quals.{plain, qualifiers_of, Formed}
 use Rattle.matching.specs.declared.Quals.{Quals}
 use Rattle.globals.specs.Passing.{place_or, next_place}
@@ -166,14 +167,14 @@ pub plain-formed : (q : Quals) → q ≡ plain → (s : List ℕ) → Formed q s
 plain-formed q is s given = absurd (false≢true (sym (ap (λ (x : Quals). x.pattern) is) ∙ given))
 
 -- what `find` gives without qualifiers
-module _ (isWord : ℕ → Bool) (s l : List ℕ) (p : ℕ) (r : Found) (q : Quals) (none : q ≡ plain) (e : found_of r ≡ match_of isWord (qualified (qualifiers_of q) s) p l) where
+module _ (isWord : ℕ → Bool) (s l : List ℕ) (p : ℕ) (r : Prelude.Option Found) (q : Quals) (none : q ≡ plain) (e : found_of r ≡ match_of isWord (qualified (qualifiers_of q) s) p l) where
   plainly : found_of r ≡ match_of (is_word_byte []) (qualified no_qualifiers s) p l
   plainly = rw (← any_word isWord s l p, ← plain-none, ← none) e
 
-  pub is_at : (i n : ℕ) → r ≡ At i n → i ≡ next_place s l p
+  pub is_at : (f : Found) → r ≡ Some f → f.at ≡ next_place s l p
   unfolding found_of place_or
-  is_at i n h = ap (place_or (length l)) (sym (ap found_of h) ∙ plainly)
+  is_at f h = ap (place_or (length l)) (sym (ap found_of h) ∙ plainly)
 
-  pub is-nowhere : r ≡ Nothing → length l ≡ next_place s l p
+  pub is-nowhere : r ≡ None → length l ≡ next_place s l p
   unfolding found_of place_or
   is-nowhere h = ap (place_or (length l)) (sym (ap found_of h) ∙ plainly)

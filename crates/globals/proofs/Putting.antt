@@ -1,4 +1,5 @@
 -- One global over a line: the text as it is put together. Assumes nothing.
+use Rattle.std.specs.Prelude.{Ok}
 use mathlib.Core.Path.{◌≡◌, refl, sym, ap, ◌∙◌, subst}
 use mathlib.Core.List.{List, [], ◌∷◌, ◌++◌, append_assoc}
 use Prim.Native.Nat.{ℕ, ◌+◌, ◌-◌, ◌≤◌, ◌<◌}
@@ -13,27 +14,25 @@ use Rattle.definitions.specs.Editor.{Got, got, stop}
 use Rattle.definitions.specs.Globals.{put_for_each, passed_through}
 use Rattle.text.specs.Lines.{part}
 use Rattle.text.proofs.Parts.{part_length}
-use Rattle.globals.specs.Passing.{LeftAs, next_place, through_one}
-use Rattle.globals.specs.declared.Passed.{Passed}
-use Rattle.globals.specs.declared.Passed.TheVariants.{Text, Long}
+use Rattle.globals.specs.Passing.{Passed, too-long, LeftAs, next_place, through_one}
 use Rattle.globals.proofs.Occurrences.{Next, occurs, nowhere}
 
 -- ---- 25 is tested on the whole text
 
 module _ (s put l : List ℕ) where
-  pub text-left : (m : ℕ) (out : List ℕ) → m ≤ 255 → m ≤ length out → put_for_each s put 0 l ≡ take m out → LeftAs (Text m) out (passed_through (global s put ∷ []) l)
+  pub text-left : (m : ℕ) (out : List ℕ) → m ≤ 255 → m ≤ length out → put_for_each s put 0 l ≡ take m out → LeftAs (Ok m) out (passed_through (global s put ∷ []) l)
   unfolding LeftAs passed_through
   text-left m out few fits e =
       let n : length (put_for_each s put 0 l) ≡ m = ap length e ∙ length-take-le m out fits in
       rw (le-ltb 255 (length (put_for_each s put 0 l)) (omega (arith, n)), passed_through) (few, e)
 
-  pub long-left : (out : List ℕ) → 255 < length (put_for_each s put 0 l) → LeftAs Long out (passed_through (global s put ∷ []) l)
+  pub long-left : (out : List ℕ) → 255 < length (put_for_each s put 0 l) → LeftAs too-long out (passed_through (global s put ∷ []) l)
   unfolding LeftAs passed_through
   long-left out h = rw (lt-ltb 255 (length (put_for_each s put 0 l)) h, passed_through) refl
 
 -- the string does not occur: the line stays
 pub stays : (s put line : List ℕ) (n : ℕ) → 0 < length s → n ≤ 255 → n ≤ length line → next_place s (take n line) 0 ≡ n
-    → LeftAs (Text n) line (passed_through (global s put ∷ []) (take n line))
+    → LeftAs (Ok n) line (passed_through (global s put ∷ []) (take n line))
 stays s put line n pos few fits e =
     let l : length (take n line) ≡ n = length-take-le n line fits in
     text-left s put (take n line) n line few fits (nowhere s put (take n line) pos 0 (omega arith) (λ h. omega (arith, h, e, l)))
@@ -47,30 +46,30 @@ pub copied-long : (d x d' : List ℕ) (at n : ℕ) → at + n ≤ length d → n
 copied-long d x d' at n fits inside e = ap length e ∙ length-paste d at x n fits inside
 
 -- the text is copied to another buffer; where there is none, no buffer matters
-copied-back : (x : Got Line) (out line line' : List ℕ) (m : ℕ) → LeftAs (Text m) out x → m ≤ length out → m ≤ length line → line' ≡ paste line 0 (drop 0 out) m → LeftAs (Text m) line' x
+copied-back : (x : Got Line) (out line line' : List ℕ) (m : ℕ) → LeftAs (Ok m) out x → m ≤ length out → m ≤ length line → line' ≡ paste line 0 (drop 0 out) m → LeftAs (Ok m) line' x
 unfolding LeftAs
 copied-back (got l) out line line' m h fits room e =
     (h.0, h.1 ∙ sym (copied line out line' 0 m m (rw zero-add room) fits e (sym (zero-add m))))
 copied-back (stop n) out line line' m h fits room e = h
 
-long-anyhow : (x : Got Line) (out line : List ℕ) → LeftAs Long out x → LeftAs Long line x
+long-anyhow : (x : Got Line) (out line : List ℕ) → LeftAs too-long out x → LeftAs too-long line x
 unfolding LeftAs
 long-anyhow (got l) out line h = h
 long-anyhow (stop n) out line h = h
 
-pub left-few : (x : Got Line) (m : ℕ) (out : List ℕ) → LeftAs (Text m) out x → m ≤ 255
+pub left-few : (x : Got Line) (m : ℕ) (out : List ℕ) → LeftAs (Ok m) out x → m ≤ 255
 unfolding LeftAs
 left-few (got l) m out h = h.0
 left-few (stop n) m out h = absurd h
 
 -- by what is answered
-pub back_by : (r : Passed) (x : Got Line) (out line line' : List ℕ) (m : ℕ) → LeftAs r out x → r ≡ Text m → m ≤ length out → m ≤ length line → line' ≡ paste line 0 (drop 0 out) m → LeftAs (Text m) line' x
+pub back_by : (r : Passed) (x : Got Line) (out line line' : List ℕ) (m : ℕ) → LeftAs r out x → r ≡ Ok m → m ≤ length out → m ≤ length line → line' ≡ paste line 0 (drop 0 out) m → LeftAs (Ok m) line' x
 back_by r x out line line' m h e fits room w = copied-back x out line line' m (subst (λ (r : Passed). LeftAs r out x) e h) fits room w
 
-pub long-by : (r : Passed) (x : Got Line) (out line : List ℕ) → LeftAs r out x → r ≡ Long → LeftAs Long line x
+pub long-by : (r : Passed) (x : Got Line) (out line : List ℕ) → LeftAs r out x → r ≡ too-long → LeftAs too-long line x
 long-by r x out line h e = long-anyhow x out line (subst (λ (r : Passed). LeftAs r out x) e h)
 
-pub few-by : (r : Passed) (x : Got Line) (out : List ℕ) (m : ℕ) → LeftAs r out x → r ≡ Text m → m ≤ 255
+pub few-by : (r : Passed) (x : Got Line) (out : List ℕ) (m : ℕ) → LeftAs r out x → r ≡ Ok m → m ≤ 255
 few-by r x out m h e = left-few x m out (subst (λ (r : Passed). LeftAs r out x) e h)
 
 -- ---- occurrence by occurrence
@@ -96,7 +95,7 @@ module _ (s a b l out : List ℕ) (len at i : ℕ) (pos : 0 < length s) (room : 
     whole : put_for_each s (a ++ b) 0 l ≡ take len out ++ (part at i l ++ ((a ++ b) ++ put_for_each s (a ++ b) 0 (drop (i + length s) l)))
     whole = g.text ∙ ap (λ (x : List ℕ). take len out ++ x) next-is.text
 
-    pub too_long : (n m e : ℕ) → n ≡ len + (i - at) → m ≡ n + length a → e ≡ m + length b → 255 < e → (line : List ℕ) → LeftAs Long line (through_one s a b l)
+    pub too_long : (n m e : ℕ) → n ≡ len + (i - at) → m ≡ n + length a → e ≡ m + length b → 255 < e → (line : List ℕ) → LeftAs too-long line (through_one s a b l)
     too_long n m e en em ee long line =
         let R : List ℕ = put_for_each s (a ++ b) 0 (drop (i + length s) l) in
         let x = next-is in
@@ -140,10 +139,10 @@ module _ (s a b l out : List ℕ) (len at i : ℕ) (pos : 0 < length s) (room : 
     ended : put_for_each s (a ++ b) 0 l ≡ take len out ++ drop at l
     ended = g.text ∙ ap (λ (x : List ℕ). take len out ++ x) (nowhere s (a ++ b) l pos at g.inside (λ h. no_more (subst (λ (x : ℕ). x < length l) (sym g.next) h)))
 
-    pub rest-long : (rest : ℕ) → rest ≡ length l - at → 255 < len + rest → (line : List ℕ) → LeftAs Long line (through_one s a b l)
+    pub rest-long : (rest : ℕ) → rest ≡ length l - at → 255 < len + rest → (line : List ℕ) → LeftAs too-long line (through_one s a b l)
     rest-long rest er long line = long-left s (a ++ b) l line (rw (ended, length-append (take len out) (drop at l), taken, length-drop) (omega (arith, er, long)))
 
-    pub rest-done : (rest : ℕ) (o : List ℕ) → rest ≡ length l - at → len + rest ≤ 255 → o ≡ paste out len (drop at l) rest → LeftAs (Text (len + rest)) o (through_one s a b l)
+    pub rest-done : (rest : ℕ) (o : List ℕ) → rest ≡ length l - at → len + rest ≤ 255 → o ≡ paste out len (drop at l) rest → LeftAs (Ok (len + rest)) o (through_one s a b l)
     rest-done rest o er fits e =
         let inner : rest ≤ length (drop at l) = rw length-drop (omega (arith, er)) in
         let all : take rest (drop at l) ≡ drop at l = take_all rest (drop at l) (rw length-drop (omega (arith, er))) in

@@ -1,4 +1,5 @@
 -- A line passed through the standing globals, one after the other. Assumes nothing.
+use Rattle.std.specs.Prelude.{Ok}
 use mathlib.Core.Path.{◌≡◌, refl, sym, ap, ◌∙◌, subst}
 use mathlib.Core.Bool.{Bool, true, false}
 use mathlib.Core.List.{List, [], ◌∷◌}
@@ -14,27 +15,25 @@ use Rattle.definitions.specs.Editor.{n25, Got, got, stop}
 use Rattle.definitions.specs.Globals.{put_for_each, passed_through, left_by}
 use Rattle.items.specs.Reserve.{reserve}
 use Rattle.globals.specs.Standing.{GlobalAt, StandingAt, most, StandingBelow, Standing}
-use Rattle.globals.specs.Passing.{LeftAs, MakesGlobal, PassesOne, PassesAll}
-use Rattle.globals.specs.declared.Passed.{Passed}
-use Rattle.globals.specs.declared.Passed.TheVariants.{Text, Long}
+use Rattle.globals.specs.Passing.{Passed, too-long, LeftAs, MakesGlobal, PassesOne, PassesAll}
 use Rattle.globals.proofs.Putting.{left-few}
 
 -- ---- the first of several
 
-one_then : (x : Global) (gs : List Global) (l : Line) (m : ℕ) (line : List ℕ) → LeftAs (Text m) line (passed_through (x ∷ []) l) → passed_through (x ∷ gs) l ≡ passed_through gs (take m line)
+one_then : (x : Global) (gs : List Global) (l : Line) (m : ℕ) (line : List ℕ) → LeftAs (Ok m) line (passed_through (x ∷ []) l) → passed_through (x ∷ gs) l ≡ passed_through gs (take m line)
 unfolding LeftAs passed_through
 one_then (global s put) gs l m line h = by (ltb 255 (length (put_for_each s put 0 l))) h
   where
-    by : (t : Bool) → LeftAs (Text m) line (elim t [ true ↦ stop n25 | false ↦ got (put_for_each s put 0 l) ])
+    by : (t : Bool) → LeftAs (Ok m) line (elim t [ true ↦ stop n25 | false ↦ got (put_for_each s put 0 l) ])
         → ◌≡◌ {A = Got Line} (elim t [ true ↦ stop n25 | false ↦ passed_through gs (put_for_each s put 0 l) ]) (passed_through gs (take m line))
     by true h = absurd h
     by false h = ap (passed_through gs) h.1
 
-one-long : (x : Global) (gs : List Global) (l : Line) (line : List ℕ) → LeftAs Long line (passed_through (x ∷ []) l) → passed_through (x ∷ gs) l ≡ stop n25
+one-long : (x : Global) (gs : List Global) (l : Line) (line : List ℕ) → LeftAs too-long line (passed_through (x ∷ []) l) → passed_through (x ∷ gs) l ≡ stop n25
 unfolding LeftAs passed_through
 one-long (global s put) gs l line h = by (ltb 255 (length (put_for_each s put 0 l))) h
   where
-    by : (t : Bool) → LeftAs Long line (elim t [ true ↦ stop n25 | false ↦ got (put_for_each s put 0 l) ])
+    by : (t : Bool) → LeftAs too-long line (elim t [ true ↦ stop n25 | false ↦ got (put_for_each s put 0 l) ])
         → ◌≡◌ {A = Got Line} (elim t [ true ↦ stop n25 | false ↦ passed_through gs (put_for_each s put 0 l) ]) (stop n25)
     by true h = refl
     by false h = absurd h
@@ -63,11 +62,11 @@ none-acted s w line n few = record {
 
 module _ (s w l line : List ℕ) (len i : ℕ) (a : Acted s w l line len i) where
   -- no global is left
-  ended : ((end : ℕ) (rest : List Global) → StandingAt s w end (length w - reserve + i) (most - i) rest → rest ≡ []) → PassesAll s w l (Text len) line
+  ended : ((end : ℕ) (rest : List Global) → StandingAt s w end (length w - reserve + i) (most - i) rest → rest ≡ []) → PassesAll s w l (Ok len) line
   unfolding left_by passed_through LeftAs
   ended none (carried gs xs) h =
       let x = a.so h.end gs xs h.below in
-      subst (LeftAs (Text len) line) (sym (x.same ∙ ap (λ (gs : List Global). passed_through gs (take len line)) (none h.end x.rest x.stand))) (a.few, refl)
+      subst (LeftAs (Ok len) line) (sym (x.same ∙ ap (λ (gs : List Global). passed_through gs (take len line)) (none h.end x.rest x.stand))) (a.few, refl)
 
   no_word : (end i n : ℕ) (gs : List Global) → get_or w i 0 ≡ 0 → StandingAt s w end i n gs → gs ≡ []
   unfolding StandingAt
@@ -75,10 +74,10 @@ module _ (s w l line : List ℕ) (len i : ℕ) (a : Acted s w l line len i) wher
   no_word end i (suc n) [] e h = refl
   no_word end i (suc n) (x ∷ gs) e (k, word, g, rest) = absurd (omega (arith, e, word))
 
-  pub ended-word : get_or w (length w - reserve + i) 0 ≡ 0 → PassesAll s w l (Text len) line
+  pub ended-word : get_or w (length w - reserve + i) 0 ≡ 0 → PassesAll s w l (Ok len) line
   ended-word e = ended (λ end rest h. no_word end (length w - reserve + i) (most - i) rest e h)
 
-  pub ended-all : most ≤ i → PassesAll s w l (Text len) line
+  pub ended-all : most ≤ i → PassesAll s w l (Ok len) line
   unfolding StandingAt
   ended-all h =
       let z : most - i ≡ 0 = omega (arith, h) in
@@ -120,7 +119,7 @@ module _ (s w l line : List ℕ) (len i : ℕ) (a : Acted s w l line len i) wher
           let room = h.0 in
           act end y.x y.at (omega (arith, room))
 
-      pub acts : (m : ℕ) → r ≡ Text m → m ≤ 255 → Acted s w l line' m (i + 1)
+      pub acts : (m : ℕ) → r ≡ Ok m → m ≤ 255 → Acted s w l line' m (i + 1)
       acts m e few = record {
         few = few;
         at_most = omega (arith, more);
@@ -136,14 +135,14 @@ module _ (s w l line : List ℕ) (len i : ℕ) (a : Acted s w l line len i) wher
                 same = y.same ∙ one_then y.x y.rest (take len line) m line' (subst (λ (r : Passed). LeftAs r line' (passed_through (y.x ∷ []) (take len line))) e (left_so end gs xs h y));
               }
 
-      pub act-long : r ≡ Long → PassesAll s w l Long line'
+      pub act-long : r ≡ too-long → PassesAll s w l too-long line'
       unfolding left_by LeftAs
       act-long e (carried gs xs) h =
           let y = another h.end gs (a.so h.end gs xs h.below) in
           let z = one-long y.x y.rest (take len line) line' (subst (λ (r : Passed). LeftAs r line' (passed_through (y.x ∷ []) (take len line))) e (left_so h.end gs xs h.below y)) in
-          subst (LeftAs Long line') (sym (y.same ∙ z)) refl
+          subst (LeftAs too-long line') (sym (y.same ∙ z)) refl
 
-      pub act-few : (m : ℕ) → r ≡ Text m → ((c : Carried) × Standing s w c) → m ≤ 255
+      pub act-few : (m : ℕ) → r ≡ Ok m → ((c : Carried) × Standing s w c) → m ≤ 255
       act-few m e (carried gs xs, h) =
           let y = another h.end gs (a.so h.end gs xs h.below) in
           left-few (passed_through (y.x ∷ []) (take len line)) m line' (subst (λ (r : Passed). LeftAs r line' (passed_through (y.x ∷ []) (take len line))) e (left_so h.end gs xs h.below y))

@@ -1,5 +1,5 @@
 -- A line's text passed through globals (document 02, wish 2; W2.6, W2.7).
-use Rattle.std.specs.Prelude.{◌≡◌, List, [], ◌∷◌, ◌++◌, ℕ, ◌≤◌, ◌<◌, length, take}
+use Rattle.std.specs.Prelude.{◌≡◌, List, [], ◌∷◌, ◌++◌, ℕ, ◌≤◌, ◌<◌, length, take, Result, Ok, Err}
 use Rattle.std.proofs.Math.Option.{Option, none, some}
 use Rattle.definitions.specs.Bytes.{Line}
 use Rattle.definitions.specs.WordSet.{is_word_byte}
@@ -9,15 +9,21 @@ use Rattle.definitions.specs.Given.{Global, global, Carried}
 use Rattle.definitions.specs.Editor.{n25, Got, got, stop}
 use Rattle.definitions.specs.Globals.{passed_through, left_by}
 use Rattle.globals.specs.Standing.{GlobalAt, Standing}
-use Rattle.globals.specs.declared.Passed.{Passed}
-use Rattle.globals.specs.declared.Passed.TheVariants.{Text, Long}
+use Rattle.globals.specs.declared.TooLong.{TooLong}
+
+-- the length of the text that globals leave, or the text is too long
+abbrev pub Passed : Type 0
+Passed = Result ℕ TooLong
+
+abbrev pub too-long : Passed
+too-long = Err (record {})
 
 -- the text is the first bytes of the buffer; or it is too long
 unfoldable pub LeftAs : Passed → List ℕ → Got Line → Type 0
-LeftAs (Text m) line (got l) = (m ≤ 255) × (l ≡ take m line)
-LeftAs (Text m) line (stop n) = ⊥
-LeftAs Long line (got l) = ⊥
-LeftAs Long line (stop n) = n ≡ n25
+LeftAs (Ok m) line (got l) = (m ≤ 255) × (l ≡ take m line)
+LeftAs (Ok m) line (stop n) = ⊥
+LeftAs (Err e) line (got l) = ⊥
+LeftAs (Err e) line (stop n) = n ≡ n25
 
 -- ---- one global
 

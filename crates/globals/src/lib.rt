@@ -10,19 +10,16 @@ ghost use Rattle.items.specs.Reserve.{reserve};
 ghost use Rattle.globals.specs.Standing.{Standing, set_in, standing, Keeps, begun, with_set};
 ghost use Rattle.globals.specs.Passing.{PassesAll};
 
-// The reserve's words, how many of them are for globals, and for the word set after those.
+use wordset::WordSet;
+
+// The reserve's words, and how many of them are for globals; the word set stands after those.
 const RESERVE: usize = 51;
 
 const MOST: usize = 16;
 
-const SET: usize = 3;
-
-// A line's text as globals leave it: the length of it, or more than 255 bytes, which stops with 25.
-#[derive(Clone, Copy)]
-pub enum Passed {
-    Text(usize),
-    Long,
-}
+// A line's text as globals leave it has more than 255 bytes, which stops with 25.
+#[derive(Clone, Copy, Debug, PartialEq, Eq)]
+pub struct TooLong;
 
 // How many globals stand.
 fn count(w: &[u32]) -> usize
@@ -30,14 +27,12 @@ fn count(w: &[u32]) -> usize
     ensures { (result ≡ standing w.now) × (result ≤ 16) }
 {
     let top = w.len() - RESERVE;
-    let mut n: usize = 0;
-    while n < MOST {
+    for n in 0..MOST {
         if w[top + n] == 0 {
             return n;
         }
-        n += 1;
     }
-    n
+    MOST
 }
 
 // Whether none stands.
@@ -69,12 +64,12 @@ pub fn begin(w: &mut [u32])
 }
 
 // The set of the bytes that count for W.
-pub fn word_set<'a>(w: &'a [u32]) -> &'a [u32]
+pub fn word_set<'a>(w: &'a [u32]) -> &'a WordSet
     requires { reserve ≤ length w.now }
     ensures { result.now ≡ set_in w.now }
 {
     let at = w.len() - RESERVE + MOST;
-    &w[at..at + SET]
+    w[at..].first_chunk().unwrap()
 }
 
 // WORD, the item at k: its set counts for W from now on.
@@ -83,10 +78,8 @@ pub fn name_words(w: &mut [u32], k: usize)
     ensures { w.new ≡ with_set w.old k }
 {
     let at = w.len() - RESERVE + MOST;
-    let a = w[k + 1];
-    let b = w[k + 2];
-    let c = w[k + 3];
-    wordset::put_three(w, at, a, b, c);
+    let three = [w[k + 1], w[k + 2], w[k + 3]];
+    wordset::put_three(w, at, three);
 }
 
 // The item at k stands after the others. False, and nothing is written, where sixteen stand.
@@ -106,25 +99,19 @@ pub fn keep(w: &mut [u32], k: usize) -> bool
     true
 }
 
-// The text in the first n bytes of the line, passed through all globals that stand, each on what the one before it left.
-pub fn pass(script: &[u8], w: &[u32], line: &mut [u8], n: usize) -> Passed
+// The length of the text in the first n bytes of the line, passed through all globals that stand, each on what the one before it left.
+pub fn pass(script: &[u8], w: &[u32], line: &mut [u8], n: usize) -> Result<usize, TooLong>
     requires { ((c : Carried) × Standing script.now w.now c) × (n ≤ 255) × (256 ≤ length line.old) }
     ensures { PassesAll script.now w.now (take n line.old) result line.new }
 {
     let top = w.len() - RESERVE;
     let mut len = n;
-    let mut i: usize = 0;
-    while i < MOST {
+    for i in 0..MOST {
         let word = w[top + i];
         if word == 0 {
-            return Passed::Text(len);
+            return Ok(len);
         }
-        let r = one::apply(script, w, (word - 1) as usize, line, len);
-        let Passed::Text(m) = r else {
-            return Passed::Long;
-        };
-        len = m;
-        i += 1;
+        len = one::apply(script, w, (word - 1) as usize, line, len)?;
     }
-    Passed::Text(len)
+    Ok(len)
 }

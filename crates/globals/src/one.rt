@@ -2,11 +2,10 @@
 ghost use Rattle.std.specs.Prelude.{◌≡◌, ◌≤◌, ◌<◌, length, take};
 ghost use Rattle.globals.specs.Passing.{LeftAs, next_place, Occurs, through_one, MakesGlobal, PassesOne};
 
-use super::Passed;
+use super::TooLong;
 use items::arguments::{string_length, string_start};
 use items::heads::kind_of;
 use items::kinds::{GLOBAL_AFTER, GLOBAL_BEFORE};
-use matching::Found;
 use matching::search::{length_at, start_at};
 use text::copies::copy_in;
 
@@ -17,14 +16,21 @@ fn next_place(line: &[u8], at: usize, s: &[u8]) -> usize
 {
     let found = matching::find(&[0, 0, 0], line, at, matching::no_qualifiers(), s);
     match found {
-        Found::At(i, _) => i,
-        Found::Nothing => line.len(),
+        Some(found) => found.at,
+        None => line.len(),
     }
 }
 
 // The line with a, then b, for each s, at the start of `out`. What is put in is not looked at again. The text only grows on the way, so that more than
 // 255 bytes at one place are more than 255 at the end.
-fn put_for_each(out: &mut [u8], line: &[u8], first: usize, s: &[u8], a: &[u8], b: &[u8]) -> Passed
+fn put_for_each(
+    out: &mut [u8],
+    line: &[u8],
+    first: usize,
+    s: &[u8],
+    a: &[u8],
+    b: &[u8],
+) -> Result<usize, TooLong>
     requires { (256 ≤ length out.old) × Occurs line.now first s.now a.now b.now }
     ensures { LeftAs result out.new (through_one s.now a.now b.now line.now) }
 {
@@ -36,7 +42,7 @@ fn put_for_each(out: &mut [u8], line: &[u8], first: usize, s: &[u8], a: &[u8], b
         let m = n + a.len();
         let end = m + b.len();
         if 255 < end {
-            return Passed::Long;
+            return Err(TooLong);
         }
         copy_in(out, len, line, at, i - at);
         copy_in(out, n, a, 0, a.len());
@@ -47,28 +53,38 @@ fn put_for_each(out: &mut [u8], line: &[u8], first: usize, s: &[u8], a: &[u8], b
     }
     let rest = line.len() - at;
     if 255 < len + rest {
-        return Passed::Long;
+        return Err(TooLong);
     }
     copy_in(out, len, line, at, rest);
-    Passed::Text(len + rest)
+    Ok(len + rest)
 }
 
 // The same in the first n bytes of the line itself.
-fn rewrite(line: &mut [u8], n: usize, first: usize, s: &[u8], a: &[u8], b: &[u8]) -> Passed
+fn rewrite(
+    line: &mut [u8],
+    n: usize,
+    first: usize,
+    s: &[u8],
+    a: &[u8],
+    b: &[u8],
+) -> Result<usize, TooLong>
     requires { (256 ≤ length line.old) × (n ≤ 255) × Occurs (take n line.old) first s.now a.now b.now }
     ensures { LeftAs result line.new (through_one s.now a.now b.now (take n line.old)) }
 {
     let mut out = [0u8; 256];
-    let r = put_for_each(&mut out, &line[0..n], first, s, a, b);
-    let Passed::Text(m) = r else {
-        return Passed::Long;
-    };
+    let m = put_for_each(&mut out, &line[0..n], first, s, a, b)?;
     copy_in(line, 0, &out, 0, m);
-    Passed::Text(m)
+    Ok(m)
 }
 
 // The text in the first n bytes of the line, passed through the global of the item at k. Most lines have no occurrence and stay as they are.
-pub fn apply(script: &[u8], w: &[u32], k: usize, line: &mut [u8], n: usize) -> Passed
+pub fn apply(
+    script: &[u8],
+    w: &[u32],
+    k: usize,
+    line: &mut [u8],
+    n: usize,
+) -> Result<usize, TooLong>
     requires { MakesGlobal script.now w.now k × (n ≤ 255) × (256 ≤ length line.old) }
     ensures { PassesOne script.now w.now k (take n line.old) result line.new }
 {
@@ -76,7 +92,7 @@ pub fn apply(script: &[u8], w: &[u32], k: usize, line: &mut [u8], n: usize) -> P
     let to = from + length_at(w, k + 1);
     let first = next_place(&line[0..n], 0, &script[from..to]);
     if first == n {
-        return Passed::Text(n);
+        return Ok(n);
     }
     let word = w[k + 3];
     let start = string_start(word);

@@ -12,8 +12,9 @@ use Rattle.definitions.specs.StepProgram.{gives, ◌>>=◌, ◌>>◌, runs, stat
 use Rattle.definitions.specs.Edit.{go_to, Op, program, step}
 use Rattle.editor.specs.Shows.{lent, Came, Answered, Performs, target_numbered}
 use Rattle.editor.specs.declared.State.{State}
-use Rattle.editor.specs.declared.Moved.{Moved}
-use Rattle.editor.specs.declared.Moved.TheVariants.{On, Stop}
+use Rattle.std.specs.Prelude.{Ok}
+use Rattle.editor.specs.Stops.{Moved, stopping}
+use Rattle.editor.specs.declared.Stop.{Stop}
 use Rattle.editor.proofs.Parts.{lent_same, perform-then, perform-halt}
 use Rattle.inserts.specs.Lines.{spot_of}
 use Rattle.inserts.proofs.Codes.{spot-some}
@@ -28,11 +29,11 @@ module _ (c : Carried) (ls : List Line) (e : Ed) (t : Tape) (j : List ℕ) (n : 
   unfolding step program ◌>>◌
   spot_is = rw (spot-some n given)
 
-  pub insert-stop : (i : List ℕ) (m : Moved) {k : ℕ} {s : State} → m ≡ Stop k s → Came i m (runs (lent j) c (go_to (target_numbered (n - 1))) e t)
+  pub insert-stop : (i : List ℕ) (m : Moved) {k : Stop} {s : State} → m ≡ stopping k s → Came i m (runs (lent j) c (go_to (target_numbered (n - 1))) e t)
       → Answered i m (step (lent j) (Op.insert (spot_of n) ls) (state e c) t)
   insert-stop i m {k} {s} q h = rw (spot_is, q) (perform-halt (lent j) c (go_to (target_numbered (n - 1))) (λ u. gives (changes (put ls ∷ []))) e t i k s (rw q at h))
 
-  pub insert-then : {i : List ℕ} {m : Moved} {s : State} (k : List ℕ) (r : Moved) → m ≡ On s → Came i m (runs (lent j) c (go_to (target_numbered (n - 1))) e t)
+  pub insert-then : {i : List ℕ} {m : Moved} {s : State} (k : List ℕ) (r : Moved) → m ≡ Ok s → Came i m (runs (lent j) c (go_to (target_numbered (n - 1))) e t)
       → length i ≡ length j → ((c : Carried) → Performs c i s (Op.insert none ls) k r) → Answered k r (step (lent j) (Op.insert (spot_of n) ls) (state e c) t)
   insert-then {i} k r q h long rest =
       rw spot_is

@@ -11,7 +11,7 @@ ghost use Rattle.items.specs.Words.{part_of};
 ghost use Rattle.editor.specs.Shows.{Holds, ShowsText, Performs, Puts};
 ghost use Rattle.inserts.specs.Lines.{feed_place, Insertable, room_of, spot_of};
 
-use editor::{Moved, State};
+use editor::{State, Stop, Stopped};
 
 // The end of the line that starts at `at`: the place of its line feed, or `end`.
 fn line_end(s: &[u8], at: usize, end: usize) -> usize
@@ -60,28 +60,41 @@ pub fn put_lines(j: &mut [u8], st: State, s: &[u8], start: usize, end: usize) ->
 }
 
 // I: the lines are inserted before the current one. The room is tested for all of them at once.
-pub fn insert_lines(j: &mut [u8], st: State, s: &[u8], start: usize, end: usize) -> Moved
+pub fn insert_lines(
+    j: &mut [u8],
+    st: State,
+    s: &[u8],
+    start: usize,
+    end: usize,
+) -> Result<State, Stopped>
     requires { ShowsText j.old st × Insertable s.now start end }
     ensures { (c : Carried) → Performs c j.old st (Op.insert none (lines_of (part_of s.now start end))) j.new result }
 {
     let room = st.back - st.front;
     if room < lines_room(s, start, end) {
-        return Moved::Stop(26, st);
+        return Err(Stopped {
+            stop: Stop::JournalFull,
+            st,
+        });
     }
-    Moved::On(put_lines(j, st, s, start, end))
+    Ok(put_lines(j, st, s, start, end))
 }
 
 // I with a line to move to or none, by its number: 0 is none, and any other number is that of the line in M, plus 1.
-pub fn insert_at(j: &mut [u8], st: State, spot: usize, s: &[u8], start: usize, end: usize) -> Moved
+pub fn insert_at(
+    j: &mut [u8],
+    st: State,
+    spot: usize,
+    s: &[u8],
+    start: usize,
+    end: usize,
+) -> Result<State, Stopped>
     requires { ShowsText j.old st × Insertable s.now start end }
     ensures { Performs no_globals j.old st (Op.insert (spot_of spot) (lines_of (part_of s.now start end))) j.new result }
 {
     if spot == 0 {
         return insert_lines(j, st, s, start, end);
     }
-    let moved = editor::moves::go_to(j, st, spot - 1);
-    let Moved::On(there) = moved else {
-        return moved;
-    };
+    let there = editor::moves::go_to(j, st, spot - 1)?;
     insert_lines(j, there, s, start, end)
 }

@@ -3,7 +3,5 @@ pub mod Reading
 pub mod Keeping
 pub mod OpenerWords
 pub mod Deepest
-pub mod Closing
-pub mod Choosing
 pub mod Meaning
 pub mod Strings

@@ -9,14 +9,15 @@ use Rattle.definitions.specs.Edit.{is, is_not, is_eof}
 use Rattle.definitions.specs.Control.{Opener, times, forever, bare, branch, loop, otherwise}
 use Rattle.items.specs.Kinds.{else_kind, if_kind, unless_kind, while_kind, until_kind, count_kind, repeat_kind, bare_kind, if_eof_kind, long_count_kind}
 use Rattle.items.specs.Words.{head, kind_at, SearchAt, TimesAt, OpenerAt, ItemAt}
-use Rattle.items.specs.Ends.{counting, once, way_of, way_by, times_at}
+use Rattle.items.specs.Ends.{way_of, way_by, times_at}
+use Rattle.items.specs.declared.openers.Way.TheVariants.{Counting, Once}
 use Rattle.items.proofs.FirstWords.{head-kind, head-number}
 
 module _ (s w : List ℕ) (k m place : ℕ) where
   pub kind-word : (kind : ℕ) → kind < 256 → get_or w k 0 ≡ head kind place → kind_at w k ≡ kind
   kind-word kind small h = head-kind (get_or w k 0) kind place 0 small (h ∙ omega arith)
 
-  pub times_way : (n : ℕ) → TimesAt s w k m place n → way_by (kind_at w k) ≡ counting
+  pub times_way : (n : ℕ) → TimesAt s w k m place n → way_by (kind_at w k) ≡ Counting
   unfolding TimesAt way_by
   times_way n (inl h) = rw (head-kind (get_or w k 0) count_kind place n (omega arith) h.1.1)
   times_way n (inr h) = rw (kind-word long_count_kind (omega arith) h.1)
@@ -45,6 +46,6 @@ module _ (s w : List ℕ) (k m place : ℕ) where
   opener-way (loop is_eof) h = absurd h
 
   -- the group after ELSE
-  pub else-way : ItemAt s w k m otherwise → way_by (kind_at w k) ≡ once
+  pub else-way : ItemAt s w k m otherwise → way_by (kind_at w k) ≡ Once
   unfolding ItemAt way_by
   else-way h = rw (head-kind (get_or w k 0) else_kind 0 0 (omega arith) (h.1 ∙ omega arith))

@@ -17,7 +17,8 @@ use Rattle.matching.proofs.Reading.{one-reads}
 use Rattle.matching.proofs.Running.{forward as ahead}
 use Rattle.items.specs.Kinds.{word_shape, pair_shape, four_shape, string_shape, change_shape, search_shape, test_shape, opener_shape, long_opener_shape, shape_of, line_end_kind, bracket_kind, close_kind, else_kind, leave_kind, quit_kind, next_kind, previous_kind, copy_kind, point_start_kind, right_kind, left_kind, cut_byte_kind, cancel_kind, move_kind, delete_kind, insert_string_kind, join_kind, replace_kind, insert_lines_kind, word_set_kind, if_kind, unless_kind, while_kind, until_kind, count_kind, repeat_kind, bare_kind, if_eof_kind, long_count_kind, case_kind, point_kind, split_kind, change_kind, global_kind, seek_kind}
 use Rattle.items.specs.Words.{head, head_with, kind_at, place_at, end_bit, TwoStringsAt, OpAt, SearchAt, TimesAt, OpenerAt, ItemAt, ItemsAt}
-use Rattle.items.specs.Ends.{class_of, class_in, class_by, place_of, is_one_word, end_in, end_by, seen_at}
+use Rattle.items.specs.Ends.{class_of, mark_by, class_in, class_by, place_of, is_one_word, end_in, end_by, seen_at}
+use Rattle.items.specs.declared.ends.Class.{Class}
 use Rattle.items.specs.declared.ends.Seen.{Seen}
 use Rattle.items.proofs.FirstWords.{head-kind, head-place}
 
@@ -185,12 +186,12 @@ module _ (s w : List ℕ) (k m : ℕ) where
     opener-reads (loop (is_not se)) h = test-reads (loop (is_not se)) until_kind se (omega arith) refl h
     opener-reads (loop is_eof) h = absurd h
 
-  mark-reads : (i : Item) (kind place : ℕ) → kind < 16 → kind ≡ class_of i → place ≡ place_of i → (m ≡ k + 1) × (get_or w k 0 ≡ head kind place) → ReadsBack w k m i
+  mark-reads : (i : Item) (kind place : ℕ) → kind < 16 → mark_by kind ≡ class_of i → place ≡ place_of i → (m ≡ k + 1) × (get_or w k 0 ≡ head kind place) → ReadsBack w k m i
   unfolding class_in end_in is_one_word
   mark-reads i kind place few class at h = reads-one w k m i kind place 0 (omega arith) (h.1 ∙ omega arith) at 0 (omega arith) refl class refl h.0
 
   pub item-reads : (i : Item) → ItemAt s w k m i → ReadsBack w k m i
-  unfolding ItemAt SearchAt class_in end_in is_one_word class_of place_of
+  unfolding ItemAt SearchAt class_in mark_by end_in is_one_word class_of place_of
   item-reads (simple place op) h = op-reads place op h
   item-reads (seek place f se) h =
       let x = seek-shape f in
@@ -233,7 +234,7 @@ module _ (w : List ℕ) (k kind : ℕ) (kind-is : kind ≡ kind_at w k) where
       (omega (arith, r.further, room), λ more. omega (arith, r.long (ap (λ (x : ℕ). is_one_word (shape_of x)) (sym kind-is) ∙ more), room))
 
   -- by its class and its end
-  pub seen-is : (class : ℕ) → class ≡ class_by kind → (after : ℕ) → after ≡ end_by w k kind → record { class = class; next = after } ≡ seen_at w k
+  pub seen-is : (class : Class) → class ≡ class_by kind → (after : ℕ) → after ≡ end_by w k kind → record { class = class; next = after } ≡ seen_at w k
   seen-is class is_class after is-after = rw (is_class, is-after, kind-is)
 
 -- what it is and where it ends, as an item

@@ -2,39 +2,38 @@
 use Rattle.std.specs.Prelude.{Bool, cond, ◌||◌, List, ℕ, ◌+◌, get_or, eqb}
 use Rattle.definitions.specs.Control.{Opener, times, forever, bare, branch, loop, Item, simple, seek, opens, bracket, close, otherwise, leave, line_end}
 use Rattle.matching.specs.Words.{end_at}
-use Rattle.items.specs.Kinds.{mark_shape, word_shape, pair_shape, four_shape, string_shape, change_shape, search_shape, test_shape, opener_shape, long_opener_shape, shape_of, line_end_kind, bracket_kind, close_kind, else_kind, leave_kind, count_kind, long_count_kind, repeat_kind, if_kind, unless_kind, if_eof_kind, while_kind, until_kind}
+use Rattle.items.specs.Kinds.{mark_shape, word_shape, pair_shape, four_shape, string_shape, change_shape, search_shape, test_shape, opener_shape, long_opener_shape, shape_of, line_end_kind, bracket_kind, close_kind, else_kind, count_kind, long_count_kind, repeat_kind, if_kind, unless_kind, if_eof_kind, while_kind, until_kind}
 use Rattle.items.specs.Words.{kind_at, number_at}
+use Rattle.items.specs.declared.ends.Class.{Class}
+use Rattle.items.specs.declared.ends.Class.TheVariants.{LineEnd, Bracket, Close, Else, Agp, Simple, Seeks, Opens}
 use Rattle.items.specs.declared.ends.Seen.{Seen}
+use Rattle.items.specs.declared.openers.Way.{Way}
+use Rattle.items.specs.declared.openers.Way.TheVariants.{Counting, Repeating, Once, Branching, Looping}
 
--- ---- what an item is: the kind of a mark, or one of three
+-- ---- what an item is
 
-abbrev pub simple_class : ℕ
-simple_class = 5
+unfoldable pub class_of : Item → Class
+class_of line_end = LineEnd
+class_of bracket = Bracket
+class_of close = Close
+class_of otherwise = Else
+class_of (leave at) = Agp
+class_of (simple at op) = Simple
+class_of (seek at f se) = Seeks
+class_of (opens at o) = Opens
 
-abbrev pub search_class : ℕ
-search_class = 6
-
-abbrev pub opener_class : ℕ
-opener_class = 7
-
-unfoldable pub class_of : Item → ℕ
-class_of line_end = line_end_kind
-class_of bracket = bracket_kind
-class_of close = close_kind
-class_of otherwise = else_kind
-class_of (leave at) = leave_kind
-class_of (simple at op) = simple_class
-class_of (seek at f se) = search_class
-class_of (opens at o) = opener_class
+-- a mark, by its kind
+unfoldable pub mark_by : ℕ → Class
+mark_by kind = cond (eqb kind line_end_kind) LineEnd (cond (eqb kind bracket_kind) Bracket (cond (eqb kind close_kind) Close (cond (eqb kind else_kind) Else Agp)))
 
 -- by its kind and the shape of that
-unfoldable pub class_in : ℕ → ℕ → ℕ
+unfoldable pub class_in : ℕ → ℕ → Class
 class_in kind shape =
-    cond (eqb shape mark_shape) kind
-    (cond (eqb shape search_shape) search_class
-    (cond (eqb shape test_shape || eqb shape opener_shape || eqb shape long_opener_shape) opener_class simple_class))
+    cond (eqb shape mark_shape) (mark_by kind)
+    (cond (eqb shape search_shape) Seeks
+    (cond (eqb shape test_shape || eqb shape opener_shape || eqb shape long_opener_shape) Opens Simple))
 
-abbrev pub class_by : ℕ → ℕ
+abbrev pub class_by : ℕ → Class
 class_by kind = class_in kind (shape_of kind)
 
 unfoldable pub place_of : Item → ℕ
@@ -72,35 +71,20 @@ seen_at w k = record { class = class_by (kind_at w k); next = end_by w k (kind_a
 
 -- ---- what the body of an opener does: a count of rounds, on and on, once, once if a test holds, while a test holds
 
-abbrev pub counting : ℕ
-counting = 0
-
-abbrev pub repeating : ℕ
-repeating = 1
-
-abbrev pub once : ℕ
-once = 2
-
-abbrev pub branching : ℕ
-branching = 3
-
-abbrev pub looping : ℕ
-looping = 4
-
-unfoldable pub way_of : Opener → ℕ
-way_of (times n) = counting
-way_of forever = repeating
-way_of bare = once
-way_of (branch c) = branching
-way_of (loop c) = looping
+unfoldable pub way_of : Opener → Way
+way_of (times n) = Counting
+way_of forever = Repeating
+way_of bare = Once
+way_of (branch c) = Branching
+way_of (loop c) = Looping
 
 -- by the kind; the group after ELSE runs once
-unfoldable pub way_by : ℕ → ℕ
+unfoldable pub way_by : ℕ → Way
 way_by kind =
-    cond (eqb kind count_kind || eqb kind long_count_kind) counting
-    (cond (eqb kind repeat_kind) repeating
-    (cond (eqb kind if_kind || eqb kind unless_kind || eqb kind if_eof_kind) branching
-    (cond (eqb kind while_kind || eqb kind until_kind) looping once)))
+    cond (eqb kind count_kind || eqb kind long_count_kind) Counting
+    (cond (eqb kind repeat_kind) Repeating
+    (cond (eqb kind if_kind || eqb kind unless_kind || eqb kind if_eof_kind) Branching
+    (cond (eqb kind while_kind || eqb kind until_kind) Looping Once)))
 
 -- how often the body of the count at k is to run
 unfoldable pub times_at : List ℕ → ℕ → ℕ

@@ -26,13 +26,11 @@ pub fn string_length(word: u32) -> usize
 }
 
 // The lines of D and R, from a to b: the number in the first word is 1 where b is EOF, 65,536.
+#[tactic(auto, unfolding(crate::specs::Arguments::span_number))]
 fn span_number(b: usize) -> u32
     ensures { (result ≡ span_number b) × (result < 512) }
 {
-    if b == 65536 {
-        return 1;
-    }
-    0
+    u32::from(b == 65536)
 }
 
 // The first word of D or R.
@@ -44,6 +42,7 @@ pub fn span_head(kind: u32, place: usize, b: usize) -> u32
 }
 
 // The second word: the first line, and the last one where it is numbered.
+#[tactic(auto, unfolding(crate::specs::Arguments::span_word))]
 pub fn span_word(a: usize, b: usize) -> u32
     requires { (a < 65536) × (b ≤ 65536) }
     ensures { result ≡ span_word a b }
@@ -62,6 +61,7 @@ pub fn span_from(word: u32) -> usize
 }
 
 // How far it goes, by the number in the first word and the second word: 0 for one line, 65,536 for `*`.
+#[tactic(auto, unfolding(crate::specs::Arguments::span_through))]
 pub fn span_through(n: u32, word: u32) -> usize
     ensures { result ≡ span_through n word }
 {
@@ -72,6 +72,7 @@ pub fn span_through(n: u32, word: u32) -> usize
 }
 
 // The word of I's line: 0 where none is given, 65,537.
+#[tactic(auto, unfolding(crate::specs::Arguments::spot_word))]
 pub fn spot_word(a: usize) -> u32
     requires { a ≤ 65537 }
     ensures { result ≡ spot_word a }

@@ -52,13 +52,9 @@ pub fn shape_of(kind: u32) -> u32
 }
 
 // GA, GB and GE, among the kinds of a change's shape.
+#[tactic(auto, unfolding(crate::specs::Kinds::is_global))]
 pub fn is_global(kind: u32) -> bool
     ensures { result ≡ is_global kind }
 {
-    match kind {
-        GLOBAL_AFTER => true,
-        GLOBAL_BEFORE => true,
-        GLOBAL_EXCHANGE => true,
-        _ => false,
-    }
+    matches!(kind, GLOBAL_AFTER | GLOBAL_BEFORE | GLOBAL_EXCHANGE)
 }

@@ -1,4 +1,5 @@
-// The kinds of items: the one table. Each shape has sixteen kinds; an item's shape says how many words it has and what they hold.
+// The kinds of items: the one table. Each shape has sixteen kinds; an item's shape says how many words it has and what they hold. They are numbers and
+// no enum, since a kind is a byte in a word of the work area, which C lends, and a shape is a kind over 16: an enum would be made of a byte at each read.
 
 // A mark of the script's structure, or AGP: one word.
 pub const MARKS: u32 = 0;

@@ -35,9 +35,5 @@ pub fn put_closes(w: &mut [u32], k: usize, n: usize)
     requires { k + n ≤ length w.old }
     ensures { Closed k n w.old w.new }
 {
-    let mut i: usize = 0;
-    while i < n {
-        w[k + i] = CLOSE;
-        i += 1;
-    }
+    w[k..k + n].fill(CLOSE);
 }

@@ -1,10 +1,12 @@
 -- Whether a journal is arranged, record by record. Assumes nothing.
+use Rattle.std.proofs.Common.{Some, None}
+use denote.Enum.Bare.{sameb}
+use Rattle.journal.specs.contracts.records.Mark.{the_type}
 use mathlib.Core.Path.{◌≡◌, refl, sym, ap, ◌∙◌}
 use mathlib.Core.Bool.{Bool, true, false, ◌&&◌, true≢false}
 use mathlib.Core.Option.{some}
 use mathlib.Core.List.{List, ◌∷◌}
-use Prim.Native.Nat.{ℕ, ◌+◌, ◌≤◌, ◌<◌}
-use lib.ListN.{length}
+use Prim.Native.Nat.{ℕ, ◌+◌}
 use Rattle.definitions.specs.Bytes.{Line}
 use Rattle.definitions.specs.Journal.{Record, records_of}
 use Rattle.definitions.specs.Joining.{is_arranged_from, is_arranged}
@@ -12,12 +14,17 @@ use Rattle.journal.specs.Records.{record_at, record_of, record_in, Left}
 use Rattle.journal.specs.declared.records.Mark.{Mark}
 use Rattle.journal.specs.declared.records.Mark.TheVariants.{Kept, Changed, Deleted, Inserted}
 use Rattle.journal.specs.declared.records.Extent.{Extent}
-use Rattle.journal.specs.declared.records.RecordAt.TheVariants.{Found, NoRecord}
-use Rattle.journal.proofs.Here.{nowhere}
-use Rattle.journal.proofs.Left.{none-some, some_is, left-start, left_end, left-next}
+use Rattle.journal.proofs.Left.{some_is, left-start, left-none, left-next}
 use Rattle.joinable.specs.Joinable.{is_left, came_after}
 
 -- ---- one record
+
+pub left-is : (m : Mark) → sameb the_type m Deleted ≡ is_left m
+unfolding is_left
+left-is Kept = refl
+left-is Changed = refl
+left-is Deleted = refl
+left-is Inserted = refl
 
 -- a `--` after a `++` of its stretch
 order-breaks : (came : Bool) (m : Mark) (a b : Line) (rs : List Record) → (came && is_left m) ≡ true → is_arranged_from came (record_of m a b ∷ rs) ≡ false
@@ -55,25 +62,22 @@ module _ (j : List ℕ) where
   }
 
   module _ (at : ℕ) (came : Bool) (s : Ordered j at came) where
-    pub ordered-nowhere : at < length j → record_at j at ≡ NoRecord → ⊥
-    ordered-nowhere h e = none-some s.rs (sym (nowhere j at h e) ∙ s.left)
-
-    pub ordered_end : length j ≤ at → (all : List Record) → records_of j ≡ some all → true ≡ is_arranged all
+    pub ordered_end : record_at j at ≡ None → (all : List Record) → records_of j ≡ some all → true ≡ is_arranged all
     unfolding is_arranged_from
-    ordered_end h all k = sym (s.whole all k ∙ ap (is_arranged_from came) (left_end j at s.rs h s.left))
+    ordered_end h all k = sym (s.whole all k ∙ ap (is_arranged_from came) (left-none j at s.rs s.left h))
 
-    module _ (x : Extent) (found : record_at j at ≡ Found x) where
+    module _ (x : Extent) (found : record_at j at ≡ Some x) where
       pub ordered-wrong : (came && is_left x.mark) ≡ true → (all : List Record) → records_of j ≡ some all → false ≡ is_arranged all
       unfolding record_in
       ordered-wrong h all k =
           let n = left-next j at s.rs x s.left found in
           sym (s.whole all k ∙ ap (is_arranged_from came) n.2 ∙ order-breaks came x.mark _ _ n.0 h)
 
-      pub ordered-next : (came && is_left x.mark) ≡ false → (came' : Bool) → came' ≡ came_after came x.mark → Ordered j (x.end + 1) came'
+      pub ordered-next : (came && is_left x.mark) ≡ false → (at' : ℕ) (came' : Bool) → at' ≡ x.end + 1 → came' ≡ came_after came x.mark → Ordered j at' came'
       unfolding record_in
-      ordered-next h came' e =
+      ordered-next h at' came' i e =
           let n = left-next j at s.rs x s.left found in
-          rw e (record {
+          rw (i, e) (record {
             rs = n.0;
             left = n.1;
             whole = λ all k. s.whole all k ∙ ap (is_arranged_from came) n.2 ∙ order-keeps came x.mark _ _ n.0 h;

@@ -1,7 +1,8 @@
 -- What is taken, and the ways out of `joinable`. Assumes nothing.
+use Rattle.std.proofs.Common.{Some, None}
 use mathlib.Core.Path.{◌≡◌, refl, sym, ap}
 use mathlib.Core.Bool.{Bool, true, false, cond, and-true, and-false, true≢false}
-use mathlib.Core.Option.{Option, none, some}
+use mathlib.Core.Option.{Option as Maybe, none, some}
 use mathlib.Core.List.{List}
 use Prim.Native.Nat.{ℕ, ◌≤◌, ◌<◌}
 use lib.ListN.{length}
@@ -10,18 +11,17 @@ use Rattle.definitions.specs.Journal.{Record, new_side, records_of}
 use Rattle.definitions.specs.Joining.{is_arranged, only_arranged, arranged_of}
 use Rattle.journal.specs.Measuring.{measures_of, checked}
 use Rattle.journal.specs.declared.measure.Measures.{Measures}
-use Rattle.journal.specs.declared.measure.Checked.TheVariants.{Records, NotRecords}
 use Rattle.journal.proofs.Answers.{checked-none, checked-some}
 use Rattle.joinable.specs.Joinable.{is_taken}
 
 -- ---- what is taken
 
-pub is-taken : (o : Option (List Record)) → is_taken o ≡ true → (rs : List Record) × (o ≡ some rs)
+pub is-taken : (o : Maybe (List Record)) → is_taken o ≡ true → (rs : List Record) × (o ≡ some rs)
 unfolding is_taken
 is-taken none h = absurd (true≢false (sym h))
 is-taken (some rs) h = (rs, refl)
 
-pub not_taken : (o : Option (List Record)) → is_taken o ≡ false → o ≡ none
+pub not_taken : (o : Maybe (List Record)) → is_taken o ≡ false → o ≡ none
 unfolding is_taken
 not_taken none h = refl
 not_taken (some rs) h = absurd (true≢false h)
@@ -34,11 +34,11 @@ taken-if true rs = refl
 taken-if false rs = refl
 
 module _ (j : List ℕ) where
-  pub taken_none : checked (records_of j) ≡ NotRecords → false ≡ is_taken (arranged_of j)
+  pub taken_none : checked (records_of j) ≡ None → false ≡ is_taken (arranged_of j)
   unfolding arranged_of only_arranged is_taken
   taken_none h = rw (checked-none (records_of j) h)
 
-  module _ (m : Measures) (h : checked (records_of j) ≡ Records m) where
+  module _ (m : Measures) (h : checked (records_of j) ≡ Some m) where
     pub taken-records : (rs : List Record) × (records_of j ≡ some rs)
     taken-records = let f = checked-some (records_of j) m h in (f.0, f.1)
 

@@ -7,29 +7,23 @@ ghost use Rattle.definitions.specs.Journal.{Record, records_of};
 ghost use Rattle.definitions.specs.Joining.{is_arranged, arranged_of};
 ghost use Rattle.joinable.specs.Joinable.{is_taken, is_left, came_after};
 
-use journal::measure::Checked;
-use journal::records::{Mark, RecordAt};
-use journal::{measure, records};
+use journal::measure;
+use journal::records::{Mark, Records};
 
 // A `--` record.
 fn is_left(mark: Mark) -> bool
     ensures { result ≡ is_left mark }
 {
-    match mark {
-        Mark::Kept => false,
-        Mark::Changed => false,
-        Mark::Deleted => true,
-        Mark::Inserted => false,
-    }
+    mark == Mark::Deleted
 }
 
 // Whether a `++` of the stretch has gone by after a record, if `came` says so before it.
+#[tactic(auto, unfolding(crate::specs::Joinable::came_after))]
 fn came_after(came: bool, mark: Mark) -> bool
     ensures { result ≡ came_after came mark }
 {
     match mark {
-        Mark::Kept => false,
-        Mark::Changed => false,
+        Mark::Kept | Mark::Changed => false,
         Mark::Deleted => came,
         Mark::Inserted => true,
     }
@@ -41,18 +35,11 @@ fn in_order(j: &[u8]) -> bool
     ensures { (rs : List Record) → records_of j.now ≡ some rs → result ≡ is_arranged rs }
 {
     let mut came = false;
-    let mut at: usize = 0;
-    while at < j.len() {
-        let found = records::record_at(j, at);
-        let RecordAt::Found(x) = found else {
-            return false;
-        };
-        let mark = x.mark;
-        if came & is_left(mark) {
+    for x in Records::from_start(j) {
+        if came & is_left(x.mark) {
             return false;
         }
-        came = came_after(came, mark);
-        at = x.end + 1;
+        came = came_after(came, x.mark);
     }
     true
 }
@@ -61,12 +48,8 @@ fn in_order(j: &[u8]) -> bool
 pub fn joinable(j: &[u8]) -> bool
     ensures { result ≡ is_taken (arranged_of j.now) }
 {
-    let found = measure::check(j);
-    let Checked::Records(m) = found else {
+    let Some(m) = measure::check(j) else {
         return false;
     };
-    if 65535 < m.shown {
-        return false;
-    }
-    in_order(j)
+    m.shown <= 65535 && in_order(j)
 }

@@ -14,7 +14,9 @@ use Rattle.theorems.specs.NestingLaws.{none-some}
 use Rattle.editor.specs.Records.{enc, enc_all, Good}
 use Rattle.editor.specs.Shows.{Shows, ShowsText}
 use Rattle.editor.specs.declared.State.{State}
-use Rattle.editor.specs.declared.Moved.TheVariants.{On, Stop}
+use Rattle.std.specs.Prelude.{Ok}
+use Rattle.editor.specs.Stops.{stopping}
+use Rattle.editor.specs.declared.Stop.TheVariants.{JournalFull}
 use Rattle.editor.proofs.Records.{all-length, three-bytes}
 use Rattle.editor.proofs.Held.{held-length}
 use Rattle.editor.proofs.Reading.{journal-is}
@@ -119,7 +121,7 @@ no_line b p t w less = none-some (next-text (ed b [] p) t (next-some (ed b [] p)
 module _ {j : List ℕ} {st : State} {at : ℕ} (l : Line) (fine : is_line l ≡ true) (d rec : List ℕ) (c : Anew) (made : MakesAnew j st l d rec c) (less : at < length j)
     (next freed : ℕ) (is : next ≡ at + line_length (drop at j)) (frees : (x : Record) (rs : List Record) → Stands j at (x ∷ rs) → next ≡ at + length (enc x) → freed ≡ freed_by x) where
   -- there is no room
-  pub join-full : (q : ℕ) → c.end + freed < st.front + c.n → JoinsLines j st at l q j (Stop 26 st)
+  pub join-full : (q : ℕ) → c.end + freed < st.front + c.n → JoinsLines j st at l q j (stopping JournalFull st)
   unfolding edits edit before_of after_of
   join-full q few (ed b [] p) x t h w = absurd (no_line b p t w less)
   join-full q few (ed b (r ∷ a) p) x t h w =
@@ -144,7 +146,7 @@ module _ {j : List ℕ} {st : State} {at : ℕ} (l : Line) (fine : is_line l ≡
       h
 
   pub join-on : (q : ℕ) (k : List ℕ) (s : State) → StrikesAt at j st k s → (k' : List ℕ) (s' : State) → length k' ≡ length j → Replaces k s (c.end + freed) rec c.n q k' s'
-      → JoinsLines j st at l q k' (On s')
+      → JoinsLines j st at l q k' (Ok s')
   join-on q k s strikes k' s' same puts (ed b [] p) x t h w = absurd (no_line b p t w less)
   join-on q k s strikes k' s' same puts (ed b (r ∷ a) p) x t h w =
       let n : NextRecord j at 1 (ed b (r ∷ a) p) t = next-some (ed b (r ∷ a) p) t w less in

@@ -21,8 +21,8 @@ use Rattle.editor.specs.Records.{enc, enc_all, Good}
 use Rattle.editor.specs.Shows.{Shows, point_of, lent, Answered}
 use Rattle.editor.specs.Current.{current_line, ShowsOf, ShownOf}
 use Rattle.editor.specs.declared.State.{State}
-use Rattle.editor.specs.declared.Moved.{Moved}
-use Rattle.editor.specs.declared.Moved.TheVariants.{Stop}
+use Rattle.editor.specs.Stops.{Moved, stopping}
+use Rattle.editor.specs.declared.Stop.TheVariants.{AtEof, LineLong, NoNext}
 use Rattle.editor.proofs.Parts.{perform-as, perform-stop, perform-line, perform-no-line, came-stop}
 use Rattle.spans.specs.Spans.{NextAt, ReadsNext}
 use Rattle.spans.specs.declared.Next.{Next}
@@ -64,11 +64,11 @@ there {j} {st} {at} (ed b (x ∷ a) p) t h w less =
 -- ---- the end of the step
 
 module _ (g : Given) (c : Carried) (l : Line) (q : ℕ) (e : Ed) (t : Tape) where
-  joined-long : (j : List ℕ) (st : State) → 255 < length l → Shows j st e t → Answered j (Stop 25 st) (perform g (write_joined l q) (state e c) t)
+  joined-long : (j : List ℕ) (st : State) → 255 < length l → Shows j st e t → Answered j (stopping LineLong st) (perform g (write_joined l q) (state e c) t)
   unfolding write_joined stop_number
   joined-long j st long h =
-      perform-stop g c (write_joined l q) e t j 25 st
-      (came-stop (runs-halt g c n25 (ltb 255 (length l)) (gives (changes (retext l q ∷ strike_next ∷ []))) e t (lt-ltb 255 (length l) long)) refl h)
+      perform-stop g c (write_joined l q) e t j LineLong st
+      (came-stop LineLong (runs-halt g c n25 (ltb 255 (length l)) (gives (changes (retext l q ∷ strike_next ∷ []))) e t (lt-ltb 255 (length l) long)) refl h)
 
   joined-on : length l ≤ 255 → perform g (write_joined l q) (state e c) t ≡ perform g (gives (changes (retext l q ∷ strike_next ∷ []))) (state e c) t
   unfolding write_joined
@@ -80,9 +80,9 @@ module _ (g : Given) (c : Carried) (l : Line) (q : ℕ) (e : Ed) (t : Tape) wher
 
 module _ {table j : List ℕ} {st : State} (s : Line) where
   -- EOF is current
-  pub join-eof : length j ≤ st.back → Joins table j st s j (Stop 20 st)
+  pub join-eof : length j ≤ st.back → Joins table j st s j (stopping AtEof st)
   unfolding step program joining stop_number
-  join-eof end e t h = perform-no-line (lent j) no_globals n20 (joining s) e t h.shows 20 refl end
+  join-eof end e t h = perform-no-line (lent j) no_globals n20 (joining s) e t h.shows AtEof refl end
 
   module _ (more : st.back < length j) (r : Next) (reads : ReadsNext j st r) where
     read : (e : Ed) (t : Tape) → ShowsOf table j st e t → NextRead j 1 r (runs (lent j) no_globals (read_past 1) e t)
@@ -100,14 +100,14 @@ module _ {table j : List ℕ} {st : State} (s : Line) where
         ∙ perform-as (lent j) no_globals (◌>>=◌ next_or30 k) (◌>>=◌ (or_stop n30 (first_live (drop 1 (after_of w.text)))) k) e w.text t w.tape (once-read (lent j) no_globals e t w.text w.tape w.is k)
 
     -- there is none
-    pub join-none : length j ≤ r.at → Joins table j st s j (Stop 30 r.st)
+    pub join-none : length j ≤ r.at → Joins table j st s j (stopping NoNext r.st)
     unfolding stop_number
     join-none end e t h =
         let w : NextRead j 1 r (runs (lent j) no_globals (read_past 1) e t) = read e t h in
         let k : Line → Program Did = λ m. write_joined (current_line e ++ (s ++ m)) (point_of e) in
         rw (joins-next e t h)
-        (perform-stop (lent j) no_globals (◌>>=◌ (or_stop n30 (first_live (drop 1 (after_of w.text)))) k) w.text w.tape j 30 r.st
-        (came-stop (runs_none (lent j) no_globals n30 (first_live (drop 1 (after_of w.text))) k w.text w.tape (next-none w.text w.tape w.next end)) refl w.shows))
+        (perform-stop (lent j) no_globals (◌>>=◌ (or_stop n30 (first_live (drop 1 (after_of w.text)))) k) w.text w.tape j NoNext r.st
+        (came-stop NoNext (runs_none (lent j) no_globals n30 (first_live (drop 1 (after_of w.text))) k w.text w.tape (next-none w.text w.tape w.next end)) refl w.shows))
 
     module _ (less : r.at < length j) where
       pub has-next : ShownOf table j st → HasNext j r.st r.at
@@ -139,7 +139,7 @@ module _ {table j : List ℕ} {st : State} (s : Line) where
 
       module _ (d line : List ℕ) (len : ℕ) (did : JoinsText table j st r.at s d line len) where
         -- the joined line is too long
-        pub join-long : 255 < len → Joins table j st s j (Stop 25 r.st)
+        pub join-long : 255 < len → Joins table j st s j (stopping LineLong r.st)
         join-long long e t h =
             let w : NextRead j 1 r (runs (lent j) no_globals (read_past 1) e t) = read e t h in
             let x : There j r.at w.text = here e t h in

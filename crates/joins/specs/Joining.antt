@@ -11,7 +11,7 @@ use Rattle.editor.specs.Records.{enc, Good}
 use Rattle.editor.specs.Shows.{Shows, lent, Answered}
 use Rattle.editor.specs.Current.{current_line, ShowsOf}
 use Rattle.editor.specs.declared.State.{State}
-use Rattle.editor.specs.declared.Moved.{Moved}
+use Rattle.editor.specs.Stops.{Moved}
 use Rattle.changes.specs.Current.{written}
 use Rattle.spans.specs.Spans.{NextAt}
 

@@ -9,11 +9,18 @@ ghost use Rattle.editor.specs.Records.{LineIn};
 ghost use Rattle.editor.specs.Current.{ShownOf};
 ghost use Rattle.joins.specs.Joining.{HasNext, JoinsLines, Joins};
 
-use editor::{Moved, State};
+use editor::{State, Stop, Stopped};
 
 // The current line's text becomes the first len bytes of line, p becomes q, and the next live line, whose record stands at `at`, is deleted. The room is
 // tested for both before one of them is done: what the deletion frees is room for the text.
-fn join_at(j: &mut [u8], st: State, at: usize, line: &[u8], len: usize, q: usize) -> Moved
+fn join_at(
+    j: &mut [u8],
+    st: State,
+    at: usize,
+    line: &[u8],
+    len: usize,
+    q: usize,
+) -> Result<State, Stopped>
     requires { HasNext j.old st at × (len ≤ length line.now) × (is_line (take len line.now) ≡ true) }
     ensures { JoinsLines j.old st at (take len line.now) q j.new result }
 {
@@ -24,31 +31,50 @@ fn join_at(j: &mut [u8], st: State, at: usize, line: &[u8], len: usize, q: usize
     let end = c.end + freed;
     let front = st.front;
     if end - front < n {
-        return Moved::Stop(26, st);
+        return Err(Stopped {
+            stop: Stop::JournalFull,
+            st,
+        });
     }
     let s = spans::striking::strike_at(j, st, at);
-    Moved::On(changes::rewrite::put_record(j, s, end, &rec, n, q))
+    Ok(changes::rewrite::put_record(j, s, end, &rec, n, q))
 }
 
 // CL: the string is the n bytes of s from `from` on.
-pub fn join(table: &[u8], j: &mut [u8], st: State, s: &[u8], from: usize, n: usize) -> Moved
+pub fn join(
+    table: &[u8],
+    j: &mut [u8],
+    st: State,
+    s: &[u8],
+    from: usize,
+    n: usize,
+) -> Result<State, Stopped>
     requires { ShownOf table.now j.old st × LineIn s.now from n }
     ensures { Joins table.now j.old st (take n (drop from s.now)) j.new result }
 {
     let here = st.back;
     if here >= j.len() {
-        return Moved::Stop(20, st);
+        return Err(Stopped {
+            stop: Stop::AtEof,
+            st,
+        });
     }
     let next = spans::finding::read_next(j, st);
     let at = next.at;
-    let u = next.st;
     if at >= j.len() {
-        return Moved::Stop(30, u);
+        return Err(Stopped {
+            stop: Stop::NoNext,
+            st: next.st,
+        });
     }
+    let u = next.st;
     let mut line = [0u8; 255];
     let len = texts::join_text(&mut line, table, j, st, at, s, from, n);
     if 255 < len {
-        return Moved::Stop(25, u);
+        return Err(Stopped {
+            stop: Stop::LineLong,
+            st: u,
+        });
     }
     join_at(j, u, at, &line, len, st.p)
 }

@@ -1,9 +1,10 @@
 -- Writing a journal: the state between two records, and its steps. Assumes nothing.
+use Rattle.std.proofs.Common.{None}
 use mathlib.Core.Path.{◌≡◌, sym, ap, ◌∙◌}
 use mathlib.Core.Bool.{true, false, not}
 use mathlib.Core.Option.{some}
 use mathlib.Core.List.{List, [], ◌∷◌, ◌++◌}
-use Prim.Native.Nat.{ℕ, ◌+◌, ◌≤◌, ◌<◌}
+use Prim.Native.Nat.{ℕ, ◌+◌, ◌≤◌}
 use native.Mathlib.Omega.{arith}
 use lib.ListN.{length, drop, length-append}
 use Rattle.definitions.specs.Bytes.{Line}
@@ -15,11 +16,10 @@ use Rattle.journal.specs.Views.{gone_by, piece, out_from, out_of}
 use Rattle.journal.specs.declared.records.Mark.{Mark}
 use Rattle.journal.specs.declared.records.Mark.TheVariants.{Kept, Changed, Deleted, Inserted}
 use Rattle.journal.specs.declared.records.Extent.{Extent}
-use Rattle.journal.specs.declared.records.RecordAt.TheVariants.{NoRecord}
 use Rattle.journal.specs.declared.records.View.{View}
 use Rattle.journal.specs.declared.write.Gone.{Gone}
-use Rattle.journal.proofs.Here.{Here, nowhere}
-use Rattle.journal.proofs.Left.{none-some, some_is, followed-some, left-start, left_end}
+use Rattle.journal.proofs.Here.{Here}
+use Rattle.journal.proofs.Left.{some_is, followed-some, left-start, left-none}
 use Rattle.journal.proofs.Views.{out-next, out_none}
 
 -- from `at` on the records `rs` are left; `out` bytes of `d` are written, `g` has gone by
@@ -46,12 +46,10 @@ module _ (view : View) (j d₀ : List ℕ) where
     pub going-few : g.lines ≤ 65535
     going-few = let f = s.few in omega arith
 
-    pub going-nowhere : at < length j → record_at j at ≡ NoRecord → ⊥
-    going-nowhere h e = none-some s.rs (sym (nowhere j at h e) ∙ s.left)
-
-    pub going_end : length j ≤ at → (all : List Record) → records_of j ≡ some all → d ≡ laid d₀ 0 (out_of view all)
+    -- no record stands at the place: none is left
+    pub going_end : record_at j at ≡ None → (all : List Record) → records_of j ≡ some all → d ≡ laid d₀ 0 (out_of view all)
     going_end h all k =
-        let e : s.rs ≡ [] = left_end j at s.rs h s.left in
+        let e : s.rs ≡ [] = left-none j at s.rs s.left h in
         sym (ap (λ (q : List Record). laid d out (out_from view g q)) e ∙ ap (laid d out) (out_none view g) ∙ laid_none d out) ∙ s.whole all k
 
     module _ (x : Extent) (w : Here j at x) where
@@ -91,6 +89,6 @@ module _ (view : View) (j d₀ : List ℕ) where
         whole = λ all k. laid-laid d out (piece view g (record_in j x)) going-room (out_from view (gone_by g x.mark) rest.0) ∙ ap (laid d out) (sym out-is) ∙ s.whole all k;
       }
 
-      pub going_next : (d' : List ℕ) (out' : ℕ) (g' : Gone) → d' ≡ laid d out (piece view g (record_in j x)) → out' ≡ out + length (piece view g (record_in j x)) → g' ≡ gone_by g x.mark
-          → Going view j d₀ (x.end + 1) out' g' d'
-      going_next d' out' g' e f h = rw (e, f, h) going_on
+      pub going_next : (at' : ℕ) (d' : List ℕ) (out' : ℕ) (g' : Gone) → at' ≡ x.end + 1 → d' ≡ laid d out (piece view g (record_in j x)) → out' ≡ out + length (piece view g (record_in j x)) → g' ≡ gone_by g x.mark
+          → Going view j d₀ at' out' g' d'
+      going_next at' d' out' g' a e f h = rw (a, e, f, h) going_on

@@ -1,4 +1,5 @@
 -- A record found at a place: its lines, and what it does to the records of the bytes from there on. Assumes nothing.
+use Rattle.std.proofs.Common.{Option, Some, None}
 use mathlib.Core.Path.{◌≡◌, refl, sym, ap, subst, ◌∙◌}
 use mathlib.Core.Bool.{false, not}
 use mathlib.Core.Option.{none}
@@ -10,17 +11,12 @@ use lib.Seq.{drop-cons}
 use Rattle.definitions.specs.Bytes.{Line, eq_line}
 use Rattle.definitions.specs.Journal.{followed}
 use Rattle.text.specs.Lines.{line_end, part}
-use Rattle.text.specs.declared.LineEnd.{LineEnd}
-use Rattle.text.specs.declared.LineEnd.TheVariants.{At, Bad}
 use Rattle.text.proofs.Lines.{Plain, line_plain}
 use Rattle.text.proofs.Ends.{Ended, ended}
 use Rattle.journal.specs.Records.{mark_of, mark_in, record_at, record_of, record_in, equal_lines, unchanged_in, InOrder, records_from}
 use Rattle.journal.specs.declared.records.Mark.{Mark}
 use Rattle.journal.specs.declared.records.Mark.TheVariants.{Kept, Changed, Deleted, Inserted}
-use Rattle.journal.specs.declared.records.MarkAt.{MarkAt}
-use Rattle.journal.specs.declared.records.MarkAt.TheVariants.{Is, NoMark}
 use Rattle.journal.specs.declared.records.Extent.{Extent}
-use Rattle.journal.specs.declared.records.RecordAt.TheVariants.{Found, NoRecord}
 use Rattle.journal.proofs.Places.{mark-there, no-mark, no-first, no_second, found-kept, found-changed, found-deleted, found-inserted}
 use Rattle.journal.proofs.Walk.{from-kept, from-changed, from-deleted, from-inserted, from-unmarked, from-bad, from-bad-new}
 
@@ -46,7 +42,7 @@ module _ (j : List ℕ) (at a b mid : ℕ) (front : drop at j ≡ a ∷ b ∷ dr
   plain : Plain (part (at + 2) mid j)
   plain = line_plain (part (at + 2) mid j) f.line
 
-  here-kept : mark_of a b ≡ Is Kept → Here j at (record { at = at; mark = Kept; mid = mid; end = mid })
+  here-kept : mark_of a b ≡ Some Kept → Here j at (record { at = at; mark = Kept; mid = mid; end = mid })
   unfolding unchanged_in equal_lines record_in record_of
   here-kept h = record {
     place = refl;
@@ -57,7 +53,7 @@ module _ (j : List ℕ) (at a b mid : ℕ) (front : drop at j ≡ a ∷ b ∷ dr
     records = ap records_from front-line ∙ from-kept a b (part (at + 2) mid j) (drop (mid + 1) j) plain h ∙ rw f.line;
   }
 
-  here-deleted : mark_of a b ≡ Is Deleted → Here j at (record { at = at; mark = Deleted; mid = mid; end = mid })
+  here-deleted : mark_of a b ≡ Some Deleted → Here j at (record { at = at; mark = Deleted; mid = mid; end = mid })
   unfolding unchanged_in equal_lines record_in record_of
   here-deleted h = record {
     place = refl;
@@ -68,7 +64,7 @@ module _ (j : List ℕ) (at a b mid : ℕ) (front : drop at j ≡ a ∷ b ∷ dr
     records = ap records_from front-line ∙ from-deleted a b (part (at + 2) mid j) (drop (mid + 1) j) plain h ∙ rw f.line;
   }
 
-  here-inserted : mark_of a b ≡ Is Inserted → Here j at (record { at = at; mark = Inserted; mid = mid; end = mid })
+  here-inserted : mark_of a b ≡ Some Inserted → Here j at (record { at = at; mark = Inserted; mid = mid; end = mid })
   unfolding unchanged_in equal_lines record_in record_of
   here-inserted h = record {
     place = refl;
@@ -79,7 +75,7 @@ module _ (j : List ℕ) (at a b mid : ℕ) (front : drop at j ≡ a ∷ b ∷ dr
     records = ap records_from front-line ∙ from-inserted a b (part (at + 2) mid j) (drop (mid + 1) j) plain h ∙ rw f.line;
   }
 
-  here-changed : (end : ℕ) → Ended j (mid + 1) end → mark_of a b ≡ Is Changed → Here j at (record { at = at; mark = Changed; mid = mid; end = end })
+  here-changed : (end : ℕ) → Ended j (mid + 1) end → mark_of a b ≡ Some Changed → Here j at (record { at = at; mark = Changed; mid = mid; end = end })
   unfolding unchanged_in equal_lines record_in record_of
   here-changed end g h =
       let k : Line = part (at + 2) mid j in
@@ -93,26 +89,26 @@ module _ (j : List ℕ) (at a b mid : ℕ) (front : drop at j ≡ a ∷ b ∷ dr
             ∙ from-changed a b k n (drop (end + 1) j) plain (line_plain n g.line) h ∙ rw (f.line, g.line);
       }
 
-pub found-is : (x y : Extent) → Found x ≡ Found y → x ≡ y
+pub found-is : (x y : Extent) → Some x ≡ Some y → x ≡ y
 found-is x y h = cc
 
-pub none_found : (x : Extent) → NoRecord ≡ Found x → ⊥
+pub none_found : (x : Extent) → None ≡ Some x → ⊥
 none_found x h = let z : ◌≡◌ {A = ℕ} 0 1 = cc in omega arith
 
 -- a record found
-pub here : (j : List ℕ) (at : ℕ) (x : Extent) → record_at j at ≡ Found x → Here j at x
+pub here : (j : List ℕ) (at : ℕ) (x : Extent) → record_at j at ≡ Some x → Here j at x
 here j at x h = go_mark (mark_in (drop at j)) refl
   where
-    moved : (y : Extent) → record_at j at ≡ Found y → Here j at y → Here j at x
+    moved : (y : Extent) → record_at j at ≡ Some y → Here j at y → Here j at x
     moved y e w = subst (λ (z : Extent). Here j at z) (found-is y x (sym e ∙ h)) w
 
-    go_second : (mid : ℕ) → mark_in (drop at j) ≡ Is Changed → line_end (at + 2) (drop (at + 2) j) ≡ At mid → (e : LineEnd) → line_end (mid + 1) (drop (mid + 1) j) ≡ e → Here j at x
-    go_second mid m k Bad g = absurd (none_found x (sym (no_second j at Changed m mid k refl g) ∙ h))
-    go_second mid m k (At end) g =
+    go_second : (mid : ℕ) → mark_in (drop at j) ≡ Some Changed → line_end (at + 2) (drop (at + 2) j) ≡ Some mid → (e : Option ℕ) → line_end (mid + 1) (drop (mid + 1) j) ≡ e → Here j at x
+    go_second mid m k None g = absurd (none_found x (sym (no_second j at Changed m mid k refl g) ∙ h))
+    go_second mid m k (Some end) g =
         let w = mark-there j at Changed m in
         moved _ (found-changed j at Changed m mid k refl end g) (here-changed j at w.0 w.1 mid w.3 (ended j (at + 2) mid k) end (ended j (mid + 1) end g) w.4)
 
-    go_kind : (mid : ℕ) (m : Mark) → mark_in (drop at j) ≡ Is m → line_end (at + 2) (drop (at + 2) j) ≡ At mid → Here j at x
+    go_kind : (mid : ℕ) (m : Mark) → mark_in (drop at j) ≡ Some m → line_end (at + 2) (drop (at + 2) j) ≡ Some mid → Here j at x
     go_kind mid Kept m k =
         let w = mark-there j at Kept m in
         moved _ (found-kept j at Kept m mid k refl) (here-kept j at w.0 w.1 mid w.3 (ended j (at + 2) mid k) w.4)
@@ -124,52 +120,56 @@ here j at x h = go_mark (mark_in (drop at j)) refl
         let w = mark-there j at Inserted m in
         moved _ (found-inserted j at Inserted m mid k refl) (here-inserted j at w.0 w.1 mid w.3 (ended j (at + 2) mid k) w.4)
 
-    go_first : (m : Mark) → mark_in (drop at j) ≡ Is m → (e : LineEnd) → line_end (at + 2) (drop (at + 2) j) ≡ e → Here j at x
-    go_first m k Bad e = absurd (none_found x (sym (no-first j at m k e) ∙ h))
-    go_first m k (At mid) e = go_kind mid m k e
+    go_first : (m : Mark) → mark_in (drop at j) ≡ Some m → (e : Option ℕ) → line_end (at + 2) (drop (at + 2) j) ≡ e → Here j at x
+    go_first m k None e = absurd (none_found x (sym (no-first j at m k e) ∙ h))
+    go_first m k (Some mid) e = go_kind mid m k e
 
-    go_mark : (m : MarkAt) → mark_in (drop at j) ≡ m → Here j at x
-    go_mark NoMark e = absurd (none_found x (sym (no-mark j at e) ∙ h))
-    go_mark (Is m) e = go_first m e (line_end (at + 2) (drop (at + 2) j)) refl
+    go_mark : (m : Option Mark) → mark_in (drop at j) ≡ m → Here j at x
+    go_mark None e = absurd (none_found x (sym (no-mark j at e) ∙ h))
+    go_mark (Some m) e = go_first m e (line_end (at + 2) (drop (at + 2) j)) refl
 
 -- a record ends after its place, within the journal
-pub ends-after : (j : List ℕ) (at : ℕ) (x : Extent) → record_at j at ≡ Found x → (at < x.end) × (x.end < length j)
+pub ends-after : (j : List ℕ) (at : ℕ) (x : Extent) → record_at j at ≡ Some x → (at < x.end) × (x.end < length j)
 ends-after j at x h =
     let w = here j at x h in
     (omega (arith, w.first.low, w.order), w.inside)
 
+-- its places stand in order, within the journal
+pub in-places : (j : List ℕ) (at : ℕ) (x : Extent) → record_at j at ≡ Some x → (at + 2 ≤ x.mid) × (x.mid ≤ x.end) × (x.end < length j)
+in-places j at x h = let w = here j at x h in (w.first.low, w.order, w.inside)
+
 -- none found
-pub nowhere : (j : List ℕ) (at : ℕ) → at < length j → record_at j at ≡ NoRecord → records_from (drop at j) ≡ none
+pub nowhere : (j : List ℕ) (at : ℕ) → at < length j → record_at j at ≡ None → records_from (drop at j) ≡ none
 nowhere j at inj h = go_mark (mark_in (drop at j)) refl
   where
-    told : (x : Extent) → record_at j at ≡ Found x → ⊥
+    told : (x : Extent) → record_at j at ≡ Some x → ⊥
     told x e = none_found x (sym h ∙ e)
 
-    go_second : (mid : ℕ) → mark_in (drop at j) ≡ Is Changed → line_end (at + 2) (drop (at + 2) j) ≡ At mid → (e : LineEnd) → line_end (mid + 1) (drop (mid + 1) j) ≡ e → records_from (drop at j) ≡ none
-    go_second mid m k Bad g =
+    go_second : (mid : ℕ) → mark_in (drop at j) ≡ Some Changed → line_end (at + 2) (drop (at + 2) j) ≡ Some mid → (e : Option ℕ) → line_end (mid + 1) (drop (mid + 1) j) ≡ e → records_from (drop at j) ≡ none
+    go_second mid m k None g =
         let w = mark-there j at Changed m in
         let f = ended j (at + 2) mid k in
         ap records_from (front-line j at w.0 w.1 mid w.3 f)
         ∙ from-bad-new w.0 w.1 (part (at + 2) mid j) (drop (mid + 1) j) (mid + 1) w.4 (plain j at w.0 w.1 mid w.3 f) g
-    go_second mid m k (At end) g = absurd (told _ (found-changed j at Changed m mid k refl end g))
+    go_second mid m k (Some end) g = absurd (told _ (found-changed j at Changed m mid k refl end g))
 
-    go_kind : (mid : ℕ) (m : Mark) → mark_in (drop at j) ≡ Is m → line_end (at + 2) (drop (at + 2) j) ≡ At mid → records_from (drop at j) ≡ none
+    go_kind : (mid : ℕ) (m : Mark) → mark_in (drop at j) ≡ Some m → line_end (at + 2) (drop (at + 2) j) ≡ Some mid → records_from (drop at j) ≡ none
     go_kind mid Kept m k = absurd (told _ (found-kept j at Kept m mid k refl))
     go_kind mid Changed m k = go_second mid m k (line_end (mid + 1) (drop (mid + 1) j)) refl
     go_kind mid Deleted m k = absurd (told _ (found-deleted j at Deleted m mid k refl))
     go_kind mid Inserted m k = absurd (told _ (found-inserted j at Inserted m mid k refl))
 
-    go_first : (m : Mark) → mark_in (drop at j) ≡ Is m → (e : LineEnd) → line_end (at + 2) (drop (at + 2) j) ≡ e → records_from (drop at j) ≡ none
-    go_first m k Bad e =
+    go_first : (m : Mark) → mark_in (drop at j) ≡ Some m → (e : Option ℕ) → line_end (at + 2) (drop (at + 2) j) ≡ e → records_from (drop at j) ≡ none
+    go_first m k None e =
         let w = mark-there j at m k in
         ap records_from w.3 ∙ from-bad w.0 w.1 m (drop (at + 2) j) (at + 2) w.4 e
-    go_first m k (At mid) e = go_kind mid m k e
+    go_first m k (Some mid) e = go_kind mid m k e
 
-    go_mark : (m : MarkAt) → mark_in (drop at j) ≡ m → records_from (drop at j) ≡ none
-    go_mark NoMark e =
+    go_mark : (m : Option Mark) → mark_in (drop at j) ≡ m → records_from (drop at j) ≡ none
+    go_mark None e =
         let f : drop at j ≡ get_or j at 0 ∷ drop (suc at) j = drop-cons j at 0 inj in
         ap records_from f ∙ from-unmarked (get_or j at 0) (drop (suc at) j) (sym (ap mark_in f) ∙ e)
-    go_mark (Is m) e = go_first m e (line_end (at + 2) (drop (at + 2) j)) refl
+    go_mark (Some m) e = go_first m e (line_end (at + 2) (drop (at + 2) j)) refl
 
 -- ---- a changed record's lines
 
@@ -181,17 +181,19 @@ module _ (j : List ℕ) (x : Extent) where
   unfolding unchanged_in equal_lines
   equal-changed e = rw e
 
-  pub equal-kept : x.mark ≡ Kept → false ≡ unchanged_in j x
+  pub equal-other : (x.mark ≡ Changed → ⊥) → false ≡ unchanged_in j x
   unfolding unchanged_in equal_lines
-  equal-kept e = rw e
+  equal-other e = go x.mark e
+    where
+      go : (m : Mark) → (m ≡ Changed → ⊥) → false ≡ equal_lines m (part (x.at + 2) x.mid j) (part (x.mid + 1) x.end j)
+      go Kept h = refl
+      go Changed h = absurd (h refl)
+      go Deleted h = refl
+      go Inserted h = refl
 
-  pub equal-deleted : x.mark ≡ Deleted → false ≡ unchanged_in j x
-  unfolding unchanged_in equal_lines
-  equal-deleted e = rw e
-
-  pub equal-inserted : x.mark ≡ Inserted → false ≡ unchanged_in j x
-  unfolding unchanged_in equal_lines
-  equal-inserted e = rw e
+  -- where a changed record's second line stands
+  pub last-bounds : record_at j x.at ≡ Some x → x.mark ≡ Changed → (x.mid + 1 ≤ x.end) × (x.end < length j)
+  last-bounds h e = let f = changed-last j x.at x (here j x.at x h) e in (f.low, f.high)
 
 -- the places of a record found stand in order
 pub in_order : (j : List ℕ) (at : ℕ) (x : Extent) → Here j at x → length j < 18446744073709551616 → InOrder x
@@ -206,5 +208,5 @@ in_order j at x w h =
     }
 
 -- the record found is found from its own place
-pub found-again : (j : List ℕ) (at : ℕ) (x : Extent) → record_at j at ≡ Found x → record_at j x.at ≡ Found x
+pub found-again : (j : List ℕ) (at : ℕ) (x : Extent) → record_at j at ≡ Some x → record_at j x.at ≡ Some x
 found-again j at x h = ap (record_at j) (here j at x h).place ∙ h

@@ -1,7 +1,8 @@
 -- The records that are left from a place on: at the start, at the end, and one record further. Assumes nothing.
+use Rattle.std.proofs.Common.{Some, None}
 use mathlib.Core.Path.{◌≡◌, refl, sym, ap, ◌∙◌}
 use mathlib.Core.Bool.{Bool, true, false, not}
-use mathlib.Core.Option.{Option, none, some}
+use mathlib.Core.Option.{Option as Maybe, none, some}
 use mathlib.Core.List.{List, [], ◌∷◌}
 use Prim.Native.Nat.{ℕ, ◌+◌, ◌≤◌}
 use native.Mathlib.Omega.{arith}
@@ -12,7 +13,6 @@ use Rattle.definitions.specs.Journal.{Record, old_side, followed, records_of}
 use Rattle.theorems.specs.JournalRecords.{few-lines}
 use Rattle.journal.specs.Records.{record_at, record_in, unchanged_in, records_from, Left}
 use Rattle.journal.specs.declared.records.Extent.{Extent}
-use Rattle.journal.specs.declared.records.RecordAt.TheVariants.{Found, NoRecord}
 use Rattle.journal.proofs.Walk.{records-few, records-none}
 use Rattle.journal.proofs.Here.{here, nowhere}
 
@@ -23,7 +23,7 @@ pub some_is : {A : Type 0} (a b : A) → some a ≡ some b → a ≡ b
 some_is a b h = cc
 
 -- the first of some records, which are good
-pub followed-some : (good : Bool) (r : Record) (o : Option (List Record)) (rs : List Record) → followed good r o ≡ some rs
+pub followed-some : (good : Bool) (r : Record) (o : Maybe (List Record)) (rs : List Record) → followed good r o ≡ some rs
     → (qs : List Record) × (o ≡ some qs) × (rs ≡ r ∷ qs) × (good ≡ true)
 unfolding followed
 followed-some true r none rs h = absurd (none-some rs h)
@@ -40,13 +40,13 @@ module _ (j : List ℕ) where
   left_end at rs h e = sym (some_is [] rs (sym records-none ∙ ap records_from (sym (drop_of_length-le j {i = at} h)) ∙ e))
 
   -- a record found is the first of those that are left
-  pub left-next : (at : ℕ) (rs : List Record) (x : Extent) → Left j at rs → record_at j at ≡ Found x
+  pub left-next : (at : ℕ) (rs : List Record) (x : Extent) → Left j at rs → record_at j at ≡ Some x
       → (qs : List Record) × Left j (x.end + 1) qs × (rs ≡ record_in j x ∷ qs) × (not (unchanged_in j x) ≡ true)
   left-next at rs x e h =
       followed-some (not (unchanged_in j x)) (record_in j x) (records_from (drop (x.end + 1) j)) rs (sym (here j at x h).records ∙ e)
 
   -- where none is found, none are left
-  pub left-none : (at : ℕ) (rs : List Record) → Left j at rs → record_at j at ≡ NoRecord → rs ≡ []
+  pub left-none : (at : ℕ) (rs : List Record) → Left j at rs → record_at j at ≡ None → rs ≡ []
   left-none at rs e h = go (leb (length j) at) refl
     where
       go : (t : Bool) → leb (length j) at ≡ t → rs ≡ []

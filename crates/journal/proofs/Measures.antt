@@ -1,7 +1,9 @@
 -- The measures of a journal: what each record adds, and the steps of the loop that checks. Assumes nothing.
+use Rattle.std.proofs.Common.{Option, Some, None}
+use Rattle.std.specs.Bool.{then_some}
 use mathlib.Core.Path.{◌≡◌, refl, sym, ap, ◌∙◌}
 use mathlib.Core.Bool.{Bool, true, false, cond}
-use mathlib.Core.Option.{Option, none, some}
+use mathlib.Core.Option.{Option as Maybe, none, some}
 use mathlib.Core.List.{List, [], ◌∷◌}
 use Prim.Native.Nat.{ℕ, ◌+◌, ◌≤◌, ◌<◌}
 use native.Mathlib.Nat.{add-zero, zero-add}
@@ -20,20 +22,15 @@ use Rattle.journal.specs.Measuring.{span_lines, span_length, AtMost, with_record
 use Rattle.journal.specs.declared.records.Mark.{Mark}
 use Rattle.journal.specs.declared.records.Mark.TheVariants.{Kept, Changed, Deleted, Inserted}
 use Rattle.journal.specs.declared.records.Extent.{Extent}
-use Rattle.journal.specs.declared.records.RecordAt.TheVariants.{NoRecord}
 use Rattle.journal.specs.declared.records.Span.{Span}
-use Rattle.journal.specs.declared.records.Span.TheVariants.{Bytes, Nothing}
 use Rattle.journal.specs.declared.measure.Measures.{Measures}
-use Rattle.journal.specs.declared.measure.Checked.{Checked}
-use Rattle.journal.specs.declared.measure.Checked.TheVariants.{Records, NotRecords}
-use Rattle.journal.specs.declared.measure.Fit.TheVariants.{Enough, Lacking}
 use Rattle.journal.proofs.Walk.{records-few, records-none}
 use Rattle.journal.proofs.Here.{Here, LastLine, nowhere}
 
--- the bytes of a span
-unfoldable pub span_bytes : List ℕ → Span → List ℕ
-span_bytes j (Bytes a e) = part a e j
-span_bytes j Nothing = []
+-- the bytes of a span; none where there is no line
+unfoldable pub span_bytes : List ℕ → Option Span → List ℕ
+span_bytes j (Some s) = part s.from s.to j
+span_bytes j None = []
 
 -- ---- a record's spans are its lines
 
@@ -127,24 +124,24 @@ plus m rs =
     }
 
 -- the verdict on the measures of all records
-unfoldable pub verdict : Measures → Checked
-verdict m = cond (leb m.lines 65535) (Records m) NotRecords
+unfoldable pub verdict : Measures → Option Measures
+verdict m = cond (leb m.lines 65535) (Some m) None
 
 -- the check's answer, where `m` has been measured and `o` are the records left
-unfoldable pub checked_from : Measures → Option (List Record) → Checked
+unfoldable pub checked_from : Measures → Maybe (List Record) → Option Measures
 unfolding verdict plus
-checked_from m none = NotRecords
+checked_from m none = None
 checked_from m (some rs) = verdict (plus m rs)
 
 abbrev pub nothing : Measures
 nothing = record { lines = 0; old = 0; shown = 0; new = 0 }
 
-checked-if : (t : Bool) (rs : List Record) → checked (cond t (some rs) none) ≡ cond t (Records (measures_of rs)) NotRecords
+checked-if : (t : Bool) (rs : List Record) → checked (cond t (some rs) none) ≡ cond t (Some (measures_of rs)) None
 unfolding checked
 checked-if true rs = refl
 checked-if false rs = refl
 
-check-few : (o : Option (List Record)) → checked (few_old_lines o) ≡ checked_from nothing o
+check-few : (o : Maybe (List Record)) → checked (few_old_lines o) ≡ checked_from nothing o
 unfolding checked few_old_lines checked_from measures_of
 check-few none = refl
 check-few (some rs) =
@@ -158,12 +155,12 @@ pub check-end : (j : List ℕ) (at : ℕ) (m : Measures) → length j ≤ at →
 unfolding checked_from old_side new_side lines_bytes
 check-end j at m h = rw (drop_of_length-le j {i = at} h, records-none) (ap verdict (measures-eq (plus m []) m (add-zero _) (add-zero _) (add-zero _) (add-zero _)))
 
-pub check-nowhere : (j : List ℕ) (at : ℕ) (m : Measures) → at < length j → record_at j at ≡ NoRecord → checked_from m (records_from (drop at j)) ≡ NotRecords
+pub check-nowhere : (j : List ℕ) (at : ℕ) (m : Measures) → at < length j → record_at j at ≡ None → checked_from m (records_from (drop at j)) ≡ None
 unfolding checked_from
 check-nowhere j at m h e = rw (nowhere j at h e)
 
 module _ (j : List ℕ) (at : ℕ) (m : Measures) (x : Extent) (w : Here j at x) where
-  pub check-equal : unchanged_in j x ≡ true → checked_from m (records_from (drop at j)) ≡ NotRecords
+  pub check-equal : unchanged_in j x ≡ true → checked_from m (records_from (drop at j)) ≡ None
   unfolding checked_from followed
   check-equal e = rw (w.records, e)
 
@@ -197,7 +194,7 @@ module _ (j : List ℕ) (at : ℕ) (m : Measures) (x : Extent) (w : Here j at x)
       let is : span_lines (new_span x.mark x) ≡ length (new_of (record_in j x)) = new-lines j x first x.mark _ _ in
       rw (length-append) (omega (arith, is))
 
-  check-more : (o : Option (List Record)) → checked_from m (followed true (record_in j x) o) ≡ checked_from (with_record m x) o
+  check-more : (o : Maybe (List Record)) → checked_from m (followed true (record_in j x) o) ≡ checked_from (with_record m x) o
   unfolding checked_from followed
   check-more none = refl
   check-more (some rs) =
@@ -208,28 +205,28 @@ module _ (j : List ℕ) (at : ℕ) (m : Measures) (x : Extent) (w : Here j at x)
 
 -- ---- room
 
-pub room-enough : (n size : ℕ) → n ≤ size → room_for n size ≡ Enough n
+pub room-enough : (n size : ℕ) → n ≤ size → room_for n size ≡ Some n
 unfolding room_for
 room-enough n size h = rw (le-leb n size h)
 
-pub room-lacking : (n size : ℕ) → size < n → room_for n size ≡ Lacking
+pub room-lacking : (n size : ℕ) → size < n → room_for n size ≡ None
 unfolding room_for
 room-lacking n size h = rw (lt-leb n size h)
 
 -- what `count` adds up
-pub counted_is : (m : Measures) (x : Extent) (o w : Span) (a b c d : ℕ) → o ≡ old_span x.mark x → w ≡ new_span x.mark x
+pub counted_is : (m : Measures) (x : Extent) (o w : Option Span) (a b c d : ℕ) → o ≡ old_span x.mark x → w ≡ new_span x.mark x
     → a ≡ span_lines o → b ≡ span_length o → c ≡ span_lines w → d ≡ span_length w
     → record { lines = m.lines + a; old = m.old + b; shown = m.shown + c; new = m.new + d } ≡ with_record m x
 unfolding with_record
 counted_is m x o w a b c d p q e f g h = rw (e, f, g, h, p, q)
 
-pub verdict-good : (m : Measures) → m.lines ≤ 65535 → verdict m ≡ Records m
+pub verdict-is : (m : Measures) → then_some (leb m.lines 65535) m ≡ verdict m
 unfolding verdict
-verdict-good m h = rw (le-leb m.lines 65535 h)
-
-pub verdict-bad : (m : Measures) → 65535 < m.lines → verdict m ≡ NotRecords
-unfolding verdict
-verdict-bad m h = rw (lt-leb m.lines 65535 h)
+verdict-is m = go (leb m.lines 65535)
+  where
+    go : (t : Bool) → then_some t m ≡ cond t (Some m) None
+    go true = refl
+    go false = refl
 
 pub nothing-small : AtMost nothing 0
 nothing-small = record { lines = omega arith; old = omega arith; shown = omega arith; new = omega arith }

@@ -1,4 +1,5 @@
 -- What a view writes: record by record, its length, and the steps of the loop that writes it. Assumes nothing.
+use Rattle.std.proofs.Common.{Option, Some, None}
 use mathlib.Core.Path.{◌≡◌, refl, sym, ap, ◌∙◌}
 use mathlib.Core.Bool.{Bool, true, false}
 use mathlib.Core.List.{List, [], ◌∷◌, ◌++◌, append_assoc}
@@ -21,7 +22,6 @@ use Rattle.journal.specs.declared.records.Extent.{Extent}
 use Rattle.journal.specs.declared.records.View.{View}
 use Rattle.journal.specs.declared.records.View.TheVariants.{OldSide, NewSide, Listing}
 use Rattle.journal.specs.declared.records.Span.{Span}
-use Rattle.journal.specs.declared.records.Span.TheVariants.{Bytes, Nothing}
 use Rattle.journal.specs.declared.write.Gone.{Gone}
 use Rattle.journal.proofs.Here.{LastLine}
 use Rattle.journal.proofs.Measures.{span_bytes, old-bytes, new-bytes}
@@ -59,20 +59,20 @@ unfolding listed_line original_head
 listed-head n gap new l h = rw (add-one n, in-five (suc n) (omega arith))
 
 -- what a view writes of a record whose line is the span `s`
-unfoldable pub shown_as : List ℕ → View → Mark → Gone → Span → List ℕ
+unfoldable pub shown_as : List ℕ → View → Mark → Gone → Option Span → List ℕ
 unfolding head_by
-shown_as j view m g (Bytes a e) = head_by view m g ++ part a e j
-shown_as j view m g Nothing = []
+shown_as j view m g (Some s) = head_by view m g ++ part s.from s.to j
+shown_as j view m g None = []
 
-shown-old : (j : List ℕ) (m : Mark) (g : Gone) (s : Span) → shown_as j OldSide m g s ≡ span_bytes j s
+shown-old : (j : List ℕ) (m : Mark) (g : Gone) (s : Option Span) → shown_as j OldSide m g s ≡ span_bytes j s
 unfolding shown_as head_by span_bytes
-shown-old j m g (Bytes a e) = refl
-shown-old j m g Nothing = refl
+shown-old j m g (Some s) = refl
+shown-old j m g None = refl
 
-shown-new : (j : List ℕ) (m : Mark) (g : Gone) (s : Span) → shown_as j NewSide m g s ≡ span_bytes j s
+shown-new : (j : List ℕ) (m : Mark) (g : Gone) (s : Option Span) → shown_as j NewSide m g s ≡ span_bytes j s
 unfolding shown_as head_by span_bytes
-shown-new j m g (Bytes a e) = refl
-shown-new j m g Nothing = refl
+shown-new j m g (Some s) = refl
+shown-new j m g None = refl
 
 module _ (j : List ℕ) (x : Extent) (f : Ended j (x.at + 2) x.mid) (g : Gone) (few : g.lines ≤ 65535) where
   shown-listing : (m : Mark) → LastLine m j x.mid x.end

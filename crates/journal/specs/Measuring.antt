@@ -1,6 +1,6 @@
 -- The measures of a journal: lines and bytes of its sides, and whether what a view writes fits.
-use Rattle.std.specs.Prelude.{cond, List, ℕ, ◌+◌, ◌*◌, ◌-◌, ◌≤◌, length, leb}
-use Rattle.std.proofs.Math.Option.{Option, none, some}
+use Rattle.std.specs.Prelude.{cond, List, ℕ, ◌+◌, ◌*◌, ◌-◌, ◌≤◌, length, leb, Option, Some, None}
+use Rattle.std.proofs.Math.Option.{Option as Maybe, none, some}
 use Rattle.definitions.specs.Bytes.{lines_bytes}
 use Rattle.definitions.specs.Journal.{Record, old_side, new_side}
 use Rattle.journal.specs.Records.{old_span, new_span}
@@ -8,20 +8,15 @@ use Rattle.journal.specs.declared.records.Extent.{Extent}
 use Rattle.journal.specs.declared.records.View.{View}
 use Rattle.journal.specs.declared.records.View.TheVariants.{OldSide, NewSide, Listing}
 use Rattle.journal.specs.declared.records.Span.{Span}
-use Rattle.journal.specs.declared.records.Span.TheVariants.{Bytes, Nothing}
 use Rattle.journal.specs.declared.measure.Measures.{Measures}
-use Rattle.journal.specs.declared.measure.Checked.{Checked}
-use Rattle.journal.specs.declared.measure.Checked.TheVariants.{Records, NotRecords}
-use Rattle.journal.specs.declared.measure.Fit.{Fit}
-use Rattle.journal.specs.declared.measure.Fit.TheVariants.{Enough, Lacking}
 
-unfoldable pub span_lines : Span → ℕ
-span_lines (Bytes a e) = 1
-span_lines Nothing = 0
+unfoldable pub span_lines : Option Span → ℕ
+span_lines (Some s) = 1
+span_lines None = 0
 
-unfoldable pub span_length : Span → ℕ
-span_length (Bytes a e) = e - a
-span_length Nothing = 0
+unfoldable pub span_length : Option Span → ℕ
+span_length (Some s) = s.to - s.from
+span_length None = 0
 
 -- no measure is over `n`
 pub record AtMost (m : Measures) (n : ℕ) : Type 0 where
@@ -50,9 +45,9 @@ measures_of rs =
       new = length (lines_bytes (new_side rs));
     }
 
-unfoldable pub checked : Option (List Record) → Checked
-checked none = NotRecords
-checked (some rs) = Records (measures_of rs)
+unfoldable pub checked : Maybe (List Record) → Option Measures
+checked none = None
+checked (some rs) = Some (measures_of rs)
 
 -- the length of what a view writes: in a listing seven bytes stand before each line
 unfoldable pub length_by : View → Measures → ℕ
@@ -60,5 +55,5 @@ length_by OldSide m = m.old
 length_by NewSide m = m.new
 length_by Listing m = 7 * m.shown + m.new
 
-unfoldable pub room_for : ℕ → ℕ → Fit
-room_for n size = cond (leb n size) (Enough n) Lacking
+unfoldable pub room_for : ℕ → ℕ → Option ℕ
+room_for n size = cond (leb n size) (Some n) None

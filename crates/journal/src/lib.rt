@@ -10,16 +10,13 @@ ghost use Rattle.std.specs.Prelude.{◌≡◌};
 ghost use Rattle.definitions.specs.Journal.{records_of};
 ghost use Rattle.definitions.specs.Listing.{read_out, old_side_to, new_side_to, listing_to};
 ghost use Rattle.journal.specs.Views.{out_of};
-ghost use Rattle.journal.specs.Reading.{reading_number, reading_length, answered};
+ghost use Rattle.journal.specs.Reading.{refusal_number, reading_number, reading_length, answered};
 
-use measure::{Checked, Fit};
 use records::View;
 
-// What a reader of a journal answers, and what joining and turning round answer.
-#[derive(Clone, Copy)]
-pub enum Reading {
-    // Number 0, and the written length.
-    Wrote(usize),
+// Why a reader of a journal, joining or turning round writes nothing.
+#[derive(Clone, Copy, PartialEq, Eq, Debug)]
+pub enum Refusal {
     // Number 10: the destination is too short.
     Short,
     // Number 11: the bytes are no journal.
@@ -28,63 +25,68 @@ pub enum Reading {
     Differ,
 }
 
-// The number of an answer.
-pub fn number(r: Reading) -> u32
+impl From<Refusal> for u32 {
+    ghost from_gives = { λ e n. n ≡ refusal_number e };
+
+    #[tactic(auto, unfolding(crate::specs::Reading::refusal_number))]
+    fn from(e: Refusal) -> u32 {
+        match e {
+            Refusal::Short => 10,
+            Refusal::Malformed => 11,
+            Refusal::Differ => 32,
+        }
+    }
+}
+
+// The number of an answer: 0 where it wrote.
+#[tactic(auto, unfolding(crate::specs::Reading::reading_number))]
+pub fn number(r: Result<usize, Refusal>) -> u32
     ensures { result ≡ reading_number r }
 {
     match r {
-        Reading::Wrote(_) => 0,
-        Reading::Short => 10,
-        Reading::Malformed => 11,
-        Reading::Differ => 32,
+        Ok(_) => 0,
+        Err(e) => u32::from(e),
     }
 }
 
 // The written length; refused, it is 0.
-pub fn length(r: Reading) -> usize
+#[tactic(auto, unfolding(crate::specs::Reading::reading_length))]
+pub fn length(r: Result<usize, Refusal>) -> usize
     ensures { result ≡ reading_length r }
 {
-    match r {
-        Reading::Wrote(n) => n,
-        Reading::Short => 0,
-        Reading::Malformed => 0,
-        Reading::Differ => 0,
-    }
+    r.unwrap_or(0)
 }
 
 // The lines of the old table.
-pub fn old_side(j: &[u8], dest: &mut [u8]) -> Reading
+#[tactic(auto, unfolding(definitions::specs::Listing::old_side_to, crate::specs::Views::out_of))]
+pub fn old_side(j: &[u8], dest: &mut [u8]) -> Result<usize, Refusal>
     ensures { answered result dest.new ≡ old_side_to j.now dest.old }
 {
     read(View::OldSide, j, dest)
 }
 
 // The lines of the new table.
-pub fn new_side(j: &[u8], dest: &mut [u8]) -> Reading
+#[tactic(auto, unfolding(definitions::specs::Listing::new_side_to, crate::specs::Views::out_of))]
+pub fn new_side(j: &[u8], dest: &mut [u8]) -> Result<usize, Refusal>
     ensures { answered result dest.new ≡ new_side_to j.now dest.old }
 {
     read(View::NewSide, j, dest)
 }
 
 // The lines of the new table, each with its number and what became of it.
-pub fn listing(j: &[u8], dest: &mut [u8]) -> Reading
+#[tactic(auto, unfolding(definitions::specs::Listing::listing_to, definitions::specs::Listing::listing, crate::specs::Views::out_of))]
+pub fn listing(j: &[u8], dest: &mut [u8]) -> Result<usize, Refusal>
     ensures { answered result dest.new ≡ listing_to j.now dest.old }
 {
     read(View::Listing, j, dest)
 }
 
 // Checks 11, then 10, then writes.
-fn read(view: View, j: &[u8], dest: &mut [u8]) -> Reading
+fn read(view: View, j: &[u8], dest: &mut [u8]) -> Result<usize, Refusal>
     ensures { answered result dest.new ≡ read_out (out_of view) (records_of j.now) dest.old }
 {
-    let found = measure::check(j);
-    let Checked::Records(m) = found else {
-        return Reading::Malformed;
-    };
-    let room = measure::fits(view, m, dest.len());
-    let Fit::Enough(n) = room else {
-        return Reading::Short;
-    };
+    let m = measure::check(j).ok_or(Refusal::Malformed)?;
+    let n = measure::fits(view, m, dest.len()).ok_or(Refusal::Short)?;
     write::write(view, j, dest);
-    Reading::Wrote(n)
+    Ok(n)
 }

@@ -5,7 +5,7 @@ ghost use Rattle.journal.specs.Records.{InOrder};
 ghost use Rattle.journal.specs.Measuring.{AtMost, span_lines, span_length, with_record, checked, length_by, room_for};
 
 use crate::records;
-use crate::records::{Extent, RecordAt, Span, View};
+use crate::records::{Extent, Records, Span, View};
 
 // The old side's lines and bytes, and the new side's.
 #[derive(Clone, Copy)]
@@ -16,38 +16,22 @@ pub struct Measures {
     pub new: usize,
 }
 
-// What the check of a journal finds.
-#[derive(Clone, Copy)]
-pub enum Checked {
-    Records(Measures),
-    NotRecords,
-}
-
-// Whether a destination has room.
-#[derive(Clone, Copy)]
-pub enum Fit {
-    // Enough, for this many bytes.
-    Enough(usize),
-    Lacking,
-}
-
 // 1 for a line, 0 for none.
-fn span_lines(s: Span) -> usize
+#[tactic(auto, unfolding(crate::specs::Measuring::span_lines))]
+fn span_lines(s: Option<Span>) -> usize
     ensures { result ≡ span_lines s }
 {
-    match s {
-        Span::Bytes(_, _) => 1,
-        Span::Nothing => 0,
-    }
+    usize::from(s.is_some())
 }
 
 // The number of bytes.
-fn span_length(s: Span) -> usize
+#[tactic(auto, unfolding(crate::specs::Measuring::span_length))]
+fn span_length(s: Option<Span>) -> usize
     ensures { result ≡ span_length s }
 {
     match s {
-        Span::Bytes(from, to) => { if from <= to { to - from } else { 0 } }
-        Span::Nothing => 0,
+        Some(line) => line.to.saturating_sub(line.from),
+        None => 0,
     }
 }
 
@@ -66,8 +50,8 @@ fn count(m: Measures, x: Extent) -> Measures
     }
 }
 
-// Whether bytes are a journal with at most 65,535 old-side lines, and its measures.
-pub fn check(j: &[u8]) -> Checked
+// The measures of bytes that are a journal with at most 65,535 old-side lines.
+pub fn check(j: &[u8]) -> Option<Measures>
     ensures { result ≡ checked (records_of j.now) }
 {
     let mut m = Measures {
@@ -76,27 +60,22 @@ pub fn check(j: &[u8]) -> Checked
         shown: 0,
         new: 0,
     };
-    let mut at: usize = 0;
-    while at < j.len() {
-        let found = records::record_at(j, at);
-        let RecordAt::Found(x) = found else {
-            return Checked::NotRecords;
-        };
+    let mut left = Records::from_start(j);
+    while let Some(x) = left.next() {
         if records::unchanged(j, x) {
-            return Checked::NotRecords;
+            return None;
         }
         m = count(m, x);
-        at = x.end + 1;
     }
-    if m.lines <= 65535 {
-        Checked::Records(m)
-    } else {
-        Checked::NotRecords
+    if left.at < j.len() {
+        return None;
     }
+    (m.lines <= 65535).then_some(m)
 }
 
-// Whether what a view writes fits into `size` bytes. No sum here can pass the largest number.
-pub fn fits(view: View, m: Measures, size: usize) -> Fit
+// The number of bytes that a view writes, where they fit into `size`. No sum here can pass the largest number.
+#[tactic(auto, unfolding(crate::specs::Measuring::length_by))]
+pub fn fits(view: View, m: Measures, size: usize) -> Option<usize>
     ensures { result ≡ room_for (length_by view m) size }
 {
     match view {
@@ -106,26 +85,23 @@ pub fn fits(view: View, m: Measures, size: usize) -> Fit
     }
 }
 
-fn room_for(n: usize, size: usize) -> Fit
+#[tactic(auto, unfolding(crate::specs::Measuring::room_for))]
+fn room_for(n: usize, size: usize) -> Option<usize>
     ensures { result ≡ room_for n size }
 {
-    if n <= size {
-        Fit::Enough(n)
-    } else {
-        Fit::Lacking
-    }
+    (n <= size).then_some(n)
 }
 
 // Each of `shown` lines has seven bytes before it.
-fn listing_room(shown: usize, new: usize, size: usize) -> Fit
+fn listing_room(shown: usize, new: usize, size: usize) -> Option<usize>
     ensures { result ≡ room_for (7 * shown + new) size }
 {
     if size / 7 < shown {
-        return Fit::Lacking;
+        return None;
     }
     let heads = 7 * shown;
     if size - heads < new {
-        return Fit::Lacking;
+        return None;
     }
-    Fit::Enough(heads + new)
+    Some(heads + new)
 }

@@ -7,7 +7,7 @@ ghost use Rattle.marks.specs.Sweeping.{Reads};
 ghost use Rattle.leads.specs.Leading.{may_begin, first_lead, last_lead, leads_of, is_lead, NextLead};
 
 use marks::idle::is_idle;
-use marks::sweep;
+use marks::{NEVER, sweep};
 
 // The bytes from low to high, of those from 32 to 127; none where low is more than high.
 #[derive(Clone, Copy)]
@@ -37,12 +37,10 @@ pub fn next_lead(r: Leads, line: &[u8], i: usize, end: usize) -> usize
     requires { (i ≤ end) × (end ≤ length line.now) }
     ensures { NextLead r line.now i end result }
 {
-    let mut k = i;
-    while k < end {
+    for k in i..end {
         if leads_with(r, line[k]) {
             return k;
         }
-        k += 1;
     }
     end
 }
@@ -52,9 +50,9 @@ fn may_begin(pattern: &[u8], b: u8) -> bool
     requires { (length pattern.now ≤ 255) × ((p : Pattern) × Reads pattern.now p) }
     ensures { (p : Pattern) → Reads pattern.now p → result ≡ may_begin p b }
 {
-    let mut marks = [65535u16; 256];
+    let mut marks = [NEVER; 256];
     let out = sweep(pattern, b, 0, &mut marks);
-    if out != 65535 {
+    if out != NEVER {
         return true;
     }
     !is_idle(&marks, pattern.len())
@@ -65,12 +63,10 @@ fn first_lead(pattern: &[u8]) -> u8
     requires { (length pattern.now ≤ 255) × ((p : Pattern) × Reads pattern.now p) }
     ensures { (result ≤ 128) × ((p : Pattern) → Reads pattern.now p → result ≡ first_lead p 32 96) }
 {
-    let mut b: u8 = 32;
-    while b < 128 {
+    for b in 32..128 {
         if may_begin(pattern, b) {
             return b;
         }
-        b += 1;
     }
     128
 }
@@ -80,11 +76,9 @@ fn last_lead(pattern: &[u8]) -> u8
     requires { (length pattern.now ≤ 255) × ((p : Pattern) × Reads pattern.now p) }
     ensures { (result ≤ 127) × ((p : Pattern) → Reads pattern.now p → result ≡ last_lead p 128) }
 {
-    let mut n: u8 = 128;
-    while n > 0 {
-        n -= 1;
-        if may_begin(pattern, n) {
-            return n;
+    for b in (0..128).rev() {
+        if may_begin(pattern, b) {
+            return b;
         }
     }
     0

@@ -12,9 +12,12 @@ use borrow.Author.Tests.{le-leb, lt-leb, leb-true, leb-false}
 use Rattle.definitions.specs.Bytes.{is_digit}
 use Rattle.definitions.specs.Reader.{Cursor, cursor, got, refused, Token, token, place_at, after_token, next_byte, digits_at, digits, is_digit_next, in_range, number}
 use Rattle.lexer.specs.Places.{cursor_at}
-use Rattle.answers.specs.declared.Answer.{Answer}
-use Rattle.answers.specs.Answers.{NumberOr}
-use Rattle.lexer.specs.Answers.{capped, NumberRead, itself, Numbered}
+use Rattle.std.specs.Prelude.{Result}
+use Rattle.answers.specs.declared.Fault.TheVariants.{Argument}
+use Rattle.answers.specs.declared.Read.{Read}
+use Rattle.answers.specs.declared.Refusal.{Refusal}
+use Rattle.answers.specs.Answers.{read_as, refusal}
+use Rattle.lexer.specs.Answers.{capped, ValueRead, itself, Numbered}
 
 -- ---- a value that is capped on the way comes to the same
 
@@ -103,13 +106,13 @@ far-digit i [] e = absurd (false≢true e)
 far-digit i (b ∷ bs) e = rw (e, digits_at) (far (0 * 10 + (b - 48)) (suc i) bs)
 
 -- what the reader of numbers answers
-abbrev pub IsNumber : List ℕ → ℕ → Answer → Type 0
-IsNumber s at = NumberRead s itself (Numbered at) (number (cursor_at s at))
+abbrev pub IsNumber : List ℕ → ℕ → Result (Read ℕ) Refusal → Type 0
+IsNumber s at = ValueRead s itself (Numbered at) (number (cursor_at s at))
 
 module _ (s : List ℕ) (at : ℕ) where
-  pub no_number : is_digit (next_byte (cursor_at s at)) ≡ false → IsNumber s at (Answer.Refused 3 at)
+  pub no_number : is_digit (next_byte (cursor_at s at)) ≡ false → IsNumber s at (refusal Argument at)
   unfolding number is_digit_next place_at
-  no_number e = NumberOr.refused 3 at (rw e)
+  no_number e = (rw e)
 
   module _ (v r : ℕ) (first : is_digit (next_byte (cursor_at s at)) ≡ true) (read : capped (digits (cursor_at s at)) ≡ token v (cursor_at s r)) where
     ranged : number (cursor_at s at) ≡ in_range at (token v (cursor_at s r))
@@ -123,14 +126,14 @@ module _ (s : List ℕ) (at : ℕ) where
         let e : place_at (after_token (capped (digits (cursor_at s at)))) ≡ r = ap (λ (w : Token). place_at (after_token w)) read in
         omega (arith, far-digit at (drop at s) first)
 
-    pub number-zero : v < 1 → IsNumber s at (Answer.Refused 3 at)
+    pub number-zero : v < 1 → IsNumber s at (refusal Argument at)
     unfolding in_range
-    number-zero h = NumberOr.refused 3 at (ranged ∙ rw (lt-leb 1 v h))
+    number-zero h = (ranged ∙ rw (lt-leb 1 v h))
 
-    pub number-large : 65535 < v → IsNumber s at (Answer.Refused 3 at)
+    pub number-large : 65535 < v → IsNumber s at (refusal Argument at)
     unfolding in_range
-    number-large h = NumberOr.refused 3 at (ranged ∙ rw (le-leb 1 v (omega arith), lt-leb v 65535 h))
+    number-large h = (ranged ∙ rw (le-leb 1 v (omega arith), lt-leb v 65535 h))
 
-    pub number_is : 1 ≤ v → v ≤ 65535 → r ≤ length s → IsNumber s at (Answer.Number v r)
+    pub number_is : 1 ≤ v → v ≤ 65535 → r ≤ length s → IsNumber s at (read_as v r)
     unfolding in_range
-    number_is h k to = NumberOr.read v r (ranged ∙ rw (le-leb 1 v h, le-leb v 65535 k), (h, k, number-far), to)
+    number_is h k to = (ranged ∙ rw (le-leb 1 v h, le-leb v 65535 k), (h, k, number-far), to)

@@ -6,18 +6,10 @@ use Prim.Native.Nat.{ℕ, ◌-◌, ◌≤◌, ◌<◌}
 use native.Mathlib.Omega.{arith}
 use lib.Dec.{leb}
 use borrow.Author.Tests.{le-leb, lt-leb, leb-true, ne_eqb}
-use Rattle.definitions.specs.Bytes.{is_digit, is_capital, is_small, is_letter, upper}
+use Rattle.definitions.specs.Bytes.{is_digit, is_small, upper}
 use Rattle.definitions.specs.Reader.{is_delimiter}
 
 module _ (b : ℕ) where
-  pub digit_low : b < 48 → is_digit b ≡ false
-  unfolding is_digit
-  digit_low h = rw (lt-leb 48 b h)
-
-  pub digit-from : 48 ≤ b → is_digit b ≡ leb b 57
-  unfolding is_digit
-  digit-from h = rw (le-leb 48 b h)
-
   pub is-digit-from : is_digit b ≡ true → 48 ≤ b
   unfolding is_digit
   is-digit-from e = leb-true 48 b (first (leb 48 b) (leb b 57) e)
@@ -25,22 +17,6 @@ module _ (b : ℕ) where
       first : (t u : Bool) → (t && u) ≡ true → t ≡ true
       first true u e = refl
       first false u e = e
-
-  pub letter-low : b < 65 → is_letter b ≡ false
-  unfolding is_letter is_capital is_small
-  letter-low h = rw (lt-leb 65 b h, lt-leb 97 b (omega arith))
-
-  pub letter-capital : 65 ≤ b → b ≤ 90 → is_letter b ≡ true
-  unfolding is_letter is_capital is_small
-  letter-capital h k = rw (le-leb 65 b h, le-leb b 90 k)
-
-  pub letter-between : 90 < b → b < 97 → is_letter b ≡ false
-  unfolding is_letter is_capital is_small
-  letter-between h k = rw (le-leb 65 b (omega arith), lt-leb b 90 h, lt-leb 97 b k)
-
-  pub letter-from : 97 ≤ b → is_letter b ≡ leb b 122
-  unfolding is_letter is_capital is_small
-  letter-from h = rw (le-leb 65 b (omega arith), lt-leb b 90 (omega arith), le-leb 97 b h)
 
   pub upper-below : b < 256 → upper b < 256
   unfolding upper

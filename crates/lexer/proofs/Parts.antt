@@ -14,9 +14,13 @@ use Rattle.scans.specs.Leading.{leading, is_of}
 use Rattle.scans.specs.declared.Kind.TheVariants.{Neither}
 use Rattle.scans.proofs.Runs.{reach}
 use Rattle.lexer.specs.Places.{cursor_at}
-use Rattle.answers.specs.declared.Answer.{Answer}
-use Rattle.answers.specs.Answers.{TwoOr}
-use Rattle.lexer.specs.Answers.{TwoRead, QuotedRead}
+use Rattle.std.specs.Prelude.{Result}
+use Rattle.answers.specs.declared.Fault.TheVariants.{Argument}
+use Rattle.answers.specs.declared.Part.{Part}
+use Rattle.answers.specs.declared.Read.{Read}
+use Rattle.answers.specs.declared.Refusal.{Refusal}
+use Rattle.answers.specs.Answers.{read_as, refusal}
+use Rattle.lexer.specs.Answers.{ValueRead, part_in, QuotedRead}
 use Rattle.lexer.proofs.AtPlace.{advance-to, after-in, after-end, next-in, next-inside, is-next, not-next}
 
 -- ---- a string up to its delimiter
@@ -74,13 +78,13 @@ module _ (s : List ℕ) (at d : ℕ) where
 
 -- ---- a string with its delimiters
 
-abbrev IsQuoted : List ℕ → ℕ → Answer → Type 0
-IsQuoted s at = TwoRead s (λ a e. part a e s) (QuotedRead at) (quoted (cursor_at s at))
+abbrev IsQuoted : List ℕ → ℕ → Result (Read Part) Refusal → Type 0
+IsQuoted s at = ValueRead s (part_in s) (QuotedRead at) (quoted (cursor_at s at))
 
 module _ (s : List ℕ) (at d : ℕ) (first : next_byte (cursor_at s at) ≡ d) where
-  pub not-quoted : is_delimiter d ≡ false → IsQuoted s at (Answer.Refused 3 at)
+  pub not-quoted : is_delimiter d ≡ false → IsQuoted s at (refusal Argument at)
   unfolding quoted place_at
-  not-quoted e = TwoOr.refused 3 at (rw (first, e))
+  not-quoted e = (rw (first, e))
 
   -- no delimiter is 0
   pub delimiter-inside : is_delimiter d ≡ true → at < length s
@@ -92,9 +96,9 @@ module _ (s : List ℕ) (at d : ℕ) (first : next_byte (cursor_at s at) ≡ d) 
       positive (suc n) e = omega arith
 
   pub is-quoted : (end next : ℕ) → is_delimiter d ≡ true → string_next d (cursor_at s (at + 1)) ≡ part (at + 1) end s → at + 1 ≤ end → end ≤ length s
-      → past_delimiter d (cursor_at s end) ≡ cursor_at s next → end ≤ next → next ≤ length s → IsQuoted s at (Answer.Two (at + 1) end next)
+      → past_delimiter d (cursor_at s end) ≡ cursor_at s next → end ≤ next → next ≤ length s → IsQuoted s at (read_as (record { start = at + 1; end = end }) next)
   unfolding quoted
-  is-quoted end next e string from to past far within = TwoOr.read (at + 1) end next (
+  is-quoted end next e string from to past far within = (
     rw (first, e, after-in s at (delimiter-inside e), string, after-string s (at + 1) end d from to string, past),
     (omega arith, from, far),
     within,

@@ -12,10 +12,13 @@ use Rattle.definitions.specs.Editor.{Target, here, line, eof, up_to, to_eof}
 use Rattle.definitions.specs.Reader.{Cursor, Got, got, refused, and_then, next_byte, after_byte, is_next, is_digit_next, skip_spaces, number}
 use Rattle.definitions.specs.Commands.{starts_target, target, through, line_span, optional_target}
 use Rattle.lexer.specs.Places.{cursor_at}
-use Rattle.answers.specs.declared.Answer.{Answer}
-use Rattle.answers.specs.Answers.{NumberOr, TwoOr}
-use Rattle.lexer.specs.Answers.{NumberAt, NumberRead, NumberUpTo, TwoRead}
+use Rattle.std.specs.Prelude.{Result, Ok, Err}
+use Rattle.answers.specs.declared.Read.{Read}
+use Rattle.answers.specs.declared.Refusal.{Refusal}
+use Rattle.answers.specs.Answers.{read_as}
+use Rattle.lexer.specs.Answers.{ValueAt, ValueRead, NumberUpTo}
 use Rattle.lexer.specs.Targets.{target_of, through_of, span_of, option_of, SpanRead}
+use Rattle.lexer.specs.declared.targets.Lines.{Lines}
 use Rattle.lexer.proofs.AtPlace.{is-next, not-next, next-inside, after_next}
 use Rattle.lexer.proofs.Digits.{IsNumber}
 
@@ -53,90 +56,89 @@ through-line k h g = rw (ne_eqb k 0 (omega arith), ne_eqb k 65536 (omega arith))
 
 -- ---- a line
 
-abbrev IsTarget : List ℕ → ℕ → Answer → Type 0
-IsTarget s at = NumberRead s target_of (NumberUpTo 65536 (suc at)) (target (cursor_at s at))
+abbrev IsTarget : List ℕ → ℕ → Result (Read ℕ) Refusal → Type 0
+IsTarget s at = ValueRead s target_of (NumberUpTo 65536 (suc at)) (target (cursor_at s at))
 
 module _ (s : List ℕ) (at : ℕ) where
-  pub target-here : next_byte (cursor_at s at) ≡ 46 → IsTarget s at (Answer.Number 0 (at + 1))
+  pub target-here : next_byte (cursor_at s at) ≡ 46 → IsTarget s at (read_as 0 (at + 1))
   unfolding target target_of
   target-here e =
       let h : 0 < next_byte (cursor_at s at) = omega arith in
       let inside : at < length s = next-inside s at h in
-      NumberOr.read 0 (at + 1) (rw (is-next 46 (cursor_at s at) e) (ap (got here) (after_next s at h)), (omega arith, omega arith), omega arith)
+      (rw (is-next 46 (cursor_at s at) e) (ap (got here) (after_next s at h)), (omega arith, omega arith), omega arith)
 
-  pub target-eof : (next_byte (cursor_at s at) ≡ 46 → ⊥) → next_byte (cursor_at s at) ≡ 42 → IsTarget s at (Answer.Number 65536 (at + 1))
+  pub target-eof : (next_byte (cursor_at s at) ≡ 46 → ⊥) → next_byte (cursor_at s at) ≡ 42 → IsTarget s at (read_as 65536 (at + 1))
   unfolding target target_of
   target-eof d e =
       let h : 0 < next_byte (cursor_at s at) = omega arith in
-      let inside : at < length s = next-inside s at h in
-      NumberOr.read 65536 (at + 1) (
+      let inside : at < length s = next-inside s at h in (
         rw (not-next 46 (cursor_at s at) d, is-next 42 (cursor_at s at) e) (ap (got eof) (after_next s at h)),
         (omega arith, omega arith),
         omega arith,
       )
 
-  pub target-number : {r : Answer} → (next_byte (cursor_at s at) ≡ 46 → ⊥) → (next_byte (cursor_at s at) ≡ 42 → ⊥) → IsNumber s at r → IsTarget s at r
+  pub target-number : (r : Result (Read ℕ) Refusal) → (next_byte (cursor_at s at) ≡ 46 → ⊥) → (next_byte (cursor_at s at) ≡ 42 → ⊥) → IsNumber s at r → IsTarget s at r
   unfolding target and_then
-  target-number d e (NumberOr.read n next (is, on, to)) = NumberOr.read n next (
-    rw (not-next 46 (cursor_at s at) d, not-next 42 (cursor_at s at) e, is, target-line n on.0 on.1),
+  target-number (Ok x) d e (is, on, to) = (
+    rw (not-next 46 (cursor_at s at) d, not-next 42 (cursor_at s at) e, is, target-line x.value on.0 on.1),
     (omega arith, on.2),
     to,
   )
-  target-number d e (NumberOr.refused k p is) = NumberOr.refused k p (rw (not-next 46 (cursor_at s at) d, not-next 42 (cursor_at s at) e, is))
+  target-number (Err x) d e is = (rw (not-next 46 (cursor_at s at) d, not-next 42 (cursor_at s at) e, is))
 
 -- ---- how far
 
-abbrev IsThrough : List ℕ → ℕ → Answer → Type 0
-IsThrough s at = NumberRead s through_of (NumberUpTo 65536 at) (through (cursor_at s at))
+abbrev IsThrough : List ℕ → ℕ → Result (Read ℕ) Refusal → Type 0
+IsThrough s at = ValueRead s through_of (NumberUpTo 65536 at) (through (cursor_at s at))
 
 -- ---- a line or none
 
-abbrev IsOption : List ℕ → ℕ → Answer → Type 0
-IsOption s at = NumberRead s option_of (NumberUpTo 65537 at) (optional_target (cursor_at s at))
+abbrev IsOption : List ℕ → ℕ → Result (Read ℕ) Refusal → Type 0
+IsOption s at = ValueRead s option_of (NumberUpTo 65537 at) (optional_target (cursor_at s at))
 
 module _ (s : List ℕ) (at i : ℕ) (spaces : skip_spaces (cursor_at s at) ≡ cursor_at s i) (from : at ≤ i) (to : i ≤ length s) where
-  pub through-eof : next_byte (cursor_at s i) ≡ 42 → IsThrough s at (Answer.Number 65536 (i + 1))
+  pub through-eof : next_byte (cursor_at s i) ≡ 42 → IsThrough s at (read_as 65536 (i + 1))
   unfolding through through_of
   through-eof e =
       let h : 0 < next_byte (cursor_at s i) = omega arith in
       let inside : i < length s = next-inside s i h in
-      NumberOr.read 65536 (i + 1) (rw (spaces, is-next 42 (cursor_at s i) e) (ap (got to_eof) (after_next s i h)), (omega arith, omega arith), omega arith)
+      (rw (spaces, is-next 42 (cursor_at s i) e) (ap (got to_eof) (after_next s i h)), (omega arith, omega arith), omega arith)
 
   module _ (other : next_byte (cursor_at s i) ≡ 42 → ⊥) where
-    pub through-number : {r : Answer} → is_digit (next_byte (cursor_at s i)) ≡ true → IsNumber s i r → IsThrough s at r
+    pub through-number : (r : Result (Read ℕ) Refusal) → is_digit (next_byte (cursor_at s i)) ≡ true → IsNumber s i r → IsThrough s at r
     unfolding through and_then is_digit_next
-    through-number d (NumberOr.read n next (is, on, end)) = NumberOr.read n next (
-      rw (spaces, not-next 42 (cursor_at s i) other, d, is, through-line n on.0 on.1),
+    through-number (Ok x) d (is, on, end) = (
+      rw (spaces, not-next 42 (cursor_at s i) other, d, is, through-line x.value on.0 on.1),
       (omega (arith, on.1), omega (arith, on.2)),
       end,
     )
-    through-number d (NumberOr.refused k p is) = NumberOr.refused k p (rw (spaces, not-next 42 (cursor_at s i) other, d, is))
+    through-number (Err x) d is = (rw (spaces, not-next 42 (cursor_at s i) other, d, is))
 
-    pub through-alone : is_digit (next_byte (cursor_at s i)) ≡ false → IsThrough s at (Answer.Number 0 at)
+    pub through-alone : is_digit (next_byte (cursor_at s i)) ≡ false → IsThrough s at (read_as 0 at)
     unfolding through through_of is_digit_next
-    through-alone d = NumberOr.read 0 at (rw (spaces, not-next 42 (cursor_at s i) other, d), (omega arith, omega arith), omega arith)
+    through-alone d = (rw (spaces, not-next 42 (cursor_at s i) other, d), (omega arith, omega arith), omega arith)
 
-  pub option-none : starts_target true (cursor_at s i) ≡ false → IsOption s at (Answer.Number 65537 at)
+  pub option-none : starts_target true (cursor_at s i) ≡ false → IsOption s at (read_as 65537 at)
   unfolding optional_target option_of
-  option-none e = NumberOr.read 65537 at (rw (spaces, e), (omega arith, omega arith), omega arith)
+  option-none e = (rw (spaces, e), (omega arith, omega arith), omega arith)
 
-  pub option-some : {r : Answer} → starts_target true (cursor_at s i) ≡ true → IsTarget s i r → IsOption s at r
+  pub option-some : (r : Result (Read ℕ) Refusal) → starts_target true (cursor_at s i) ≡ true → IsTarget s i r → IsOption s at r
   unfolding optional_target option_of and_then
-  option-some e (NumberOr.read n next (is, on, end)) =
-      NumberOr.read n next (rw (spaces, e, is, ne_eqb n 65537 (omega (arith, on.0))), (omega (arith, on.0), omega (arith, on.1)), end)
-  option-some e (NumberOr.refused k p is) = NumberOr.refused k p (rw (spaces, e, is))
+  option-some (Ok x) e (is, on, end) =
+      (rw (spaces, e, is, ne_eqb x.value 65537 (omega (arith, on.0))), (omega (arith, on.0), omega (arith, on.1)), end)
+  option-some (Err x) e is = (rw (spaces, e, is))
 
 -- ---- the lines of D and R
 
-abbrev IsSpan : List ℕ → ℕ → Answer → Type 0
-IsSpan s at = TwoRead s span_of (SpanRead at) (line_span (cursor_at s at))
+abbrev IsSpan : List ℕ → ℕ → Result (Read Lines) Refusal → Type 0
+IsSpan s at = ValueRead s span_of (SpanRead at) (line_span (cursor_at s at))
 
 -- a line that was read, and how far
 abbrev TargetAt : List ℕ → ℕ → ℕ → ℕ → Type 0
-TargetAt s at = NumberAt s target_of (NumberUpTo 65536 (suc at)) (target (cursor_at s at))
+TargetAt s at = ValueAt s target_of (NumberUpTo 65536 (suc at)) (target (cursor_at s at))
 
 abbrev ThroughAt : List ℕ → ℕ → ℕ → ℕ → Type 0
-ThroughAt s at = NumberAt s through_of (NumberUpTo 65536 at) (through (cursor_at s at))
+ThroughAt s at = ValueAt s through_of (NumberUpTo 65536 at) (through (cursor_at s at))
 
 -- where `*` does not count, no line number begins with it
 no-star : (c : Cursor) → starts_target false c ≡ true → is_next 42 c ≡ false
@@ -163,9 +165,9 @@ below-eof s at n next starts first = go first.1.0 other
     go h k = omega arith
 
 module _ (s : List ℕ) (at i : ℕ) (spaces : skip_spaces (cursor_at s at) ≡ cursor_at s i) (from : at ≤ i) (to : i ≤ length s) where
-  pub span_none : starts_target false (cursor_at s i) ≡ false → IsSpan s at (Answer.Two 0 0 at)
+  pub span_none : starts_target false (cursor_at s i) ≡ false → IsSpan s at (read_as (record { first = 0; last = 0 }) at)
   unfolding line_span span_of target_of through_of
-  span_none e = TwoOr.read 0 0 at (rw (spaces, e), (omega arith, omega arith, omega arith), omega arith)
+  span_none e = (rw (spaces, e), (omega arith, omega arith, omega arith), omega arith)
 
   module _ (starts : starts_target false (cursor_at s i) ≡ true) where
     pub span-first : (k p : ℕ) → target (cursor_at s i) ≡ refused k p → line_span (cursor_at s at) ≡ refused k p
@@ -177,9 +179,9 @@ module _ (s : List ℕ) (at i : ℕ) (spaces : skip_spaces (cursor_at s at) ≡ 
       unfolding line_span and_then
       span_last k p e = rw (spaces, starts, first.0, e)
 
-      pub span-both : (m end : ℕ) → ThroughAt s next m end → IsSpan s at (Answer.Two n m end)
+      pub span-both : (m end : ℕ) → ThroughAt s next m end → IsSpan s at (read_as (record { first = n; last = m }) end)
       unfolding line_span span_of and_then
-      span-both m end last = TwoOr.read n m end (
+      span-both m end last = (
         rw (spaces, starts, first.0, last.0),
         (below-eof s i n next starts first, last.1.0, omega (arith, first.1.1, last.1.1)),
         last.2,

@@ -1,8 +1,11 @@
 -- What the readers of the script answer: x is the definition's answer, and W says more of what was read.
-use Rattle.std.specs.Prelude.{◌≡◌, List, ℕ, suc, ◌≤◌, min, length}
+use Rattle.std.specs.Prelude.{◌≡◌, List, ℕ, suc, ◌≤◌, min, length, Result}
 use Rattle.definitions.specs.Reader.{Got, got, refused, Token, token}
-use Rattle.answers.specs.declared.Answer.{Answer}
-use Rattle.answers.specs.Answers.{PastOr, NumberOr, TwoOr}
+use Rattle.answers.specs.declared.Part.{Part}
+use Rattle.answers.specs.declared.Read.{Read}
+use Rattle.answers.specs.declared.Refusal.{Refusal}
+use Rattle.answers.specs.Answers.{AnswerOr, ReadOr}
+use Rattle.text.specs.Lines.{part}
 use Rattle.lexer.specs.Places.{cursor_at}
 
 abbrev pub Refuses : {A : Type 0} → Got A → ℕ → ℕ → Type 0
@@ -12,22 +15,15 @@ Refuses x k p = x ≡ refused k p
 abbrev pub PastAt : List ℕ → (ℕ → Type 0) → Got (Unit {0}) → ℕ → Type 0
 PastAt s W x next = (x ≡ got tt (cursor_at s next)) × W next × (next ≤ length s)
 
-abbrev pub PastRead : List ℕ → (ℕ → Type 0) → Got (Unit {0}) → Answer → Type 0
-PastRead s W x = PastOr (PastAt s W x) (Refuses x)
+abbrev pub PastRead : List ℕ → (ℕ → Type 0) → Got (Unit {0}) → Result ℕ Refusal → Type 0
+PastRead s W x = AnswerOr (PastAt s W x) (Refuses x)
 
--- a number; f says what it stands for
-abbrev pub NumberAt : {A : Type 0} → List ℕ → (ℕ → A) → (ℕ → ℕ → Type 0) → Got A → ℕ → ℕ → Type 0
-NumberAt s f W x n next = (x ≡ got (f n) (cursor_at s next)) × W n next × (next ≤ length s)
+-- a value; f says what it stands for
+abbrev pub ValueAt : {T A : Type 0} → List ℕ → (T → A) → (T → ℕ → Type 0) → Got A → T → ℕ → Type 0
+ValueAt s f W x v next = (x ≡ got (f v) (cursor_at s next)) × W v next × (next ≤ length s)
 
-abbrev pub NumberRead : {A : Type 0} → List ℕ → (ℕ → A) → (ℕ → ℕ → Type 0) → Got A → Answer → Type 0
-NumberRead s f W x = NumberOr (NumberAt s f W x) (Refuses x)
-
--- two numbers
-abbrev pub TwoAt : {A : Type 0} → List ℕ → (ℕ → ℕ → A) → (ℕ → ℕ → ℕ → Type 0) → Got A → ℕ → ℕ → ℕ → Type 0
-TwoAt s f W x a b next = (x ≡ got (f a b) (cursor_at s next)) × W a b next × (next ≤ length s)
-
-abbrev pub TwoRead : {A : Type 0} → List ℕ → (ℕ → ℕ → A) → (ℕ → ℕ → ℕ → Type 0) → Got A → Answer → Type 0
-TwoRead s f W x = TwoOr (TwoAt s f W x) (Refuses x)
+abbrev pub ValueRead : {T A : Type 0} → List ℕ → (T → A) → (T → ℕ → Type 0) → Got A → Result (Read T) Refusal → Type 0
+ValueRead s f W x = ReadOr (ValueAt s f W x) (Refuses x)
 
 -- ---- what was read, and where it ends
 
@@ -49,9 +45,13 @@ Numbered at n next = (1 ≤ n) × (n ≤ 65535) × (suc at ≤ next)
 abbrev pub NumberUpTo : ℕ → ℕ → ℕ → ℕ → Type 0
 NumberUpTo top from n next = (n ≤ top) × (from ≤ next)
 
+-- the bytes of a part of the script
+abbrev pub part_in : List ℕ → Part → List ℕ
+part_in s p = part p.start p.end s
+
 -- a string whose delimiter stands at `at`
-abbrev pub QuotedRead : ℕ → ℕ → ℕ → ℕ → Type 0
-QuotedRead at start end next = (start ≡ suc at) × (start ≤ end) × (end ≤ next)
+abbrev pub QuotedRead : ℕ → Part → ℕ → Type 0
+QuotedRead at p next = (p.start ≡ suc at) × (p.start ≤ p.end) × (p.end ≤ next)
 
 -- a value over 65,535 counts as 65,536
 unfoldable pub capped : Token → Token

@@ -5,38 +5,25 @@ ghost use Rattle.definitions.specs.Reader.{next_byte, is_delimiter, expect as «
 ghost use Rattle.lexer.specs.Places.{cursor_at};
 ghost use Rattle.lexer.specs.Answers.{PastRead, OneByte};
 
-use answers::Answer;
+use answers::{Fault, Refusal};
 
 pub fn is_digit(b: u8) -> bool
     ensures { result ≡ is_digit b }
 {
-    if b < 48 {
-        return false;
-    }
-    b <= 57
+    b.is_ascii_digit()
 }
 
 pub fn is_letter(b: u8) -> bool
     ensures { result ≡ is_letter b }
 {
-    if b < 65 {
-        return false;
-    }
-    if b <= 90 {
-        return true;
-    }
-    if b < 97 {
-        return false;
-    }
-    b <= 122
+    b.is_ascii_alphabetic()
 }
 
-// ! ' * + , - . / : ?
 pub fn is_delimiter(b: u8) -> bool
     ensures { result ≡ is_delimiter b }
 {
     match b {
-        33 | 39 | 42..=47 | 58 | 63 => true,
+        b'!' | b'\'' | b'*'..=b'/' | b':' | b'?' => true,
         _ => false,
     }
 }
@@ -49,14 +36,14 @@ pub fn next_byte(s: &[u8], at: usize) -> u8
 }
 
 // The byte b must stand at the place, else 3 there.
-pub fn expect(s: &[u8], at: usize, b: u8) -> Answer
+pub fn expect(s: &[u8], at: usize, b: u8) -> Result<usize, Refusal>
     requires { (at ≤ length s.now) × (0 < b) }
     ensures { PastRead s.now (OneByte at) («expect-of» b (cursor_at s.now at)) result }
 {
     if at < s.len() {
         if s[at] == b {
-            return Answer::Past(at + 1);
+            return Ok(at + 1);
         }
     }
-    Answer::Refused(3, at)
+    Err(Fault::Argument.at(at))
 }

@@ -11,17 +11,3 @@ pub mod spaces; // spaces.rt: spaces, comments and line ends
 pub mod strings; // strings.rt: strings up to their delimiter
 pub mod targets; // targets.rt: the line numbers of M, D, I and R
 pub mod words; // words.rt: THEN and ELSE
-
-// Digits read: their value, and the place after them.
-#[derive(Clone, Copy)]
-pub struct Count {
-    pub value: usize,
-    pub next: usize,
-}
-
-// A name read: its letters packed, and the place after it.
-#[derive(Clone, Copy)]
-pub struct Name {
-    pub letters: u32,
-    pub next: usize,
-}

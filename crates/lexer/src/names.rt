@@ -4,15 +4,9 @@ ghost use Rattle.definitions.specs.Reader.{name as «name_of», token};
 ghost use Rattle.lexer.specs.Places.{cursor_at};
 ghost use Rattle.lexer.specs.Steps.{limit, with_letter};
 
-use crate::Name;
 use crate::bytes::is_letter;
+use answers::Read;
 use text::upper;
-
-fn wide(b: u8) -> u32
-    ensures { result ≡ b }
-{
-    b as u32
-}
 
 // One letter more, where `left` more letters count.
 fn with_letter(n: u32, left: usize, b: u8) -> u32
@@ -22,39 +16,27 @@ fn with_letter(n: u32, left: usize, b: u8) -> u32
     if left == 0 {
         return n;
     }
-    n * 256 + wide(upper(b))
-}
-
-// One less, but not below 0.
-fn one_less(left: usize) -> usize
-    ensures { result ≡ left - 1 }
-{
-    if left == 0 { 0 } else { left - 1 }
+    n * 256 + u32::from(upper(b))
 }
 
 // The letters that stand next: the first four, upper-cased, packed with the first one highest.
-pub fn name(s: &[u8], at: usize) -> Name
+pub fn name(s: &[u8], at: usize) -> Read<u32>
     requires { at ≤ length s.now }
-    ensures read { «name_of» (cursor_at s.now at) ≡ token result.letters (cursor_at s.now result.next) }
+    ensures read { «name_of» (cursor_at s.now at) ≡ token result.value (cursor_at s.now result.next) }
     ensures within { (at ≤ result.next) × (result.next ≤ length s.now) }
 {
     let mut n: u32 = 0;
     let mut left: usize = 4;
-    let mut i = at;
-    while i < s.len() {
+    for i in at..s.len() {
         let b = s[i];
         if !is_letter(b) {
-            return Name {
-                letters: n,
-                next: i,
-            };
+            return Read { value: n, next: i };
         }
         n = with_letter(n, left, b);
-        left = one_less(left);
-        i += 1;
+        left = left.saturating_sub(1);
     }
-    Name {
-        letters: n,
-        next: i,
+    Read {
+        value: n,
+        next: s.len(),
     }
 }

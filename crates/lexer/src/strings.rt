@@ -3,10 +3,10 @@ ghost use Rattle.std.specs.Prelude.{◌≡◌, ◌≤◌, length};
 ghost use Rattle.definitions.specs.Reader.{string_next, advance, past_delimiter, quoted as «quoted-of»};
 ghost use Rattle.text.specs.Lines.{part};
 ghost use Rattle.lexer.specs.Places.{cursor_at};
-ghost use Rattle.lexer.specs.Answers.{TwoRead, QuotedRead};
+ghost use Rattle.lexer.specs.Answers.{ValueRead, part_in, QuotedRead};
 
 use crate::bytes::{is_delimiter, next_byte};
-use answers::Answer;
+use answers::{Answer, Fault, Part, Read};
 use scans::{Kind, past};
 
 // The end of the string that begins at the place: its delimiter d, or the line's end where that is missing.
@@ -34,16 +34,19 @@ pub fn past_delimiter(s: &[u8], at: usize, d: u8) -> usize
 }
 
 // A string with its delimiters: the part of the script that it is. Where no delimiter stands, 3 there.
-pub fn quoted(s: &[u8], at: usize) -> Answer
+pub fn quoted(s: &[u8], at: usize) -> Answer<Part>
     requires { at ≤ length s.now }
-    ensures { TwoRead s.now (λ a e. part a e s.now) (QuotedRead at) («quoted-of» (cursor_at s.now at)) result }
+    ensures { ValueRead s.now (part_in s.now) (QuotedRead at) («quoted-of» (cursor_at s.now at)) result }
 {
     let d = next_byte(s, at);
     if !is_delimiter(d) {
-        return Answer::Refused(3, at);
+        return Err(Fault::Argument.at(at));
     }
     let start = at + 1;
     let end = string_end(s, start, d);
     let next = past_delimiter(s, end, d);
-    Answer::Two(start, end, next)
+    Ok(Read {
+        value: Part { start, end },
+        next,
+    })
 }

@@ -7,13 +7,6 @@ ghost use Rattle.lexer.specs.Words.{ElseRead};
 use crate::names::name;
 use crate::spaces::skip_spaces;
 
-#[derive(Clone, Copy)]
-pub enum Else {
-    // After ELSE and the spaces that follow it.
-    After(usize),
-    Missing,
-}
-
 // Past THEN, if it stands there.
 pub fn skip_then(s: &[u8], at: usize) -> usize
     requires { at ≤ length s.now }
@@ -23,20 +16,19 @@ pub fn skip_then(s: &[u8], at: usize) -> usize
     let i = skip_spaces(s, at);
     let w = name(s, i);
     // THEN
-    if w.letters == 1414022478 { w.next } else { at }
+    if w.value == 1414022478 { w.next } else { at }
 }
 
-// Past ELSE, if it stands there.
-pub fn skip_else(s: &[u8], at: usize) -> Else
+// Past ELSE and the spaces that follow it, if it stands there.
+pub fn skip_else(s: &[u8], at: usize) -> Option<usize>
     requires { at ≤ length s.now }
     ensures { ElseRead s.now at result }
 {
     let i = skip_spaces(s, at);
     let w = name(s, i);
     // ELSE
-    if w.letters == 1162629957 {
-        let next = w.next;
-        return Else::After(skip_spaces(s, next));
+    if w.value == 1162629957 {
+        return Some(skip_spaces(s, w.next));
     }
-    Else::Missing
+    None
 }

@@ -3,7 +3,7 @@
 
 pub mod idle;
 
-ghost use Rattle.std.specs.Prelude.{◌≡◌, false, cond, ◌++◌, ℕ, ◌≤◌, ◌<◌, min, length, drop};
+ghost use Rattle.std.specs.Prelude.{◌≡◌, false, cond, ◌++◌, ℕ, ◌≤◌, ◌<◌, length, drop};
 ghost use Rattle.definitions.specs.WordSet.{Named};
 ghost use Rattle.definitions.specs.Reader.{is_next};
 ghost use Rattle.definitions.specs.Patterns.{Pattern, fits};
@@ -12,6 +12,10 @@ ghost use Rattle.marks.specs.Sweeping.{never, Reads, slots, out_of, swept};
 ghost use Rattle.marks.specs.Written.{after_mismatch, Names, Covers, Kind, Room, Swept, both};
 
 use patterns::bytes::{ends_row, is_next};
+
+// The place of a mark that is not set, and of a start that does not stand: more than each place of a line, so that the least of two needs no test of an
+// Option.
+pub const NEVER: u16 = u16::MAX;
 
 // What flows through an item: where the item begins, and its first mark; and the least place where a match can have begun that has come up to the item,
 // before the byte of the line is read (old) and after it (new).
@@ -31,22 +35,13 @@ pub struct Bytes {
     pub end: usize,
 }
 
-fn least(a: u16, b: u16) -> u16
-    ensures { result ≡ min a b }
-{
-    if a < b {
-        return a;
-    }
-    b
-}
-
 // A character or range.
 pub fn named(s: &[u8], at: usize) -> Bytes
     requires { (x : Named) × (end : ℕ) × Names s.now at x end }
     ensures { (x : Named) (end : ℕ) → Names s.now at x end → Covers x end result }
 {
     let c = s[at];
-    if c == 34 {
+    if c == b'"' {
         let x = s[at + 1];
         return Bytes {
             low: x,
@@ -54,7 +49,7 @@ pub fn named(s: &[u8], at: usize) -> Bytes
             end: at + 2,
         };
     }
-    if is_next(s, at + 1, 45) {
+    if is_next(s, at + 1, b'-') {
         return Bytes {
             low: c,
             high: s[at + 2],
@@ -85,7 +80,7 @@ fn mark_after(c: Bytes, mismatch: bool, b: u8, old: u16) -> u16
 {
     let named = (c.low <= b) & (b <= c.high);
     if named == mismatch {
-        return 65535;
+        return NEVER;
     }
     old
 }
@@ -97,7 +92,7 @@ fn single(s: &[u8], f: Flow, b: u8, marks: &mut [u16]) -> Flow
 {
     let at = f.at;
     let slot = f.slot;
-    let mismatch = 126 == s[at];
+    let mismatch = b'~' == s[at];
     let c = named(s, after_mismatch(mismatch, at));
     let out = marks[slot];
     let mark = mark_after(c, mismatch, b, f.old);
@@ -116,7 +111,7 @@ fn part(s: &[u8], f: Flow, b: u8, marks: &mut [u16]) -> Flow
     requires { Room s.now Kind.part f marks.old }
     ensures { Swept s.now Kind.part b f marks.old marks.new result }
 {
-    if !is_next(s, f.at, 40) {
+    if !is_next(s, f.at, b'(') {
         return single(s, f, b, marks);
     }
     let mut inner = f;
@@ -132,18 +127,18 @@ fn item(s: &[u8], f: Flow, b: u8, marks: &mut [u16]) -> Flow
     requires { Room s.now Kind.item f marks.old }
     ensures { Swept s.now Kind.item b f marks.old marks.new result }
 {
-    if !is_next(s, f.at, 35) {
+    if !is_next(s, f.at, b'#') {
         return part(s, f, b, marks);
     }
     let slot = f.slot;
-    let again = least(f.old, marks[slot]);
+    let again = f.old.min(marks[slot]);
     let body = part(
         s,
         Flow {
             at: f.at + 1,
             slot: slot + 1,
             old: again,
-            new: 65535,
+            new: NEVER,
         },
         b,
         marks,
@@ -153,7 +148,7 @@ fn item(s: &[u8], f: Flow, b: u8, marks: &mut [u16]) -> Flow
         at: body.at,
         slot: body.slot,
         old: again,
-        new: least(f.new, body.new),
+        new: f.new.min(body.new),
     }
 }
 
@@ -177,8 +172,8 @@ fn joined(g: Flow, h: Flow) -> Flow
     Flow {
         at: h.at,
         slot: h.slot,
-        old: least(g.old, h.old),
-        new: least(g.new, h.new),
+        old: g.old.min(h.old),
+        new: g.new.min(h.new),
     }
 }
 
@@ -192,8 +187,8 @@ fn alternatives(s: &[u8], f: Flow, b: u8, marks: &mut [u16]) -> Flow
     let mut g = Flow {
         at: f.at,
         slot: f.slot,
-        old: 65535,
-        new: 65535,
+        old: NEVER,
+        new: NEVER,
     };
     loop {
         let start = Flow {
@@ -203,7 +198,7 @@ fn alternatives(s: &[u8], f: Flow, b: u8, marks: &mut [u16]) -> Flow
             new: f.new,
         };
         g = joined(g, row(s, start, b, marks));
-        if !is_next(s, g.at, 124) {
+        if !is_next(s, g.at, b'|') {
             return g;
         }
         g.at += 1;
@@ -219,7 +214,7 @@ pub fn sweep(pattern: &[u8], b: u8, enter: u16, marks: &mut [u16]) -> u16
         at: 0,
         slot: 0,
         old: enter,
-        new: 65535,
+        new: NEVER,
     };
     let end = alternatives(pattern, start, b, marks);
     end.old

@@ -1,4 +1,5 @@
 -- Laws of counted occurrences, from the left and from the right. Assumes nothing.
+use Rattle.std.specs.Prelude.{Some, None}
 use mathlib.Core.Path.{◌≡◌, refl, ◌∙◌}
 use mathlib.Core.Bool.{Bool, true, false}
 use mathlib.Core.Option.{Option, none, some}
@@ -6,8 +7,7 @@ use Prim.Native.Nat.{ℕ, zero, suc, ◌+◌, ◌-◌, ◌≤◌, ◌<◌, max}
 use native.Mathlib.Nat.{zero-sub, suc-sub-suc, sub-zero, add-zero, add-suc, suc-add}
 use native.Mathlib.Omega.{arith}
 use Rattle.definitions.specs.Matching.{text, places, place_from, occurrence, located, only_at, counted, with_width}
-use Rattle.taking.specs.Ways.{found_of}
-use Rattle.taking.specs.declared.Found.TheVariants.{At, Nothing}
+use Rattle.taking.specs.Ways.{found-at, found_of}
 
 module _ (st : ℕ → Bool) (w : ℕ) where
   pub no_place : (k n j : ℕ) → occurrence st w k n 0 j ≡ none
@@ -71,11 +71,11 @@ module _ (place : ℕ → ℕ) (st : ℕ → Bool) (w k left j i : ℕ) (here : 
         rw (jumped (k - 1) (k - 1 - 1) (omega arith), c, no_place (λ n. st (place n)) w (k - 1 - 1) 0 (suc j + (w - 1)))
 
 module _ (t : Bool) (i w : ℕ) where
-  pub only_here : t ≡ true → found_of (At i w) ≡ with_width w (only_at t i)
+  pub only_here : t ≡ true → found_of (Some (found-at i w)) ≡ with_width w (only_at t i)
   unfolding found_of with_width only_at
   only_here e = rw e
 
-  pub not-only : t ≡ false → found_of Nothing ≡ with_width w (only_at t i)
+  pub not-only : t ≡ false → found_of None ≡ with_width w (only_at t i)
   unfolding found_of with_width only_at
   not-only e = rw e
 

@@ -1,4 +1,5 @@
 -- The two scans, one law for each way of a turn: from the left, where places are passed by the first byte, and from the right. Assumes nothing.
+use Rattle.std.specs.Prelude.{Some, None}
 use mathlib.Core.Path.{◌≡◌, refl, sym, ap, ◌∙◌}
 use mathlib.Core.Bool.{Bool, true, false}
 use mathlib.Core.List.{List}
@@ -6,9 +7,8 @@ use Prim.Native.Nat.{ℕ, ◌+◌, ◌-◌, ◌≤◌, ◌<◌, max}
 use native.Mathlib.Omega.{arith}
 use lib.ListN.{length, drop}
 use Rattle.definitions.specs.Matching.{text, stands_at, counted, with_width}
-use Rattle.taking.specs.Ways.{found_of}
+use Rattle.taking.specs.Ways.{found-at, found_of}
 use Rattle.matching.specs.Scan.{other_places}
-use Rattle.taking.specs.declared.Found.TheVariants.{At, Nothing}
 use Rattle.matching.proofs.Counts.{from, from_start, from_end, found, skipped, missed, next, too_few}
 use Rattle.matching.proofs.Passing.{goes_on, stays}
 
@@ -52,12 +52,12 @@ module _ (isWord : ℕ → Bool) (w u : Bool) (s l : List ℕ) (start end count 
     on : counted (stands_at isWord w u s l) (length s) count false (text start end) ≡ from (λ j. start + j) (stands_at isWord w u s l) (length s) k (end - length s - r) (r - start)
     on = turn.the_same ∙ goes_on isWord w u s l start (end - length s) i r (length s) k turn.lo turn.hi is
 
-    pub left-found : k ≤ 1 → stands_at isWord w u s l r ≡ true → found_of (At r (length s)) ≡ with_width (length s) (counted (stands_at isWord w u s l) (length s) count false (text start end))
+    pub left-found : k ≤ 1 → stands_at isWord w u s l r ≡ true → found_of (Some (found-at r (length s))) ≡ with_width (length s) (counted (stands_at isWord w u s l) (length s) count false (text start end))
     unfolding found_of with_width
     left-found h e = ap (with_width (length s)) (found (λ j. start + j) (stands_at isWord w u s l) (length s) k (end - length s - r) (r - start) r here h e ∙ sym on)
 
     module _ (e : stands_at isWord w u s l r ≡ false) where
-      pub left-missed : r ≡ end - length s → found_of Nothing ≡ with_width (length s) (counted (stands_at isWord w u s l) (length s) count false (text start end))
+      pub left-missed : r ≡ end - length s → found_of None ≡ with_width (length s) (counted (stands_at isWord w u s l) (length s) count false (text start end))
       unfolding found_of with_width
       left-missed h = ap (with_width (length s)) (sym (on ∙ missed (λ j. start + j) (stands_at isWord w u s l) (length s) k (end - length s - r) (r - start) r here e (omega arith)))
 
@@ -74,7 +74,7 @@ module _ (isWord : ℕ → Bool) (w u : Bool) (s l : List ℕ) (start end count 
         left-skip-falls = omega (arith, left-reached)
 
     module _ (more : 1 < k) (e : stands_at isWord w u s l r ≡ true) (step : ℕ) (is-step : step ≡ max 1 (length s)) where
-      pub left-too-few : end - length s - r < step → found_of Nothing ≡ with_width (length s) (counted (stands_at isWord w u s l) (length s) count false (text start end))
+      pub left-too-few : end - length s - r < step → found_of None ≡ with_width (length s) (counted (stands_at isWord w u s l) (length s) count false (text start end))
       unfolding found_of with_width
       left-too-few h = ap (with_width (length s)) (sym (on ∙ too_few (λ j. start + j) (stands_at isWord w u s l) (length s) k (end - length s - r) (r - start) r here more e (omega arith)))
 
@@ -94,12 +94,12 @@ module _ (isWord : ℕ → Bool) (w u : Bool) (s l : List ℕ) (start end count 
     pub right-inside : start + length s ≤ end → i + length s ≤ end
     right-inside fits = omega (arith, turn.hi)
 
-    pub right-found : k ≤ 1 → stands_at isWord w u s l i ≡ true → found_of (At i (length s)) ≡ with_width (length s) (counted (stands_at isWord w u s l) (length s) count true (text start end))
+    pub right-found : k ≤ 1 → stands_at isWord w u s l i ≡ true → found_of (Some (found-at i (length s))) ≡ with_width (length s) (counted (stands_at isWord w u s l) (length s) count true (text start end))
     unfolding found_of with_width
     right-found h e = ap (with_width (length s)) (found (λ j. end - length s - j) (stands_at isWord w u s l) (length s) k (i - start) (end - length s - i) i back h e ∙ sym turn.the_same)
 
     module _ (e : stands_at isWord w u s l i ≡ false) where
-      pub right-missed : i ≡ start → found_of Nothing ≡ with_width (length s) (counted (stands_at isWord w u s l) (length s) count true (text start end))
+      pub right-missed : i ≡ start → found_of None ≡ with_width (length s) (counted (stands_at isWord w u s l) (length s) count true (text start end))
       unfolding found_of with_width
       right-missed h =
           ap (with_width (length s)) (sym (turn.the_same ∙ missed (λ j. end - length s - j) (stands_at isWord w u s l) (length s) k (i - start) (end - length s - i) i back e (omega arith)))
@@ -117,7 +117,7 @@ module _ (isWord : ℕ → Bool) (w u : Bool) (s l : List ℕ) (start end count 
         right-skip-falls = omega (arith, turn.lo)
 
     module _ (more : 1 < k) (e : stands_at isWord w u s l i ≡ true) (step : ℕ) (is-step : step ≡ max 1 (length s)) where
-      pub right-too-few : i - start < step → found_of Nothing ≡ with_width (length s) (counted (stands_at isWord w u s l) (length s) count true (text start end))
+      pub right-too-few : i - start < step → found_of None ≡ with_width (length s) (counted (stands_at isWord w u s l) (length s) count true (text start end))
       unfolding found_of with_width
       right-too-few h =
           ap (with_width (length s)) (sym (turn.the_same ∙ too_few (λ j. end - length s - j) (stands_at isWord w u s l) (length s) k (i - start) (end - length s - i) i back more e (omega arith)))

@@ -12,6 +12,7 @@ use lib.Dec.{ltb}
 use borrow.Author.Tests.{lt-ltb}
 use Rattle.definitions.specs.Matching.{columns}
 use Rattle.matching.specs.Quals.{anchor_of, columns_of, qualifiers_of}
+use mir.Val.{bool_byte}
 use Rattle.matching.specs.Words.{anchor_number, bit_of, are_given, flags_of, first_word, second_word, columns_in, column_words, string_words, led_in}
 use Rattle.matching.specs.declared.Quals.{Quals}
 
@@ -29,6 +30,16 @@ columns-written : (from to : ℕ) → are_given (columns_of from to) ≡ ltb 0 f
 unfolding are_given columns_of
 columns-written zero to = refl
 columns-written (suc n) to = sym (lt-ltb 0 (suc n) (omega arith))
+
+-- a bit that is written
+pub bit-written : (b : Bool) {n : ℕ} → n ≡ bool_byte b → n ≡ bit_of b
+unfolding bit_of
+bit-written true e = e
+bit-written false e = e
+
+pub bit_low : (b : Bool) {n : ℕ} → n ≡ bool_byte b → n ≤ 1
+bit_low true e = omega (arith, e)
+bit_low false e = omega (arith, e)
 
 pub flags-written : (q : Quals) → q.anchor ≤ 3 → (l n w u s c r : ℕ) → l ≡ bit_of q.last → n ≡ bit_of q.negated → w ≡ bit_of q.word → u ≡ bit_of q.fold
     → s ≡ bit_of q.skip → c ≡ bit_of (ltb 0 q.from) → r ≡ bit_of q.pattern

@@ -1,5 +1,5 @@
 // The places of the text, one after the other, from the left and from the right.
-ghost use Rattle.std.specs.Prelude.{◌≡◌, true, false, ◌+◌, ◌-◌, ◌≤◌, max, length, drop};
+ghost use Rattle.std.specs.Prelude.{◌≡◌, true, false, ◌+◌, ◌-◌, ◌≤◌, length, drop};
 ghost use Rattle.definitions.specs.Matching.{text, stands_at, counted, with_width};
 ghost use Rattle.wordset.specs.Sets.{in_set};
 ghost use Rattle.taking.specs.Ways.{found_of};
@@ -9,6 +9,7 @@ use super::place::stands;
 use scans::{Kind, past_long};
 use taking::Found;
 use text::upper;
+use wordset::WordSet;
 
 // The next place up to `top` where the string's first byte stands; `top` where none is before it.
 fn next_place(line: &[u8], s: &[u8], at: usize, top: usize, fold: bool) -> usize
@@ -24,16 +25,9 @@ fn next_place(line: &[u8], s: &[u8], at: usize, top: usize, fold: bool) -> usize
     past_long(line, at, top, Kind::Not(s[0]))
 }
 
-// How many places an occurrence takes up.
-fn step_of(s: &[u8]) -> usize
-    ensures { result ≡ max 1 (length s.now) }
-{
-    if s.len() == 0 { 1 } else { s.len() }
-}
-
 // The counted occurrence in the text from start to end, from the left. A place is first looked at by the string's first byte alone.
 pub fn from_left(
-    set: &[u32],
+    set: &WordSet,
     line: &[u8],
     s: &[u8],
     start: usize,
@@ -41,28 +35,32 @@ pub fn from_left(
     count: usize,
     word: bool,
     fold: bool,
-) -> Found
-    requires { (3 ≤ length set.now) × (start + length s.now ≤ end) × (end ≤ length line.now) }
+) -> Option<Found>
+    requires { (start + length s.now ≤ end) × (end ≤ length line.now) }
     ensures { found_of result ≡ with_width (length s.now) (counted (stands_at (in_set set.now 0) word fold s.now line.now) (length s.now) count false (text start end)) }
 {
     let top = end - s.len();
-    let step = step_of(s);
+    // how many places an occurrence takes up
+    let step = usize::max(1, s.len());
     let mut k = count;
     let mut i = start;
     loop {
         i = next_place(line, s, i, top, fold);
         if stands(set, line, s, i, word, fold) {
             if k <= 1 {
-                return Found::At(i, s.len());
+                return Some(Found {
+                    at: i,
+                    width: s.len(),
+                });
             }
             if top - i < step {
-                return Found::Nothing;
+                return None;
             }
             k -= 1;
             i += step;
         } else {
             if i == top {
-                return Found::Nothing;
+                return None;
             }
             i += 1;
         }
@@ -71,7 +69,7 @@ pub fn from_left(
 
 // The counted occurrence in the text from start to end, from the right.
 pub fn from_right(
-    set: &[u32],
+    set: &WordSet,
     line: &[u8],
     s: &[u8],
     start: usize,
@@ -79,26 +77,30 @@ pub fn from_right(
     count: usize,
     word: bool,
     fold: bool,
-) -> Found
-    requires { (3 ≤ length set.now) × (start + length s.now ≤ end) × (end ≤ length line.now) }
+) -> Option<Found>
+    requires { (start + length s.now ≤ end) × (end ≤ length line.now) }
     ensures { found_of result ≡ with_width (length s.now) (counted (stands_at (in_set set.now 0) word fold s.now line.now) (length s.now) count true (text start end)) }
 {
-    let step = step_of(s);
+    // how many places an occurrence takes up
+    let step = usize::max(1, s.len());
     let mut k = count;
     let mut i = end - s.len();
     loop {
         if stands(set, line, s, i, word, fold) {
             if k <= 1 {
-                return Found::At(i, s.len());
+                return Some(Found {
+                    at: i,
+                    width: s.len(),
+                });
             }
             if i - start < step {
-                return Found::Nothing;
+                return None;
             }
             k -= 1;
             i -= step;
         } else {
             if i == start {
-                return Found::Nothing;
+                return None;
             }
             i -= 1;
         }

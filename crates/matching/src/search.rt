@@ -5,9 +5,10 @@ ghost use Rattle.definitions.specs.Matching.{matches};
 ghost use Rattle.definitions.specs.Search.{Search, holds as «holds_of», holds_at_eof};
 ghost use Rattle.wordset.specs.Sets.{in_set};
 ghost use Rattle.matching.specs.Quals.{qualifiers_of};
-ghost use Rattle.matching.specs.Words.{bit_of, flags_of, first_word, second_word, string_words, led_in, Writable, Encodes, HasQuals, Readable, flags_at, start_at, length_at, columns_at, quals_at, string_at, end_at, onward};
+ghost use Rattle.matching.specs.Words.{flags_of, first_word, second_word, string_words, led_in, Writable, Encodes, HasQuals, Readable, flags_at, start_at, length_at, columns_at, quals_at, string_at, end_at, onward};
 
 use super::{Quals, matches_line};
+use wordset::WordSet;
 
 // The word of the columns; 0 where none are given.
 fn columns_at(words: &[u32], k: usize, flags: u32) -> u32
@@ -69,8 +70,15 @@ pub fn length_at(words: &[u32], k: usize) -> usize
 }
 
 // Does the string at k match the line, with the window from p.
-fn string_holds(script: &[u8], words: &[u32], k: usize, set: &[u32], line: &[u8], p: usize) -> bool
-    requires { Readable script.now words.now k × (3 ≤ length set.now) × (p ≤ length line.now) × (length line.now ≤ 255) }
+fn string_holds(
+    script: &[u8],
+    words: &[u32],
+    k: usize,
+    set: &WordSet,
+    line: &[u8],
+    p: usize,
+) -> bool
+    requires { Readable script.now words.now k × (p ≤ length line.now) × (length line.now ≤ 255) }
     ensures { result ≡ matches (in_set set.now 0) (string_at script.now words.now k) p line.now }
 {
     let q = quals_at(words, k);
@@ -104,11 +112,11 @@ pub fn holds(
     words: &[u32],
     k: usize,
     m: usize,
-    set: &[u32],
+    set: &WordSet,
     line: &[u8],
     p: usize,
 ) -> bool
-    requires { ((se : Search) × Encodes script.now words.now k m se) × (3 ≤ length set.now) × (p ≤ length line.now) × (length line.now ≤ 255) }
+    requires { ((se : Search) × Encodes script.now words.now k m se) × (p ≤ length line.now) × (length line.now ≤ 255) }
     ensures { (se : Search) → Encodes script.now words.now k m se → result ≡ «holds_of» (in_set set.now 0) se p line.now }
 {
     let mut at = k;
@@ -143,25 +151,18 @@ pub fn holds_at_eof(words: &[u32], k: usize, m: usize) -> bool
     truth
 }
 
-// 1 for a qualifier that is given.
-fn bit_of(b: bool) -> u32
-    ensures { (result ≡ bit_of b) × (result ≤ 1) }
-{
-    if b { 1 } else { 0 }
-}
-
 // The anchor, and a bit for each of L, N, W, U, S, columns and R.
 fn flags_of(q: Quals) -> u32
     requires { q.anchor ≤ 3 }
     ensures { (result ≡ flags_of (qualifiers_of q)) × (result ≤ 511) }
 {
-    let last = 4 * bit_of(q.last);
-    let negated = 8 * bit_of(q.negated);
-    let word = 16 * bit_of(q.word);
-    let fold = 32 * bit_of(q.fold);
-    let skip = 64 * bit_of(q.skip);
-    let columns = 128 * bit_of(0 < q.from);
-    let pattern = 256 * bit_of(q.pattern);
+    let last = 4 * u32::from(q.last);
+    let negated = 8 * u32::from(q.negated);
+    let word = 16 * u32::from(q.word);
+    let fold = 32 * u32::from(q.fold);
+    let skip = 64 * u32::from(q.skip);
+    let columns = 128 * u32::from(0 < q.from);
+    let pattern = 256 * u32::from(q.pattern);
     q.anchor as u32 + last + negated + word + fold + skip + columns + pattern
 }
 

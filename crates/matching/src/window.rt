@@ -1,24 +1,10 @@
 // The text T of the qualifiers: the part of the line that is searched.
-ghost use Rattle.std.specs.Prelude.{◌≡◌, ◌≤◌, min, max, length};
+ghost use Rattle.std.specs.Prelude.{◌≡◌, ◌≤◌, length};
 ghost use Rattle.definitions.specs.Matching.{window, after_spaces};
 ghost use Rattle.matching.specs.Quals.{columns_of, TextIn};
 
 use super::{Quals, Span};
 use scans::{Kind, past};
-
-// The lower of two numbers.
-fn least(a: usize, b: usize) -> usize
-    ensures { result ≡ min a b }
-{
-    if a < b { a } else { b }
-}
-
-// The higher of two numbers.
-fn greatest(a: usize, b: usize) -> usize
-    ensures { result ≡ max a b }
-{
-    if a < b { b } else { a }
-}
 
 // The window, cut to the columns where some are given.
 fn window_of(line: &[u8], p: usize, from: usize, to: usize) -> Span
@@ -31,8 +17,8 @@ fn window_of(line: &[u8], p: usize, from: usize, to: usize) -> Span
             end: line.len(),
         };
     }
-    let start = least(greatest(p, from - 1), line.len());
-    let end = greatest(start, least(to, line.len()));
+    let start = p.max(from - 1).min(line.len());
+    let end = start.max(to.min(line.len()));
     Span { start, end }
 }
 
@@ -47,6 +33,6 @@ pub fn text_of(line: &[u8], p: usize, q: Quals) -> Span
     }
     let start = t.start;
     let end = t.end;
-    let first = past(line, start, end, Kind::Only(32));
+    let first = past(line, start, end, Kind::Only(b' '));
     Span { start: first, end }
 }

@@ -1,5 +1,6 @@
 -- What comes next of two journals, in terms of their records: a line's texts are those of its records, what it leaves is what `by_middle` has of it, and the middle
 -- tables agree if they do after it. Assumes nothing.
+use Rattle.std.proofs.Common.{Option, Some, None, IfSome, Ok, Err}
 use mathlib.Core.Path.{◌≡◌, refl, sym, ap, subst, ◌∙◌}
 use mathlib.Core.Bool.{Bool, true, false, cond, false≢true}
 use mathlib.Core.List.{List, [], ◌∷◌, ◌++◌}
@@ -16,18 +17,14 @@ use Rattle.journal.specs.Records.{record_at, record_of, record_in, old_span, new
 use Rattle.journal.specs.declared.records.Mark.{Mark}
 use Rattle.journal.specs.declared.records.Mark.TheVariants.{Kept, Changed, Deleted, Inserted}
 use Rattle.journal.specs.declared.records.Extent.{Extent}
-use Rattle.journal.specs.declared.records.RecordAt.{RecordAt}
-use Rattle.journal.specs.declared.records.RecordAt.TheVariants.{Found, NoRecord}
 use Rattle.journal.specs.declared.records.Span.{Span}
-use Rattle.journal.specs.declared.records.Span.TheVariants.{Bytes, Nothing}
 use Rattle.journal.proofs.Here.{LastLine, Here, here}
 use Rattle.journal.proofs.Left.{left-next, left-none}
-use Rattle.middle.specs.Middle.{left_next, came_next, rest_by, at_end, texts_of, same_spans, met_by, middle_by, at_middle_line, next_by, next_from, next_at}
-use Rattle.middle.specs.Leaving.{text_in, leaves, At, Within, Stand}
+use Rattle.middle.specs.Middle.{left_next, came_next, rest_by, at_end, Coming, texts_of, same_spans, met_by, middle_by, at_middle_line, next_by, next_from, next_at}
+use Rattle.middle.specs.Leaving.{text_in, leaves_by, leaves, At, Within, Stand}
 use Rattle.middle.specs.declared.Places.{Places}
 use Rattle.middle.specs.declared.Texts.{Texts}
-use Rattle.middle.specs.declared.Next.{Next}
-use Rattle.middle.specs.declared.Next.TheVariants.{Line as Ahead, Differ, End}
+use Rattle.journal.specs.declared.Refusal.TheVariants.{Differ}
 
 -- ---- records: what a middle line leaves, by its old and its new line
 
@@ -77,39 +74,39 @@ module _ (a b c d : Line) (rs ss : List Record) where
 
 -- ---- spans
 
-unfoldable span_line : List ℕ → Span → List Line
-span_line j (Bytes a b) = part a (b - 1) j ∷ []
-span_line j Nothing = []
+unfoldable span_line : List ℕ → Option Span → List Line
+span_line j (Some s) = part s.from (s.to - 1) j ∷ []
+span_line j None = []
 
-texts-leave : (j k : List ℕ) (s t : Span) → leaves j k (texts_of s t) ≡ left_by (span_line j s) (span_line k t)
-unfolding leaves texts_of left_by span_line text_in
-texts-leave j k (Bytes a b) (Bytes c d) = refl
-texts-leave j k (Bytes a b) Nothing = refl
-texts-leave j k Nothing (Bytes c d) = refl
-texts-leave j k Nothing Nothing = refl
+texts-leave : (j k : List ℕ) (s t : Option Span) → leaves j k (texts_of s t) ≡ left_by (span_line j s) (span_line k t)
+unfolding leaves leaves_by left_by span_line text_in
+texts-leave j k (Some s) (Some t) = refl
+texts-leave j k (Some s) None = refl
+texts-leave j k None (Some t) = refl
+texts-leave j k None None = refl
 
 -- a span with a line
-abbrev IsSpan : Span → Type 0
-IsSpan (Bytes a b) = Unit {0}
-IsSpan Nothing = ⊥
+abbrev IsSpan : Option Span → Type 0
+IsSpan (Some s) = Unit {0}
+IsSpan None = ⊥
 
-same_lines : (j k : List ℕ) (s t : Span) (ls ms : List Line) → same_spans j k s t ≡ true → eq_lines (span_line j s ++ ls) (span_line k t ++ ms) ≡ eq_lines ls ms
+same_lines : (j k : List ℕ) (s t : Option Span) (ls ms : List Line) → same_spans j k s t ≡ true → eq_lines (span_line j s ++ ls) (span_line k t ++ ms) ≡ eq_lines ls ms
 unfolding same_spans span_line eq_lines
-same_lines j k (Bytes a b) (Bytes c d) ls ms h = rw h
-same_lines j k (Bytes a b) Nothing ls ms h = absurd (false≢true h)
-same_lines j k Nothing t ls ms h = absurd (false≢true h)
+same_lines j k (Some s) (Some t) ls ms h = rw h
+same_lines j k (Some s) None ls ms h = absurd (false≢true h)
+same_lines j k None t ls ms h = absurd (false≢true h)
 
-other-lines : (j k : List ℕ) (s t : Span) (ls ms : List Line) → IsSpan s → IsSpan t → same_spans j k s t ≡ false → eq_lines (span_line j s ++ ls) (span_line k t ++ ms) ≡ false
+other-lines : (j k : List ℕ) (s t : Option Span) (ls ms : List Line) → IsSpan s → IsSpan t → same_spans j k s t ≡ false → eq_lines (span_line j s ++ ls) (span_line k t ++ ms) ≡ false
 unfolding same_spans span_line eq_lines
-other-lines j k (Bytes a b) (Bytes c d) ls ms u v h = rw h
-other-lines j k (Bytes a b) Nothing ls ms u v h = absurd v
-other-lines j k Nothing t ls ms u v h = absurd u
+other-lines j k (Some s) (Some t) ls ms u v h = rw h
+other-lines j k (Some s) None ls ms u v h = absurd v
+other-lines j k None t ls ms u v h = absurd u
 
 -- a line more on either side
-one_more : (j : List ℕ) (s : Span) (ls : List Line) → IsSpan s → (eq_lines (span_line j s ++ ls) [] ≡ false) × (eq_lines [] (span_line j s ++ ls) ≡ false)
+one_more : (j : List ℕ) (s : Option Span) (ls : List Line) → IsSpan s → (eq_lines (span_line j s ++ ls) [] ≡ false) × (eq_lines [] (span_line j s ++ ls) ≡ false)
 unfolding span_line eq_lines
-one_more j (Bytes a b) ls h = (refl, refl)
-one_more j Nothing ls h = absurd h
+one_more j (Some s) ls h = (refl, refl)
+one_more j None ls h = absurd h
 
 new-span : (m : Mark) (x : Extent) → IsNew m → IsSpan (new_span m x)
 unfolding new_span
@@ -124,18 +121,6 @@ old-span Kept x h = tt
 old-span Changed x h = tt
 old-span Deleted x h = tt
 old-span Inserted x h = absurd h
-
--- the texts of two spans stand where the spans do
-abbrev SpanIn : List ℕ → Span → Type 0
-SpanIn j (Bytes a b) = Within j (record { from = a; to = b })
-SpanIn j Nothing = Unit {0}
-
-texts-stand : (j k : List ℕ) (s t : Span) → SpanIn j s → SpanIn k t → Stand j k (texts_of s t)
-unfolding texts_of
-texts-stand j k (Bytes a b) (Bytes c d) u v = (u, v)
-texts-stand j k (Bytes a b) Nothing u v = u
-texts-stand j k Nothing (Bytes c d) u v = v
-texts-stand j k Nothing Nothing u v = tt
 
 -- ---- a record found in a journal
 
@@ -164,7 +149,7 @@ module _ (j : List ℕ) (at : ℕ) (x : Extent) (w : Here j at x) where
   ended-first : Ended j (x.at + 2) x.mid
   ended-first = subst (λ (i : ℕ). Ended j (i + 2) x.mid) (sym w.place) w.first
 
-  one_line : (a e : ℕ) → span_line j (Bytes a (e + 1)) ≡ part a e j ∷ []
+  one_line : (a e : ℕ) → span_line j (Some (record { from = a; to = e + 1 })) ≡ part a e j ∷ []
   unfolding span_line
   one_line a e =
       let z : e + 1 - 1 ≡ e = omega arith in
@@ -193,14 +178,14 @@ module _ (j : List ℕ) (at : ℕ) (x : Extent) (w : Here j at x) where
   unfolding record_in
   new_line = new_by x.mark
 
-  old-stands : (m : Mark) → SpanIn j (old_span m x)
+  old-stands : (m : Mark) → IfSome (old_span m x) (Within j)
   unfolding old_span
   old-stands Kept = line-in j (x.at + 2) x.mid ended-first
   old-stands Changed = line-in j (x.at + 2) x.mid ended-first
   old-stands Deleted = line-in j (x.at + 2) x.mid ended-first
   old-stands Inserted = tt
 
-  new-stands : (m : Mark) → LastLine m j x.mid x.end → SpanIn j (new_span m x)
+  new-stands : (m : Mark) → LastLine m j x.mid x.end → IfSome (new_span m x) (Within j)
   unfolding new_span
   new-stands Kept l = line-in j (x.at + 2) x.mid ended-first
   new-stands Changed l = line-in j (x.mid + 1) x.end l
@@ -222,10 +207,10 @@ pub record Step (j k : List ℕ) (p : Places) (rs ss : List Record) (line : Text
   pub stand : Stand j k line
   pub further : p.first + p.second < next.first + next.second
 
-abbrev pub Told : List ℕ → List ℕ → Places → List Record → List Record → Next → Type 0
-Told j k p rs ss (Ahead line next) = Step j k p rs ss line next
-Told j k p rs ss Differ = eq_lines (new_side rs) (old_side ss) ≡ false
-Told j k p rs ss End = (rs ≡ []) × (ss ≡ [])
+abbrev pub Told : List ℕ → List ℕ → Places → List Record → List Record → Coming → Type 0
+Told j k p rs ss (Ok (Some n)) = Step j k p rs ss n.line n.after
+Told j k p rs ss (Ok None) = (rs ≡ []) × (ss ≡ [])
+Told j k p rs ss (Err e) = (e ≡ Differ) × (eq_lines (new_side rs) (old_side ss) ≡ false)
 
 module _ (j k : List ℕ) (p : Places) (in_first : p.first ≤ length j) (in_second : p.second ≤ length k) where
   -- a record of the first journal
@@ -235,15 +220,15 @@ module _ (j k : List ℕ) (p : Places) (in_first : p.first ≤ length j) (in_sec
     new-side = ap (λ (ls : List Line). ls ++ new_side qs) (sym (new_line j p.first x w))
 
     -- that it deletes
-    told-left : (ss : List Record) → Left k p.second ss → x.mark ≡ Deleted → Told j k p (record_in j x ∷ qs) ss (left_next x p)
+    told-left : (ss : List Record) → Left k p.second ss → x.mark ≡ Deleted → Told j k p (record_in j x ∷ qs) ss (Ok (Some (left_next x p)))
     unfolding left_next
     told-left ss s e = record {
       rest = qs;
       rest₂ = ss;
       at = record { first = l; second = s; in_first = omega (arith, w.inside); in_second = in_second };
       agree = unfold new_side new_of record_in record_of in (rw e);
-      joined = unfold by_middle record_in record_of leaves text_in in (rw (e, one_less));
-      stand = line-in j (x.at + 2) x.mid (ended-first j p.first x w);
+      joined = unfold by_middle record_in record_of leaves leaves_by text_in in (rw (e, one_less));
+      stand = (line-in j (x.at + 2) x.mid (ended-first j p.first x w), tt);
       further = omega (arith, after j p.first x w);
     }
       where
@@ -251,9 +236,9 @@ module _ (j k : List ℕ) (p : Places) (in_first : p.first ≤ length j) (in_sec
         one_less = omega arith
 
     -- with a line on the new side, and the second journal at its end
-    told_more : IsNew x.mark → Told j k p (record_in j x ∷ qs) [] Differ
+    told_more : IsNew x.mark → Told j k p (record_in j x ∷ qs) [] (Err Differ)
     unfolding old_side
-    told_more h = rw new-side (one_more j (new_span x.mark x) (new_side qs) (new-span x.mark x h)).0
+    told_more h = (refl, rw new-side (one_more j (new_span x.mark x) (new_side qs) (new-span x.mark x h)).0)
 
     module _ (y : Extent) (v : Here k p.second y) (ts : List Record) (m : Left k (y.end + 1) ts) where
       old-side : old_side (record_in k y ∷ ts) ≡ span_line k (old_span y.mark y) ++ old_side ts
@@ -277,30 +262,33 @@ module _ (j k : List ℕ) (p : Places) (in_first : p.first ≤ length j) (in_sec
         where
           go : (t : Bool) → same_spans j k (new_span x.mark x) (old_span y.mark y) ≡ t
               → Told j k p (record_in j x ∷ qs) (record_in k y ∷ ts)
-              (cond t (Ahead (texts_of (old_span x.mark x) (new_span y.mark y)) (record { first = x.end + 1; second = y.end + 1 })) Differ)
+              (cond t (Ok (Some (record { line = texts_of (old_span x.mark x) (new_span y.mark y); after = record { first = x.end + 1; second = y.end + 1 } }))) (Err Differ))
           go true e = record {
             rest = qs;
             rest₂ = ts;
             at = record { first = l; second = m; in_first = omega (arith, w.inside); in_second = omega (arith, v.inside) };
             agree = rw (new-side, old-side) (same_lines j k (new_span x.mark x) (old_span y.mark y) (new_side qs) (old_side ts) e);
             joined = by-records h i ∙ ap (λ (z : List Record). z ++ by_middle qs ts) (sym lines_left);
-            stand = texts-stand j k (old_span x.mark x) (new_span y.mark y) (old-stands j p.first x w x.mark) (new-stands k p.second y v y.mark v.last);
+            stand = (old-stands j p.first x w x.mark, new-stands k p.second y v y.mark v.last);
             further = omega (arith, after j p.first x w, after k p.second y v);
           }
-          go false e = rw (new-side, old-side)
-              (other-lines j k (new_span x.mark x) (old_span y.mark y) (new_side qs) (old_side ts) (new-span x.mark x h) (old-span y.mark y i) e)
+          go false e = (
+            refl,
+            rw (new-side, old-side)
+                (other-lines j k (new_span x.mark x) (old_span y.mark y) (new_side qs) (old_side ts) (new-span x.mark x h) (old-span y.mark y i) e),
+          )
 
   -- a record that the second journal inserts, before a middle line or at the end of the first
   module _ (rs : List Record) (f : Left j p.first rs) (y : Extent) (v : Here k p.second y) (ts : List Record) (m : Left k (y.end + 1) ts) where
-    told-came : y.mark ≡ Inserted → ((c : Line) → by_middle rs (inserted c ∷ ts) ≡ inserted c ∷ by_middle rs ts) → Told j k p rs (record_in k y ∷ ts) (came_next y p)
+    told-came : y.mark ≡ Inserted → ((c : Line) → by_middle rs (inserted c ∷ ts) ≡ inserted c ∷ by_middle rs ts) → Told j k p rs (record_in k y ∷ ts) (Ok (Some (came_next y p)))
     unfolding came_next
     told-came e b = record {
       rest = rs;
       rest₂ = ts;
       at = record { first = f; second = m; in_first = in_first; in_second = omega (arith, v.inside) };
       agree = unfold old_side old_of record_in record_of in (rw e);
-      joined = unfold record_in record_of leaves text_in in (rw (e, one_less) (b _));
-      stand = line-in k (y.at + 2) y.mid (ended-first k p.second y v);
+      joined = unfold record_in record_of leaves leaves_by text_in in (rw (e, one_less) (b _));
+      stand = (tt, line-in k (y.at + 2) y.mid (ended-first k p.second y v));
       further = omega (arith, after k p.second y v);
     }
       where
@@ -308,11 +296,12 @@ module _ (j k : List ℕ) (p : Places) (in_first : p.first ≤ length j) (in_sec
         one_less = omega arith
 
   -- any other, where the first has ended
-  told-rest : (y : Extent) (v : Here k p.second y) (ts : List Record) → IsOld y.mark → Told j k p [] (record_in k y ∷ ts) Differ
+  told-rest : (y : Extent) (v : Here k p.second y) (ts : List Record) → IsOld y.mark → Told j k p [] (record_in k y ∷ ts) (Err Differ)
   unfolding new_side old_side
-  told-rest y v ts h =
-      ap (λ (ls : List Line). eq_lines [] (ls ++ old_side ts)) (sym (old-line k p.second y v))
-      ∙ (one_more k (old_span y.mark y) (old_side ts) (old-span y.mark y h)).1
+  told-rest y v ts h = (
+    refl,
+    ap (λ (ls : List Line). eq_lines [] (ls ++ old_side ts)) (sym (old-line k p.second y v)) ∙ (one_more k (old_span y.mark y) (old_side ts) (old-span y.mark y h)).1,
+  )
 
   -- the first journal has ended
   rest-by : (y : Extent) (v : Here k p.second y) (ts : List Record) → Left j p.first [] → Left k (y.end + 1) ts → (n : Mark) → y.mark ≡ n
@@ -323,10 +312,10 @@ module _ (j k : List ℕ) (p : Places) (in_first : p.first ≤ length j) (in_sec
   rest-by y v ts f m Deleted e = told-rest y v ts (subst IsOld (sym e) tt)
   rest-by y v ts f m Inserted e = told-came [] f y v ts m e (λ c. refl)
 
-  told-end : Left j p.first [] → (ss : List Record) → Left k p.second ss → (o : RecordAt) → record_at k p.second ≡ o → Told j k p [] ss (at_end o p)
+  told-end : Left j p.first [] → (ss : List Record) → Left k p.second ss → (o : Option Extent) → record_at k p.second ≡ o → Told j k p [] ss (at_end o p)
   unfolding at_end
-  told-end f ss s NoRecord e = (refl, left-none k p.second ss s e)
-  told-end f ss s (Found y) e =
+  told-end f ss s None e = (refl, left-none k p.second ss s e)
+  told-end f ss s (Some y) e =
       let t = left-next k p.second ss y s e in
       subst (λ (z : List Record). Told j k p [] z (rest_by y.mark y p)) (sym t.2) (rest-by y (here k p.second y e) t.0 f t.1 y.mark refl)
 
@@ -344,11 +333,11 @@ module _ (j k : List ℕ) (p : Places) (in_first : p.first ≤ length j) (in_sec
     middle-by y v ts m Deleted e = told-met x w qs l y v ts m h (subst IsOld (sym e) tt)
     middle-by y v ts m Inserted e = told-came (record_in j x ∷ qs) f y v ts m e (came-before ts)
 
-    told-middle : (ss : List Record) → Left k p.second ss → (o : RecordAt) → record_at k p.second ≡ o → Told j k p (record_in j x ∷ qs) ss (at_middle_line j k x o p)
+    told-middle : (ss : List Record) → Left k p.second ss → (o : Option Extent) → record_at k p.second ≡ o → Told j k p (record_in j x ∷ qs) ss (at_middle_line j k x o p)
     unfolding at_middle_line
-    told-middle ss s NoRecord e =
-        subst (λ (z : List Record). Told j k p (record_in j x ∷ qs) z Differ) (sym (left-none k p.second ss s e)) (told_more x w qs l h)
-    told-middle ss s (Found y) e =
+    told-middle ss s None e =
+        subst (λ (z : List Record). Told j k p (record_in j x ∷ qs) z (Err Differ)) (sym (left-none k p.second ss s e)) (told_more x w qs l h)
+    told-middle ss s (Some y) e =
         let t = left-next k p.second ss y s e in
         subst (λ (z : List Record). Told j k p (record_in j x ∷ qs) z (middle_by j k y.mark x y p)) (sym t.2)
         (middle-by y (here k p.second y e) t.0 t.1 y.mark refl)
@@ -361,13 +350,13 @@ module _ (j k : List ℕ) (p : Places) (in_first : p.first ≤ length j) (in_sec
   next-by x w qs ss l f s Deleted e = told-left x w qs l ss s e
   next-by x w qs ss l f s Inserted e = told-middle x w qs l f (subst IsNew (sym e) tt) ss s (record_at k p.second) refl
 
-  told-first : (rs ss : List Record) → Left j p.first rs → Left k p.second ss → (o : RecordAt) → record_at j p.first ≡ o → Told j k p rs ss (next_from j k o p)
+  told-first : (rs ss : List Record) → Left j p.first rs → Left k p.second ss → (o : Option Extent) → record_at j p.first ≡ o → Told j k p rs ss (next_from j k o p)
   unfolding next_from
-  told-first rs ss f s NoRecord e =
+  told-first rs ss f s None e =
       let z = left-none j p.first rs f e in
       subst (λ (q : List Record). Told j k p q ss (at_end (record_at k p.second) p)) (sym z)
       (told-end (subst (λ (q : List Record). Left j p.first q) z f) ss s (record_at k p.second) refl)
-  told-first rs ss f s (Found x) e =
+  told-first rs ss f s (Some x) e =
       let t = left-next j p.first rs x f e in
       subst (λ (q : List Record). Told j k p q ss (next_by j k x.mark x p)) (sym t.2)
       (next-by x (here j p.first x e) t.0 ss t.1 (subst (λ (q : List Record). Left j p.first q) t.2 f) s x.mark refl)

@@ -1,4 +1,5 @@
 -- The loops: a row read up to an item, alternatives read up to a row. Assumes nothing.
+use Rattle.std.specs.Prelude.{Option, None}
 use mathlib.Core.Path.{◌≡◌, sym, ap, ◌∙◌, subst}
 use mathlib.Core.Bool.{Bool, true, false}
 use Prim.Native.Nat.{ℕ, suc, ◌+◌, ◌≤◌, ◌<◌}
@@ -25,7 +26,7 @@ pub record RowLoop (s : Line) (at : ℕ) (g : Need) : Type 0 where
   pub far : at ≤ g.at
   pub rests : (p : Pattern) (end : ℕ) → Stands s Kind.row at p end → RestOfRow s p end g
 
-pub row-begins : (s : Line) (at : ℕ) → RowLoop s at (record { at = at; byte = 0 })
+pub row-begins : (s : Line) (at : ℕ) → RowLoop s at (record { at = at; byte = None })
 row-begins s at = record { far = omega arith; rests = λ p end st. record { rest = p; stands = st; byte = later_first (need_of p) } }
 
 module _ {s : Line} {at : ℕ} {g : Need} (loop : RowLoop s at g) where
@@ -54,7 +55,7 @@ module _ {s : Line} {at : ℕ} {g : Need} (loop : RowLoop s at g) where
           let first = parts there.stands in
           omega (arith, (item first.first first.mid first.item).at, item-forward first.item)
 
-      pub row_on : There s Kind.row at → (b : ℕ) → b ≡ later_byte g.byte h.byte → RowLoop s at (record { at = h.at; byte = b })
+      pub row_on : There s Kind.row at → (b : Option ℕ) → b ≡ later_byte g.byte h.byte → RowLoop s at (record { at = h.at; byte = b })
       unfolding need_of
       row_on there b is = record { far = omega (arith, loop.far, item-past there); rests = λ p end st. on st }
         where
@@ -65,7 +66,7 @@ module _ {s : Line} {at : ℕ} {g : Need} (loop : RowLoop s at g) where
                 rest = (parts st).second;
                 stands = subst (λ (n : ℕ). Stands s Kind.row n (parts st).second end) (sym need.at) (parts st).row;
                 byte =
-                    ap (λ (n : ℕ). later_byte n (need_of (parts st).second)) (is ∙ ap (later_byte g.byte) need.byte)
+                    ap (λ (n : Option ℕ). later_byte n (need_of (parts st).second)) (is ∙ ap (later_byte g.byte) need.byte)
                     ∙ later-later g.byte (need_of (parts st).first) (need_of (parts st).second)
                     ∙ ap (later_byte g.byte) (sym (ap need_of (parts st).is))
                     ∙ (rest st).byte;
@@ -111,7 +112,7 @@ module _ {s : Line} {at : ℕ} {g : Need} (row : Needs s Kind.row at g) where
       subst (λ (t : Bool). Following t s p end g) (sym (ap (λ (n : ℕ). is_next 124 (cursor_at s n)) need.at ∙ bar)) (record {
         rest = r;
         stands = subst (λ (n : ℕ). Stands s Kind.alternatives n r end) next rest;
-        byte = ap (λ (n : ℕ). same_byte n (need_of r)) need.byte ∙ sym (ap need_of is);
+        byte = ap (λ (n : Option ℕ). same_byte n (need_of r)) need.byte ∙ sym (ap need_of is);
       })
 
   pub alternatives-begin : There s Kind.alternatives at → AlternativesLoop s at g
@@ -136,7 +137,7 @@ module _ {s : Line} {at : ℕ} {g : Need} (loop : AlternativesLoop s at g) where
       pub another-past : There s Kind.alternatives at → g.at < h.at
       another-past there = omega (arith, row-past row (another-there there))
 
-      module _ (b : ℕ) (is : b ≡ same_byte g.byte h.byte) where
+      module _ (b : Option ℕ) (is : b ≡ same_byte g.byte h.byte) where
         joins : {p : Pattern} {end : ℕ} (rest : RestOfAlternatives s p end g) (t : Bool) → Following t s rest.rest end h
             → Following t s p end (record { at = h.at; byte = b })
         unfolding Following
@@ -145,7 +146,7 @@ module _ {s : Line} {at : ℕ} {g : Need} (loop : AlternativesLoop s at g) where
           rest = more.rest;
           stands = more.stands;
           byte =
-              ap (λ (n : ℕ). same_byte n (need_of more.rest)) is
+              ap (λ (n : Option ℕ). same_byte n (need_of more.rest)) is
               ∙ same-same g.byte h.byte (need_of more.rest)
               ∙ ap (same_byte g.byte) more.byte
               ∙ rest.byte;

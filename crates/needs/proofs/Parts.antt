@@ -1,4 +1,5 @@
 -- Parts and items: the laws of `part` and `item`. Assumes nothing.
+use Rattle.std.specs.Prelude.{None}
 use mathlib.Core.Path.{◌≡◌, sym, ap}
 use mathlib.Core.Bool.{true, false}
 use Prim.Native.Nat.{ℕ, ◌+◌, ◌<◌}
@@ -51,7 +52,7 @@ module _ {s : Line} {at : ℕ} (sign : is_next 35 (cursor_at s at) ≡ true) whe
       let body = item-many there.stands sign in
       record { pattern = body.0; end = there.end; stands = after body.2 }
 
-  pub many-needs : {r : Need} → Needs s Kind.part (at + 1) r → Needs s Kind.item at (record { at = r.at; byte = 0 })
+  pub many-needs : {r : Need} → Needs s Kind.part (at + 1) r → Needs s Kind.item at (record { at = r.at; byte = None })
   unfolding need_of
   many-needs part p end stands =
       let body = item-many stands sign in

@@ -1,40 +1,38 @@
 -- The scan of a line for a byte: the laws of `lacks_byte`. Assumes nothing.
+use Rattle.std.specs.Prelude.{Some, None}
 use mathlib.Core.Path.{◌≡◌, refl, sym, ap, ◌∙◌}
 use mathlib.Core.Bool.{Bool, true, false, not, ◌&&◌, and-true}
 use mathlib.Core.List.{List, [], ◌∷◌}
-use Prim.Native.Nat.{ℕ, zero, suc, ◌+◌, ◌≤◌, ◌<◌}
-use lib.ListN.{length, get_or}
+use Prim.Native.Nat.{ℕ, ◌+◌, ◌≤◌, ◌<◌}
+use native.Mathlib.Numerals.{add-one}
+use lib.ListN.{length, take, get_or}
+use lib.Seq.{take-suc, take_all}
 use lib.Dec.{eqb}
-use Rattle.text.specs.Lines.{part}
-use Rattle.text.proofs.Parts.{part_none, part-more}
 use Rattle.needs.specs.Needing.{is_without, lacks}
 use Rattle.needs.specs.Lacking.{without-append}
 
-known-lacks : (b : ℕ) (s : List ℕ) → (b ≡ 0 → ⊥) → is_without b s ≡ lacks b s
+-- no byte is known
+pub unknown-lacks : (s : List ℕ) → false ≡ lacks None s
 unfolding lacks
-known-lacks zero s h = absurd (h refl)
-known-lacks (suc b) s h = refl
+unknown-lacks s = refl
 
-module _ (need : ℕ) (line : List ℕ) (start : ℕ) where
-  pub unknown-lacks : (end : ℕ) → need ≡ 0 → false ≡ lacks need (part start end line)
-  unfolding lacks
-  unknown-lacks end e = rw e
-
-  -- the bytes before place i are looked at
+module _ (need : ℕ) (s : List ℕ) where
+  -- the first k bytes are looked at
   abbrev pub Scanned : ℕ → Bool → Type 0
-  Scanned i without = without ≡ is_without need (part start i line)
+  Scanned k without = without ≡ is_without need (take k s)
 
-  pub scan_begins : Scanned start true
+  pub scan_begins : Scanned 0 true
   unfolding is_without
-  scan_begins = sym (ap (is_without need) (part_none line start))
+  scan_begins = refl
 
-  pub scan-goes : (i : ℕ) (without : Bool) → start ≤ i → i < length line → Scanned i without → Scanned (i + 1) (without && not (eqb (get_or line i 0) need))
+  pub scan-goes : (k : ℕ) (without : Bool) → k < length s → Scanned k without → Scanned (k + 1) (without && not (eqb (get_or s k 0) need))
   unfolding is_without
-  scan-goes i without low high e =
-      ap (λ (t : Bool). t && not (eqb (get_or line i 0) need)) e
-      ∙ ap (λ (t : Bool). is_without need (part start i line) && t) (sym (and-true (not (eqb (get_or line i 0) need))))
-      ∙ sym (without-append need (part start i line) (get_or line i 0 ∷ []))
-      ∙ sym (ap (is_without need) (part-more line start i low high))
+  scan-goes k without more e =
+      ap (λ (t : Bool). t && not (eqb (get_or s k 0) need)) e
+      ∙ ap (λ (t : Bool). is_without need (take k s) && t) (sym (and-true (not (eqb (get_or s k 0) need))))
+      ∙ sym (without-append need (take k s) (get_or s k 0 ∷ []))
+      ∙ sym (ap (is_without need) (ap (λ (n : ℕ). take n s) (add-one k) ∙ take-suc s k 0 more))
 
-  pub scan-ends : (end i : ℕ) (without : Bool) → (need ≡ 0 → ⊥) → i ≡ end → Scanned i without → without ≡ lacks need (part start end line)
-  scan-ends end i without known at e = e ∙ ap (λ (n : ℕ). is_without need (part start n line)) at ∙ known-lacks need (part start end line) known
+  pub scan-ends : (k : ℕ) (without : Bool) → length s ≤ k → Scanned k without → without ≡ lacks (Some need) s
+  unfolding lacks
+  scan-ends k without end e = e ∙ ap (is_without need) (take_all k s end)

@@ -1,4 +1,5 @@
 -- A character, a range or a mismatch of one: the laws of `only_byte` and `single`. Assumes nothing.
+use Rattle.std.specs.Prelude.{Option, Some, None}
 use mathlib.Core.Path.{◌≡◌, refl, sym, ap, ◌∙◌, subst}
 use mathlib.Core.Bool.{Bool, true, false, ◌&&◌, and-eq-true_iff}
 use Prim.Native.Nat.{ℕ, ◌≤◌, ◌<◌}
@@ -15,8 +16,8 @@ use Rattle.wordset.proofs.Naming.{one_byte_lem}
 use Rattle.marks.specs.Written.{after_mismatch, Names, Kind, Stands, Covers}
 use Rattle.marks.specs.declared.Bytes.{Bytes}
 use Rattle.marks.proofs.Singles.{single-inside, single-told}
-use Rattle.needs.specs.Needing.{only_byte, same_byte, need_of, There, Needs}
-use Rattle.needs.proofs.Joining.{same-is, same_none}
+use Rattle.needs.specs.Needing.{equal_byte, only_byte, need_of, There, Needs}
+use Rattle.needs.proofs.Joining.{equal-is, equal_none}
 
 -- ---- the byte that is named
 
@@ -40,21 +41,21 @@ one-range a b l h same e =
     let last : b ≤ h = (within l h b (sym (same b) ∙ is_within a b b (omega (arith, low, high)) (omega arith))).1 in
     (omega (arith, low, first), omega (arith, e, high, last))
 
-same-range : (a b l h : ℕ) → SameRange a b l h → same_byte l h ≡ same_byte a b
+same-range : (a b l h : ℕ) → SameRange a b l h → equal_byte l h ≡ equal_byte a b
 same-range a b l h same = go (eqb l h) refl (eqb a b) refl
   where
-    go : (t : Bool) → eqb l h ≡ t → (u : Bool) → eqb a b ≡ u → same_byte l h ≡ same_byte a b
+    go : (t : Bool) → eqb l h ≡ t → (u : Bool) → eqb a b ≡ u → equal_byte l h ≡ equal_byte a b
     go true e u f =
         let is = eqb-true l h e in
         let one = one-range a b l h same is in
-        sym (same-is l h is) ∙ sym one.0 ∙ same-is a b (one.0 ∙ sym one.1)
+        sym (equal-is l h is) ∙ ap Some (sym one.0) ∙ equal-is a b (one.0 ∙ sym one.1)
     go false e true f = absurd (eqb-false l h e (let one = one-range l h a b (λ v. sym (same v)) (eqb-true a b f) in one.0 ∙ sym one.1))
-    go false e false f = sym (same_none l h (eqb-false l h e)) ∙ same_none a b (eqb-false a b f)
+    go false e false f = sym (equal_none l h (eqb-false l h e)) ∙ equal_none a b (eqb-false a b f)
 
-pub only-is : (c : Bytes) (x : Named) (end : ℕ) → Covers x end c → same_byte c.low c.high ≡ only_byte x
-unfolding only_byte is_named same_byte
-only-is c (byte a) end covers = same-range a a c.low c.high (λ v. sym (one_byte_lem a v) ∙ covers.same v) ∙ sym (same-is a a refl)
-only-is c (quoted_byte a) end covers = same-range a a c.low c.high (λ v. sym (one_byte_lem a v) ∙ covers.same v) ∙ sym (same-is a a refl)
+pub only-is : (c : Bytes) (x : Named) (end : ℕ) → Covers x end c → equal_byte c.low c.high ≡ only_byte x
+unfolding only_byte is_named
+only-is c (byte a) end covers = same-range a a c.low c.high (λ v. sym (one_byte_lem a v) ∙ covers.same v) ∙ sym (equal-is a a refl)
+only-is c (quoted_byte a) end covers = same-range a a c.low c.high (λ v. sym (one_byte_lem a v) ∙ covers.same v) ∙ sym (equal-is a a refl)
 only-is c (range a b) end covers = same-range a b c.low c.high covers.same
 
 -- ---- the place
@@ -71,17 +72,17 @@ module _ {s : Line} {at : ℕ} (no-bracket : is_next 40 (cursor_at s at) ≡ fal
     names-there there = ((single-told there.stands no-bracket).named, there.end, names there.stands)
 
     module _ (c : Bytes) (covers : (x : Named) (end : ℕ) → Names s start x end → Covers x end c) where
-      single-needs : (b : ℕ) → ((x : Named) (end : ℕ) → Covers x end c → b ≡ need_of (one_byte (eqb 126 (get_or s at 0)) x))
+      single-needs : (b : Option ℕ) → ((x : Named) (end : ℕ) → Covers x end c → b ≡ need_of (one_byte (eqb 126 (get_or s at 0)) x))
           → Needs s Kind.part at (record { at = c.end; byte = b })
       single-needs b is p end stands =
           let cover = covers (single-told stands no-bracket).named end (names stands) in
           record { at = cover.ends; byte = is (single-told stands no-bracket).named end cover ∙ ap need_of (sym (single-told stands no-bracket).is) }
 
-      pub mismatch-needs : eqb 126 (get_or s at 0) ≡ true → Needs s Kind.part at (record { at = c.end; byte = 0 })
+      pub mismatch-needs : eqb 126 (get_or s at 0) ≡ true → Needs s Kind.part at (record { at = c.end; byte = None })
       unfolding need_of
-      mismatch-needs m = single-needs 0 (λ x end cover. rw m)
+      mismatch-needs m = single-needs None (λ x end cover. rw m)
 
-      pub plain-needs : eqb 126 (get_or s at 0) ≡ false → (b : ℕ) → ((x : Named) (end : ℕ) → Covers x end c → b ≡ only_byte x)
+      pub plain-needs : eqb 126 (get_or s at 0) ≡ false → (b : Option ℕ) → ((x : Named) (end : ℕ) → Covers x end c → b ≡ only_byte x)
           → Needs s Kind.part at (record { at = c.end; byte = b })
       unfolding need_of
       plain-needs m b is = single-needs b (λ x end cover. rw m (is x end cover))

@@ -6,45 +6,42 @@ ghost use Rattle.definitions.specs.WordSet.{Named};
 ghost use Rattle.definitions.specs.Reader.{is_next};
 ghost use Rattle.definitions.specs.Patterns.{Pattern};
 ghost use Rattle.text.specs.Cursors.{cursor_at};
-ghost use Rattle.text.specs.Lines.{part};
 ghost use Rattle.marks.specs.Sweeping.{Reads};
 ghost use Rattle.marks.specs.Written.{Covers, Kind};
-ghost use Rattle.needs.specs.Needing.{only_byte, later_byte, same_byte, need_of, lacks, There, Needs};
+ghost use Rattle.needs.specs.Needing.{equal_byte, only_byte, same_byte, need_of, lacks, There, Needs};
 
 use marks::{Bytes, after_mismatch, named};
 use patterns::bytes::{ends_row, is_next};
 
-// The place after what was read of the pattern, and a byte that every match of that has; 0 where none is known.
+// The place after what was read of the pattern, and a byte that every match of that has, where one is known.
 #[derive(Clone, Copy)]
 struct Need {
     at: usize,
-    byte: u8,
+    byte: Option<u8>,
 }
 
-// The later byte is taken where it is known.
-fn later_byte(a: u8, b: u8) -> u8
-    ensures { result ≡ later_byte a b }
-{
-    if b == 0 {
-        return a;
-    }
-    b
-}
-
-fn same_byte(a: u8, b: u8) -> u8
-    ensures { result ≡ same_byte a b }
+// The byte that both are.
+fn equal_byte(a: u8, b: u8) -> Option<u8>
+    ensures { result ≡ equal_byte a b }
 {
     if a == b {
-        return a;
+        return Some(a);
     }
-    0
+    None
+}
+
+// The byte of two that are known, where they are one.
+fn same_byte(a: Option<u8>, b: Option<u8>) -> Option<u8>
+    ensures { result ≡ same_byte a b }
+{
+    equal_byte(a?, b?)
 }
 
 // The byte that a character or range names, if it is one only.
-fn only_byte(c: Bytes) -> u8
+fn only_byte(c: Bytes) -> Option<u8>
     ensures { (x : Named) (end : ℕ) → Covers x end c → result ≡ only_byte x }
 {
-    same_byte(c.low, c.high)
+    equal_byte(c.low, c.high)
 }
 
 // A character, a range or a mismatch of one. Many bytes fit a mismatch.
@@ -52,10 +49,13 @@ fn single(s: &[u8], at: usize) -> Need
     requires { There s.now Kind.part at × (is_next 40 (cursor_at s.now at) ≡ false) }
     ensures { Needs s.now Kind.part at result }
 {
-    let mismatch = 126 == s[at];
+    let mismatch = b'~' == s[at];
     let c = named(s, after_mismatch(mismatch, at));
     if mismatch {
-        return Need { at: c.end, byte: 0 };
+        return Need {
+            at: c.end,
+            byte: None,
+        };
     }
     Need {
         at: c.end,
@@ -69,7 +69,7 @@ fn part(s: &[u8], at: usize) -> Need
     requires { There s.now Kind.part at }
     ensures { Needs s.now Kind.part at result }
 {
-    if !is_next(s, at, 40) {
+    if !is_next(s, at, b'(') {
         return single(s, at);
     }
     let inner = alternatives(s, at + 1);
@@ -85,11 +85,11 @@ fn item(s: &[u8], at: usize) -> Need
     requires { There s.now Kind.item at }
     ensures { Needs s.now Kind.item at result }
 {
-    if !is_next(s, at, 35) {
+    if !is_next(s, at, b'#') {
         return part(s, at);
     }
     let mut body = part(s, at + 1);
-    body.byte = 0;
+    body.byte = None;
     body
 }
 
@@ -99,12 +99,13 @@ fn row(s: &[u8], at: usize) -> Need
     requires { There s.now Kind.row at }
     ensures { Needs s.now Kind.row at result }
 {
-    let mut g = Need { at: at, byte: 0 };
+    let mut g = Need { at, byte: None };
     while !ends_row(s, g.at) {
         let next = item(s, g.at);
         g = Need {
             at: next.at,
-            byte: later_byte(g.byte, next.byte),
+            // the later byte is taken where it is known
+            byte: next.byte.or(g.byte),
         };
     }
     g
@@ -117,7 +118,7 @@ fn alternatives(s: &[u8], at: usize) -> Need
     ensures { Needs s.now Kind.alternatives at result }
 {
     let mut g = row(s, at);
-    while is_next(s, g.at, 124) {
+    while is_next(s, g.at, b'|') {
         let next = row(s, g.at + 1);
         g = Need {
             at: next.at,
@@ -127,8 +128,8 @@ fn alternatives(s: &[u8], at: usize) -> Need
     g
 }
 
-// A byte that every match of the pattern has; 0 where none is known.
-pub fn need_of(pattern: &[u8]) -> u8
+// A byte that every match of the pattern has, where one is known.
+pub fn need_of(pattern: &[u8]) -> Option<u8>
     requires { (p : Pattern) × Reads pattern.now p }
     ensures { (p : Pattern) → Reads pattern.now p → result ≡ need_of p }
 {
@@ -136,19 +137,16 @@ pub fn need_of(pattern: &[u8]) -> u8
     whole.byte
 }
 
-// Is the byte known, and not among those of the line from start to end. No way leads out of the loop, so that many bytes are looked at at once.
-pub fn lacks_byte(need: u8, line: &[u8], start: usize, end: usize) -> bool
-    requires { (start ≤ end) × (end ≤ length line.now) }
-    ensures { result ≡ lacks need (part start end line.now) }
+// Is the byte known, and not among those of a part of a line. No way leads out of the loop, so that many bytes are looked at at once.
+pub fn lacks_byte(need: Option<u8>, bytes: &[u8]) -> bool
+    ensures { result ≡ lacks need bytes.now }
 {
-    if need == 0 {
+    let Some(need) = need else {
         return false;
-    }
+    };
     let mut without = true;
-    let mut i = start;
-    while i < end {
-        without = without & (line[i] != need);
-        i += 1;
+    for b in bytes {
+        without = without & (*b != need);
     }
     without
 }

@@ -1,6 +1,7 @@
 -- Laws of the whole string, one for each way out. Assumes nothing.
+use Rattle.std.specs.Prelude.{Ok, Err}
 use mathlib.Core.Path.{◌≡◌, ap, ◌∙◌}
-use mathlib.Core.Bool.{Bool, true, false}
+use mathlib.Core.Bool.{true, false}
 use mathlib.Core.List.{List, []}
 use Prim.Native.Nat.{ℕ, ◌+◌, ◌*◌, ◌≤◌, ◌<◌}
 use native.Mathlib.Omega.{arith}
@@ -8,9 +9,9 @@ use lib.ListN.{length, drop_of_length-le}
 use Rattle.definitions.specs.Reader.{cursor, Got, got, refused, and_then, place_at}
 use Rattle.definitions.specs.Patterns.{Pattern, is_blank, cannot_stand, close_pattern, read_alternatives, read_pattern}
 use Rattle.text.specs.Cursors.{cursor_at}
-use Rattle.patterns.specs.declared.Found.{Found}
-use Rattle.patterns.specs.declared.Form.{Form}
-use Rattle.patterns.specs.Reading.{ReadTo, Reads, AlternativesRead, Forms}
+use Rattle.patterns.specs.declared.Past.{Past}
+use Rattle.patterns.specs.declared.Fault.{Fault}
+use Rattle.patterns.specs.Reading.{fault-at, ReadTo, AlternativesRead, Forms}
 use Rattle.patterns.proofs.Answering.{is-past, is-fault}
 use Rattle.patterns.proofs.Places.{at-end, not_end}
 
@@ -31,34 +32,31 @@ module _ (s : List ℕ) (next : ℕ) (p : Pattern) where
 
 -- ---- the ways out
 
-module _ (s : List ℕ) {r : Found} (all : AlternativesRead s 0 8 r) where
+module _ (s : List ℕ) where
   abbrev whole : Got Pattern
   whole = read_alternatives (4 * length s + 4) 8 (cursor_at s 0)
 
-  found : Reads s 0 whole r
-  found = all (4 * length s + 4) (omega arith)
-
-  pub whole-fault : {k : ℕ} → r ≡ Found.Fault k → Forms s (Form.Fault k)
+  pub whole-fault : {f : Fault} → AlternativesRead s 0 8 (Err f) → Forms s (Err f)
   unfolding Forms read_pattern and_then
-  whole-fault e = ap (λ (x : Got Pattern). and_then x close_pattern) (is-fault found e)
+  whole-fault all = ap (λ (x : Got Pattern). and_then x close_pattern) (is-fault (all (4 * length s + 4) (omega arith)))
 
-  module _ {next : ℕ} {blank : Bool} (e : r ≡ Found.Past next blank) where
-    read : ReadTo s 0 whole next blank
-    read = is-past found e
+  module _ {p : Past} (all : AlternativesRead s 0 8 (Ok p)) where
+    read : ReadTo s 0 whole p.next p.blank
+    read = is-past (all (4 * length s + 4) (omega arith))
 
-    closes : read_pattern 0 s ≡ close_pattern read.pattern (cursor_at s next)
+    closes : read_pattern 0 s ≡ close_pattern read.pattern (cursor_at s p.next)
     unfolding read_pattern and_then
     closes = ap (λ (x : Got Pattern). and_then x close_pattern) read.is
 
-    pub something-left : next < length s → Forms s (Form.Fault next)
+    pub something-left : p.next < length s → Forms s (Err (fault-at p.next))
     unfolding Forms
-    something-left h = closes ∙ not-at-end s next read.pattern h
+    something-left h = closes ∙ not-at-end s p.next read.pattern h
 
-    module _ (h : length s ≤ next) where
-      pub all-blank : blank ≡ true → Forms s (Form.Fault next)
+    module _ (h : length s ≤ p.next) where
+      pub all-blank : p.blank ≡ true → Forms s (Err (fault-at p.next))
       unfolding Forms
-      all-blank b = closes ∙ blank-at-end s next read.pattern h (read.same ∙ b)
+      all-blank b = closes ∙ blank-at-end s p.next read.pattern h (read.same ∙ b)
 
-      pub is-pattern : blank ≡ false → Forms s Form.Pattern
+      pub is-pattern : p.blank ≡ false → Forms s (Ok tt)
       unfolding Forms
-      is-pattern b = (read.pattern, closes ∙ good-at-end s next read.pattern (omega (arith, read.within)) (read.same ∙ b))
+      is-pattern b = (read.pattern, closes ∙ good-at-end s p.next read.pattern (omega (arith, read.within)) (read.same ∙ b))

@@ -1,10 +1,20 @@
 -- What the reader of patterns answers (document 02, wish 9). The cursor is over the string's own bytes, from place 0 on. Assumes nothing.
-use Rattle.std.specs.Prelude.{◌≡◌, Bool, List, [], ℕ, suc, ◌+◌, ◌-◌, ◌*◌, ◌≤◌, length}
+use Rattle.std.specs.Prelude.{◌≡◌, Bool, List, [], ℕ, suc, ◌+◌, ◌-◌, ◌*◌, ◌≤◌, length, Result, Ok, Err, ⊤}
 use Rattle.definitions.specs.Reader.{cursor, Got, got, refused}
 use Rattle.definitions.specs.Patterns.{Pattern, is_blank, close_bracket, read_alternatives, read_row, read_item, read_part, read_pattern}
 use Rattle.text.specs.Cursors.{cursor_at}
-use Rattle.patterns.specs.declared.Found.{Found}
-use Rattle.patterns.specs.declared.Form.{Form}
+use Rattle.patterns.specs.declared.Past.{Past}
+use Rattle.patterns.specs.declared.Fault.{Fault}
+
+-- what is found at a place: a part, up to the place after it, and is it blank; or the byte that cannot stand
+abbrev pub Found : Type 0
+Found = Result Past Fault
+
+abbrev pub past-to : ℕ → Bool → Past
+past-to next blank = record { next = next; blank = blank }
+
+abbrev pub fault-at : ℕ → Fault
+fault-at k = record { at = k }
 
 -- x, the definition's answer, is a part up to `next`, which is not before `least`; is it blank
 pub record ReadTo (s : List ℕ) (least : ℕ) (x : Got Pattern) (next : ℕ) (blank : Bool) : Type 0 where
@@ -16,8 +26,8 @@ pub record ReadTo (s : List ℕ) (least : ℕ) (x : Got Pattern) (next : ℕ) (b
 
 -- x is what is found
 pub data Reads (s : List ℕ) (least : ℕ) (x : Got Pattern) : Found → Type 0 where
-  past : (next : ℕ) (blank : Bool) → ReadTo s least x next blank → Reads s least x (Found.Past next blank)
-  fault : (k : ℕ) → x ≡ refused 34 k → Reads s least x (Found.Fault k)
+  past : (next : ℕ) (blank : Bool) → ReadTo s least x next blank → Reads s least x (Ok (past-to next blank))
+  fault : (k : ℕ) → x ≡ refused 34 k → Reads s least x (Err (fault-at k))
 
 -- the same of an answer that goes by whether `~` stood before
 abbrev pub ReadsEither : List ℕ → ℕ → (Bool → Got Pattern) → Found → Type 0
@@ -46,6 +56,6 @@ abbrev pub ClosedBy : Bool → List ℕ → ℕ → Found → Type 0
 ClosedBy blank s at r = (p : Pattern) → is_blank p ≡ blank → Reads s (suc at) (close_bracket p (cursor_at s at)) r
 
 -- the whole string is a pattern; or the first byte that cannot stand, its end included
-unfoldable pub Forms : List ℕ → Form → Type 0
-Forms s Form.Pattern = (p : Pattern) × (read_pattern 0 s ≡ got p (cursor (length s) []))
-Forms s (Form.Fault k) = read_pattern 0 s ≡ refused 34 k
+unfoldable pub Forms : List ℕ → Result ⊤ Fault → Type 0
+Forms s (Ok _) = (p : Pattern) × (read_pattern 0 s ≡ got p (cursor (length s) []))
+Forms s (Err f) = read_pattern 0 s ≡ refused 34 f.at

@@ -20,5 +20,5 @@ pub fn ends_row(s: &[u8], at: usize) -> bool
         return true;
     }
     let c = s[at];
-    (124 == c) | (41 == c)
+    (b'|' == c) | (b')' == c)
 }

@@ -13,8 +13,9 @@ use Rattle.definitions.specs.Reading.{Ran, gave, stopped, once_read, seen, read_
 use Rattle.theorems.specs.Passing.{line-comes-to}
 use Rattle.editor.specs.Shows.{Holds, lent}
 use Rattle.editor.specs.declared.State.{State}
-use Rattle.editor.specs.declared.Moved.{Moved}
-use Rattle.editor.specs.declared.Moved.TheVariants.{On, Stop}
+use Rattle.std.specs.Prelude.{Ok}
+use Rattle.editor.specs.Stops.{Moved, stopping}
+use Rattle.editor.specs.declared.Stop.{Stop}
 use Rattle.editor.proofs.Records.{some_bytes, sources-cons, sources-nil}
 use Rattle.editor.proofs.Held.{held_more}
 use Rattle.globals.specs.Standing.{Standing}
@@ -52,7 +53,7 @@ pub record LineOn (k : List ℕ) (u : State) (e : Ed) (ls : List Line) (x : Ran 
   pub holds : HoldsUnread k u text ls
   pub past : sources (passed_of text) ≡ suc (sources (passed_of e))
 
-pub line_on : {k : List ℕ} {u : State} (e : Ed) (ls : List Line) (x : Ran (Unit {0}) × Tape) → OneRead e ls x.0 x.1 → Arrived k (On u) x → LineOn k u e ls x
+pub line_on : {k : List ℕ} {u : State} (e : Ed) (ls : List Line) (x : Ran (Unit {0}) × Tape) → OneRead e ls x.0 x.1 → Arrived k (Ok u) x → LineOn k u e ls x
 unfolding ArrivedAt rest_lines
 line_on e ls (gave v e', t) (one_on r q) h = record { text = seen r e; is = refl; holds = h; past = seen-sources r e q }
 line_on e ls (stopped m e', t) (one_stops n r q) h = absurd h
@@ -80,7 +81,7 @@ lines_more : (g : Given) (c : Carried) (n : ℕ) (e x : Ed) (t u : Tape) → rea
 unfolding read_lines bind once_read
 lines_more g c n e x t u q = rw q
 
-lines-stop : (g : Given) (c : Carried) (n : ℕ) (e : Ed) (t : Tape) (y : Ran (Unit {0}) × Tape) → read_line g c e t ≡ y → (k : List ℕ) (m : ℕ) (u : State) → Arrived k (Stop m u) y
+lines-stop : (g : Given) (c : Carried) (n : ℕ) (e : Ed) (t : Tape) (y : Ran (Unit {0}) × Tape) → read_line g c e t ≡ y → (k : List ℕ) (m : Stop) (u : State) → Arrived k (stopping m u) y
     → read_lines g c (suc n) e t ≡ y
 unfolding read_lines bind once_read ArrivedAt
 lines-stop g c n e t (gave v x, u') q k m u h = absurd h
@@ -91,7 +92,7 @@ module _ {g : Given} {c : Carried} {last : ℕ} {j : List ℕ} {s : State} {x : 
   going-in more = past-in here.text here.rest here.holds (omega (arith, here.last_in, more))
 
   -- the lines are read
-  pub going-ends : last ≤ s.past → Arrived j (On s) x
+  pub going-ends : last ≤ s.past → Arrived j (Ok s) x
   unfolding ArrivedAt rest_lines read_lines
   going-ends end =
       let none : last - s.past ≡ 0 = omega (arith, end) in
@@ -106,7 +107,7 @@ module _ {last : ℕ} {j : List ℕ} {s : State} {x : Ran (Unit {0}) × Tape} (g
   whole : read_lines g c (suc (last - suc s.past)) e (unread (l ∷ ls)) ≡ x
   whole = rw (← one) way
 
-  next-on : (k : List ℕ) (u : State) → last ≤ s.lines → Arrived k (On u) (read_line g c e (unread (l ∷ ls))) → Going g c last k u x × (u.past ≡ suc s.past)
+  next-on : (k : List ℕ) (u : State) → last ≤ s.lines → Arrived k (Ok u) (read_line g c e (unread (l ∷ ls))) → Going g c last k u x × (u.past ≡ suc s.past)
   next-on k u low came = by (line_on e ls (read_line g c e (unread (l ∷ ls))) (one-read g c e l ls) came)
     where
       at_next : (past : u.past ≡ suc s.past) → LineOn k u e ls (read_line g c e (unread (l ∷ ls))) → Going g c last k u x
@@ -123,7 +124,7 @@ module _ {last : ℕ} {j : List ℕ} {s : State} {x : Ran (Unit {0}) × Tape} (g
           let past : u.past ≡ suc s.past = o.holds.past ∙ o.past ∙ ap (λ (i : ℕ). suc i) (sym h.past) in
           (at_next past o, past)
 
-  next-stops : (k : List ℕ) (m : ℕ) (u : State) → Arrived k (Stop m u) (read_line g c e (unread (l ∷ ls))) → Arrived k (Stop m u) x
+  next-stops : (k : List ℕ) (m : Stop) (u : State) → Arrived k (stopping m u) (read_line g c e (unread (l ∷ ls))) → Arrived k (stopping m u) x
   next-stops k m u came = rw (sym (lines-stop g c (last - suc s.past) e (unread (l ∷ ls)) (read_line g c e (unread (l ∷ ls))) refl k m u came) ∙ whole) at came
 
 given-same : (g g' : Given) (c : Carried) (e : Ed) (t : Tape) (k : List ℕ) (r : Moved) → g' ≡ g → Arrived k r (read_line g c e t) → Arrived k r (read_line g' c e t)
@@ -131,23 +132,23 @@ given-same g g' c e t k r q h = rw q h
 
 module _ {g : Given} {c : Carried} {last : ℕ} {j : List ℕ} {s : State} {x : Ran (Unit {0}) × Tape} (script w k : List ℕ) (stands : Standing script w c) (is : g ≡ lent j) (more : s.past < last)
     (here : Going g c last j s x) where
-  pub going_on : (r : Moved) (u : State) → r ≡ On u → ReadsLine script w j s k r → Going g c last k u x × (u.past ≡ suc s.past)
+  pub going_on : (r : Moved) (u : State) → r ≡ Ok u → ReadsLine script w j s k r → Going g c last k u x × (u.past ≡ suc s.past)
   going_on r u q reads = by here.rest here.holds here.way
     where
       by : (ls : List Line) → HoldsUnread j s here.text ls → read_lines g c (last - s.past) here.text (unread ls) ≡ x → Going g c last k u x × (u.past ≡ suc s.past)
       by [] h way = absurd (omega (arith, here.last_in, more, h.past, h.lines, sources-nil))
       by (l ∷ ls) h way =
           next-on g c here.text l ls h way more k u here.last_in
-          (given-same (lent j) g c here.text (unread (l ∷ ls)) k (On u) is (rw q at (reads here.text c l ls stands h)))
+          (given-same (lent j) g c here.text (unread (l ∷ ls)) k (Ok u) is (rw q at (reads here.text c l ls stands h)))
 
-  pub going-stops : (r : Moved) (m : ℕ) (u : State) → r ≡ Stop m u → ReadsLine script w j s k r → Arrived k r x
+  pub going-stops : (r : Moved) (m : Stop) (u : State) → r ≡ stopping m u → ReadsLine script w j s k r → Arrived k r x
   going-stops r m u q reads = rw q (by here.rest here.holds here.way)
     where
-      by : (ls : List Line) → HoldsUnread j s here.text ls → read_lines g c (last - s.past) here.text (unread ls) ≡ x → Arrived k (Stop m u) x
+      by : (ls : List Line) → HoldsUnread j s here.text ls → read_lines g c (last - s.past) here.text (unread ls) ≡ x → Arrived k (stopping m u) x
       by [] h way = absurd (omega (arith, here.last_in, more, h.past, h.lines, sources-nil))
       by (l ∷ ls) h way =
           next-stops g c here.text l ls h way more k m u
-          (given-same (lent j) g c here.text (unread (l ∷ ls)) k (Stop m u) is (rw q at (reads here.text c l ls stands h)))
+          (given-same (lent j) g c here.text (unread (l ∷ ls)) k (stopping m u) is (rw q at (reads here.text c l ls stands h)))
 
 -- some text of the records that the buffer holds
 pub some-text : {j : List ℕ} {st : State} (b : List Record) (ls : List Line) → Holds j st b (map kept ls) → HoldsUnread j st (ed b [] 0) ls

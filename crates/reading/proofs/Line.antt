@@ -1,4 +1,5 @@
 -- One line read through the globals, the gap standing before it: it passes the gap. Assumes nothing.
+use Rattle.std.specs.Prelude.{Ok}
 use mathlib.Core.Path.{◌≡◌, refl, sym, ap, ◌∙◌}
 use mathlib.Core.Bool.{true, false}
 use Prim.Native.Nat.{ℕ, ◌+◌, ◌-◌, ◌≤◌, ◌<◌}
@@ -18,15 +19,14 @@ use Rattle.theorems.specs.GoodGlobals.{left-line}
 use Rattle.editor.specs.Records.{enc, enc_all, enc_before}
 use Rattle.editor.specs.Shows.{Holds, PassesOver, lent}
 use Rattle.editor.specs.declared.State.{State}
-use Rattle.editor.specs.declared.Moved.{Moved}
-use Rattle.editor.specs.declared.Moved.TheVariants.{On, Stop}
+use Rattle.std.specs.Prelude.{Ok}
+use Rattle.editor.specs.Stops.{Moved, stopping}
+use Rattle.editor.specs.declared.Stop.TheVariants.{LineLong, JournalFull}
 use Rattle.editor.proofs.Held.{held-length, held_bytes}
 use Rattle.editor.proofs.Parts.{lent_same}
 use Rattle.editor.proofs.Inserting.{held-journal, length-reverse}
 use Rattle.globals.specs.Standing.{Standing}
-use Rattle.globals.specs.Passing.{LeftAs}
-use Rattle.globals.specs.declared.Passed.{Passed}
-use Rattle.globals.specs.declared.Passed.TheVariants.{Text, Long}
+use Rattle.globals.specs.Passing.{Passed, too-long, LeftAs}
 use Rattle.reading.specs.Lines.{passed_of, HoldsUnread, AtUnread, ArrivedAt, Arrived, KeptAt, PassesText, JustPassed, SomePassed, TakesText}
 use Rattle.reading.specs.Carrying.{SomeStand}
 use Rattle.reading.proofs.Stands.{stand-good}
@@ -84,12 +84,12 @@ module _ {j : List ℕ} {st : State} (e : Ed) (l new : Line) (ls : List Line) (h
   passed-holds = rw (passed-seen (kept l) e) h
 
   -- its text is as it was
-  pub take_same : (g : Given) → eq_line l new ≡ true → Arrived j (On st) (read_as g l e (got new) (unread ls))
+  pub take_same : (g : Given) → eq_line l new ≡ true → Arrived j (Ok st) (read_as g l e (got new) (unread ls))
   unfolding read_as ArrivedAt rest_lines
   take_same g q = rw q passed-holds
 
   -- the changed record does not fit
-  pub take-full : eq_line l new ≡ false → st.back - st.front < length new + 1 → Arrived j (Stop 26 st) (read_as (lent j) l e (got new) (unread ls))
+  pub take-full : eq_line l new ≡ false → st.back - st.front < length new + 1 → Arrived j (stopping JournalFull st) (read_as (lent j) l e (got new) (unread ls))
   unfolding read_as read_changed ArrivedAt rest_lines stop_number
   take-full q full =
       let over : length j < journal_length (journal (seen (changed l new) e) (unread ls)) = omega (arith, changed-length l new e ls, unread-room (seen (kept l) e) ls passed-holds) in
@@ -97,7 +97,7 @@ module _ {j : List ℕ} {st : State} (e : Ed) (l new : Line) (ls : List Line) (h
 
   -- it fits, and stands in its place
   pub take-changed : (k : List ℕ) (s : State) → eq_line l new ≡ false → length new + 1 ≤ st.back - st.front → Holds k s (changed l new ∷ passed_of e) (map kept ls)
-      → Arrived k (On s) (read_as (lent j) l e (got new) (unread ls))
+      → Arrived k (Ok s) (read_as (lent j) l e (got new) (unread ls))
   unfolding read_as read_changed ArrivedAt rest_lines
   take-changed k s q fits held =
       let in-it : journal_length (journal (seen (changed l new) e) (unread ls)) ≤ length j = omega (arith, changed-length l new e ls, unread-room (seen (kept l) e) ls passed-holds) in
@@ -105,18 +105,18 @@ module _ {j : List ℕ} {st : State} (e : Ed) (l new : Line) (ls : List Line) (h
 
 -- the globals stop on it
 pub take_long : {j : List ℕ} {st : State} (g : Given) (e : Ed) (l : Line) (ls : List Line) → Holds j st (kept l ∷ passed_of e) (map kept ls)
-    → Arrived j (Stop 25 st) (read_as g l e (stop n25) (unread ls))
+    → Arrived j (stopping LineLong st) (read_as g l e (stop n25) (unread ls))
 unfolding read_as ArrivedAt rest_lines stop_number
 take_long g e l ls h = (refl, rw (passed-seen (kept l) e) h)
 
 -- ---- the text that the globals leave
 
-pub left-long : (line : List ℕ) (x : Got Line) → LeftAs Long line x → x ≡ stop n25
+pub left-long : (line : List ℕ) (x : Got Line) → LeftAs too-long line x → x ≡ stop n25
 unfolding LeftAs
 left-long line (got l) h = absurd h
 left-long line (stop n) h = rw h
 
-pub left-text : (m : ℕ) (line : List ℕ) (x : Got Line) → LeftAs (Text m) line x → (m ≤ 255) × (x ≡ got (take m line))
+pub left-text : (m : ℕ) (line : List ℕ) (x : Got Line) → LeftAs (Ok m) line x → (m ≤ 255) × (x ≡ got (take m line))
 unfolding LeftAs
 left-text m line (got l) h = (h.0, ap got h.1)
 left-text m line (stop n) h = absurd h
@@ -156,13 +156,13 @@ module _ {j k : List ℕ} {st s : State} (script w : List ℕ) (r : Passed) (lin
   left_as : (b : List Record) (c : Carried) (l : Line) (ls : List Line) → Standing script w c → Holds j st b (map kept (l ∷ ls)) → LeftAs r line (left_by c l)
   left_as b c l ls stands h = passes l (enc_all (map kept ls)) c h.good.0 (held_bytes h) stands
 
-  pub line-long : r ≡ Long → (e : Ed) (c : Carried) (l : Line) (ls : List Line) → Standing script w c → HoldsUnread j st e (l ∷ ls)
-      → Arrived k (Stop 25 s) (read_line (lent j) c e (unread (l ∷ ls)))
+  pub line-long : r ≡ too-long → (e : Ed) (c : Carried) (l : Line) (ls : List Line) → Standing script w c → HoldsUnread j st e (l ∷ ls)
+      → Arrived k (stopping LineLong s) (read_line (lent j) c e (unread (l ∷ ls)))
   unfolding read_line
   line-long is e c l ls stands h =
       rw (left-long line (left_by c l) (rw is at (left_as (passed_of e) c l ls stands h))) (take_long (lent j) e l ls (moves.0 (passed_of e) (kept l) (map kept ls) h))
 
-  module _ {m : ℕ} (is : r ≡ Text m) where
+  module _ {m : ℕ} (is : r ≡ Ok m) where
     left-new : (b : List Record) (c : Carried) (l : Line) (ls : List Line) → Standing script w c → Holds j st b (map kept (l ∷ ls)) → (m ≤ 255) × (left_by c l ≡ got (take m line))
     left-new b c l ls stands h = left-text m line (left_by c l) (rw is at (left_as b c l ls stands h))
 

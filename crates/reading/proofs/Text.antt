@@ -17,8 +17,7 @@ use Rattle.editor.specs.Records.{enc, enc_all, enc_before}
 use Rattle.editor.specs.Shows.{Holds, TextAt}
 use Rattle.editor.specs.declared.State.{State}
 use Rattle.editor.proofs.Records.{line-short, sources-cons, old-bytes-cons}
-use Rattle.globals.specs.Passing.{LeftAs}
-use Rattle.globals.specs.declared.Passed.{Passed}
+use Rattle.globals.specs.Passing.{Passed, LeftAs}
 use Rattle.reading.specs.Lines.{JustPassed}
 
 -- ---- the text at a place

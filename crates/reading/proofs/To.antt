@@ -20,8 +20,9 @@ use Rattle.theorems.specs.RecordLaws.{reverse-append, reverse_twice, sources-app
 use Rattle.theorems.specs.ReadLines.{runs-read, lines-ended}
 use Rattle.editor.specs.Shows.{Holds, Shows, GroundedAt, lent, Came, Walks, on_to, to_source, raised}
 use Rattle.editor.specs.declared.State.{State}
-use Rattle.editor.specs.declared.Moved.{Moved}
-use Rattle.editor.specs.declared.Moved.TheVariants.{On, Stop}
+use Rattle.std.specs.Prelude.{Ok}
+use Rattle.editor.specs.Stops.{Moved, numbered, stopping}
+use Rattle.editor.specs.declared.Stop.{Stop}
 use Rattle.editor.proofs.Records.{sources-cons, sources-nil}
 use Rattle.editor.proofs.Held.{holds-lists}
 use Rattle.editor.proofs.Reading.{reach_of, shown-reach, unread-few, shows-of, reads-line}
@@ -190,7 +191,7 @@ pub record LinesWent (k : List ℕ) (s : State) (e : Ed) (n : ℕ) (ls : List Li
   pub all : n + length rest ≡ length ls
   pub holds : HoldsUnread k s (grown new e) rest
 
-pub reached-on : {k : List ℕ} {s : State} (e : Ed) (n : ℕ) (ls : List Line) (x : Ran (Unit {0}) × Tape) → LinesRead e n ls x.0 x.1 → Arrived k (On s) x → LinesWent k s e n ls x
+pub reached-on : {k : List ℕ} {s : State} (e : Ed) (n : ℕ) (ls : List Line) (x : Ran (Unit {0}) × Tape) → LinesRead e n ls x.0 x.1 → Arrived k (Ok s) x → LinesWent k s e n ls x
 unfolding LinesRead ArrivedAt rest_lines
 reached-on e n ls (gave v y, t) (m, rest, is, at, few, all) h = record {
   new = m;
@@ -203,15 +204,15 @@ reached-on e n ls (gave v y, t) (m, rest, is, at, few, all) h = record {
 reached-on e n ls (stopped k y, t) l h = absurd h
 
 -- one stops
-pub record LinesHalted (k : List ℕ) (m : ℕ) (s : State) (e : Ed) (x : Ran (Unit {0}) × Tape) : Type 0 where
+pub record LinesHalted (k : List ℕ) (m : Stop) (s : State) (e : Ed) (x : Ran (Unit {0}) × Tape) : Type 0 where
   pub number : StopNumber
   pub new : List Record
   pub rest : List Line
   pub is : x ≡ (stopped number (grown new e), unread rest)
-  pub same : m ≡ stop_number number
+  pub same : numbered m ≡ stop_number number
   pub holds : HoldsUnread k s (grown new e) rest
 
-pub reached-stop : {k : List ℕ} {m : ℕ} {s : State} (e : Ed) (n : ℕ) (ls : List Line) (x : Ran (Unit {0}) × Tape) → LinesRead e n ls x.0 x.1 → Arrived k (Stop m s) x → LinesHalted k m s e x
+pub reached-stop : {k : List ℕ} {m : Stop} {s : State} (e : Ed) (n : ℕ) (ls : List Line) (x : Ran (Unit {0}) × Tape) → LinesRead e n ls x.0 x.1 → Arrived k (stopping m s) x → LinesHalted k m s e x
 unfolding LinesRead ArrivedAt rest_lines
 reached-stop e n ls (gave v y, t) l h = absurd h
 reached-stop e n ls (stopped i y, t) (new, rest, is, at) h = record {
@@ -252,7 +253,7 @@ module _ {j : List ℕ} {st : State} (g : Given) (c : Carried) (q : ℕ) (b a : 
   all_read = lines-read g c (min q st.lines - st.furthest) (ed b a p) ls (omega (arith, (read_count (ed b a p) ls h).1))
 
   module _ {k i : List ℕ} {s r : State} (back : ComesBack k s st i r) (point : r.p ≡ st.p) where
-    pub read-on : LinesWent k s (ed b a p) (min q st.lines - st.furthest) ls read → r.furthest ≡ min q (st.lines + 1) → Came i (On r) whole
+    pub read-on : LinesWent k s (ed b a p) (min q st.lines - st.furthest) ls read → r.furthest ≡ min q (st.lines + 1) → Came i (Ok r) whole
     read-on o far = by (to-line g c q (ed b a p) ls h)
       where
         lines : r.lines ≡ st.furthest + sources o.new + length o.rest
@@ -264,16 +265,16 @@ module _ {j : List ℕ} {st : State} (g : Given) (c : Carried) (q : ℕ) (b a : 
         beyond : st.lines < q → r.furthest ≡ reach_of r.lines ended
         beyond over = unfold reach_of in (omega (arith, far, less, over, o.few, o.all, (read_count (ed b a p) ls h).1, lines))
 
-        by : ((whole ≡ read) × (q ≤ st.lines)) ⊎ ((whole ≡ ending read) × (st.lines < q)) → Came i (On r) whole
+        by : ((whole ≡ read) × (q ≤ st.lines)) ⊎ ((whole ≡ ending read) × (st.lines < q)) → Came i (Ok r) whole
         by (inl (is, low)) = came-on (is ∙ o.is) (back-shows b a p ls h o.new o.rest o.holds back (unread o.rest) (unfold rest_lines in refl) (in-it low) point)
         by (inr (is, over)) =
             let none : o.rest ≡ [] = no_more (min q st.lines - st.furthest) ls o.rest (omega (arith, less, over, (read_count (ed b a p) ls h).1)) o.all in
             came-on (is ∙ ap ending o.is ∙ ending-gave (grown o.new (ed b a p)) (unread o.rest))
             (back-shows b a p ls h o.new o.rest o.holds back ended (ended-rest o.rest none) (beyond over) point)
 
-    pub read-stops : (m : ℕ) → LinesHalted k m s (ed b a p) read → r.furthest ≡ s.past → Came i (Stop m r) whole
+    pub read-stops : (m : Stop) → LinesHalted k m s (ed b a p) read → r.furthest ≡ s.past → Came i (stopping m r) whole
     read-stops m o far =
-        came-stop (by (to-line g c q (ed b a p) ls h)) o.same
+        came-stop m (by (to-line g c q (ed b a p) ls h)) o.same
         (back-shows b a p ls h o.new o.rest o.holds back (unread o.rest) (unfold rest_lines in refl) so_far point)
       where
         so_far : r.furthest ≡ reach_of r.lines (unread o.rest)
@@ -287,7 +288,7 @@ module _ {j : List ℕ} {st : State} (g : Given) (c : Carried) (q : ℕ) (b a : 
 
 -- nothing is to be read
 pub nothing_read : {j : List ℕ} {st : State} (g : Given) (c : Carried) (q : ℕ) (e : Ed) (t : Tape) → Shows j st e t → min q (st.lines + 1) ≤ st.furthest
-    → Came j (On st) (runs g c (read_up_to (line q)) e t)
+    → Came j (Ok st) (runs g c (read_up_to (line q)) e t)
 unfolding read_to rest_lines
 nothing_read {j} {st} g c q e (unread ls) h far = came-on (runs-read g c (line q) e (unread ls) ∙ none) h
   where
@@ -330,35 +331,35 @@ module _ {script w j j₁ j₂ : List ℕ} {st first : State} {q last : ℕ} {x 
   none_left e h = omega (arith, f.less, shown-reach e ended h)
 
   module _ {s : State} where
-    pub on-asks : x ≡ On s → (c : Carried) (e : Ed) (t : Tape) → Standing script w c → Shows j st e t → BackAsks st j₂ s
+    pub on-asks : x ≡ Ok s → (c : Carried) (e : Ed) (t : Tape) → Standing script w c → Shows j st e t → BackAsks st j₂ s
     on-asks is c (ed b a p) (unread ls) stands h =
         let o = reached-on (ed b a p) (min q st.lines - st.furthest) ls _ (all_read (lent j) c q b a p ls h f.less) (rw is at (to-reached b a p ls c stands h)) in
         back-asks b a p ls h o.new o.rest o.holds
     on-asks is c e ended stands h = absurd (none_left e h)
 
-    pub stop-asks : (m : ℕ) → x ≡ Stop m s → (c : Carried) (e : Ed) (t : Tape) → Standing script w c → Shows j st e t → BackAsks st j₂ s
+    pub stop-asks : (m : Stop) → x ≡ stopping m s → (c : Carried) (e : Ed) (t : Tape) → Standing script w c → Shows j st e t → BackAsks st j₂ s
     stop-asks m is c (ed b a p) (unread ls) stands h =
         let o = reached-stop (ed b a p) (min q st.lines - st.furthest) ls _ (all_read (lent j) c q b a p ls h f.less) (rw is at (to-reached b a p ls c stands h)) in
         back-asks b a p ls h o.new o.rest o.holds
     stop-asks m is c e ended stands h = absurd (none_left e h)
 
     module _ {i : List ℕ} {r : State} (back : ComesBack j₂ s st i r) (point : r.p ≡ st.p) where
-      pub came-back : x ≡ On s → r.furthest ≡ min q (st.lines + 1)
-          → (e : Ed) (c : Carried) (t : Tape) → Standing script w c → Shows j st e t → Came i (On r) (runs (lent j) c (read_up_to (line q)) e t)
+      pub came-back : x ≡ Ok s → r.furthest ≡ min q (st.lines + 1)
+          → (e : Ed) (c : Carried) (t : Tape) → Standing script w c → Shows j st e t → Came i (Ok r) (runs (lent j) c (read_up_to (line q)) e t)
       came-back is far (ed b a p) c (unread ls) stands h =
           let o = reached-on (ed b a p) (min q st.lines - st.furthest) ls _ (all_read (lent j) c q b a p ls h f.less) (rw is at (to-reached b a p ls c stands h)) in
           rw (runs-read (lent j) c (line q) (ed b a p) (unread ls)) (read-on (lent j) c q b a p ls h f.less back point o far)
       came-back is far e c ended stands h = absurd (none_left e h)
 
-      pub came-stopped : (m : ℕ) → x ≡ Stop m s → r.furthest ≡ s.past
-          → (e : Ed) (c : Carried) (t : Tape) → Standing script w c → Shows j st e t → Came i (Stop m r) (runs (lent j) c (read_up_to (line q)) e t)
+      pub came-stopped : (m : Stop) → x ≡ stopping m s → r.furthest ≡ s.past
+          → (e : Ed) (c : Carried) (t : Tape) → Standing script w c → Shows j st e t → Came i (stopping m r) (runs (lent j) c (read_up_to (line q)) e t)
       came-stopped m is far (ed b a p) c (unread ls) stands h =
           let o = reached-stop (ed b a p) (min q st.lines - st.furthest) ls _ (all_read (lent j) c q b a p ls h f.less) (rw is at (to-reached b a p ls c stands h)) in
           rw (runs-read (lent j) c (line q) (ed b a p) (unread ls)) (read-stops (lent j) c q b a p ls h f.less back point m o far)
       came-stopped m is far e c ended stands h = absurd (none_left e h)
 
 -- where none stands, the plain function
-pub plain-read : {j : List ℕ} {st s : State} (a : ℕ) (e : Ed) (c : Carried) (t : Tape) → NoGlobal c → s ≡ raised st a → Shows j st e t → Came j (On s) (runs (lent j) c (read_up_to (line a)) e t)
+pub plain-read : {j : List ℕ} {st s : State} (a : ℕ) (e : Ed) (c : Carried) (t : Tape) → NoGlobal c → s ≡ raised st a → Shows j st e t → Came j (Ok s) (runs (lent j) c (read_up_to (line a)) e t)
 plain-read {j} a e c t none is h = rw (none_runs (lent j) c none (read_up_to (line a)) e, is) (reads-line (lent j) e t h a)
 
 -- ---- EOF

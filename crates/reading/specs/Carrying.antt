@@ -6,7 +6,7 @@ use Rattle.definitions.specs.Editor.{Ed}
 use Rattle.definitions.specs.StepProgram.{Program, runs, state, Did, perform}
 use Rattle.definitions.specs.Edit.{Op, step}
 use Rattle.editor.specs.declared.State.{State}
-use Rattle.editor.specs.declared.Moved.{Moved}
+use Rattle.editor.specs.Stops.{Moved}
 use Rattle.editor.specs.Shows.{Shows, lent, Came, Answered}
 use Rattle.globals.specs.Standing.{Standing}
 

@@ -1,5 +1,5 @@
 -- Lines read through the standing globals, the gap standing before the first unread line. Assumes nothing.
-use Rattle.std.specs.Prelude.{◌≡◌, true, ℕ, ◌+◌, ◌-◌, length, drop}
+use Rattle.std.specs.Prelude.{◌≡◌, true, ℕ, ◌+◌, ◌-◌, length, drop, Ok, Err}
 use mathlib.Core.List.{List, ◌∷◌, ◌++◌, map, reverse_aux}
 use Rattle.definitions.specs.Bytes.{Line, is_line}
 use Rattle.definitions.specs.Journal.{Record, kept, changed}
@@ -11,11 +11,9 @@ use Rattle.definitions.specs.Globals.{left_by}
 use Rattle.editor.specs.Records.{enc}
 use Rattle.editor.specs.Shows.{Holds, lent}
 use Rattle.editor.specs.declared.State.{State}
-use Rattle.editor.specs.declared.Moved.{Moved}
-use Rattle.editor.specs.declared.Moved.TheVariants.{On, Stop}
+use Rattle.editor.specs.Stops.{Moved, numbered}
 use Rattle.globals.specs.Standing.{Standing}
-use Rattle.globals.specs.Passing.{LeftAs}
-use Rattle.globals.specs.declared.Passed.{Passed}
+use Rattle.globals.specs.Passing.{Passed, LeftAs}
 
 -- ---- where the gap stands
 
@@ -33,10 +31,10 @@ AtUnread j st = (b : List Record) × (ls : List Line) × Holds j st b (map kept 
 
 -- what reading there comes to: a stop too leaves the gap before the first line that is then unread
 unfoldable pub ArrivedAt : List ℕ → Moved → Ran (Unit {0}) → Tape → Type 0
-ArrivedAt k (On s) (gave u e) t = HoldsUnread k s e (rest_lines t)
-ArrivedAt k (On s) (stopped n e) t = ⊥
-ArrivedAt k (Stop m s) (gave u e) t = ⊥
-ArrivedAt k (Stop m s) (stopped n e) t = (m ≡ stop_number n) × HoldsUnread k s e (rest_lines t)
+ArrivedAt k (Ok s) (gave u e) t = HoldsUnread k s e (rest_lines t)
+ArrivedAt k (Ok s) (stopped n e) t = ⊥
+ArrivedAt k (Err x) (gave u e) t = ⊥
+ArrivedAt k (Err x) (stopped n e) t = (numbered x.stop ≡ stop_number n) × HoldsUnread k x.st e (rest_lines t)
 
 abbrev pub Arrived : List ℕ → Moved → Ran (Unit {0}) × Tape → Type 0
 Arrived k r x = ArrivedAt k r x.0 x.1

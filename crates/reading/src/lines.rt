@@ -4,11 +4,17 @@ ghost use Rattle.definitions.specs.Bytes.{is_line};
 ghost use Rattle.reading.specs.Carrying.{SomeStand};
 ghost use Rattle.reading.specs.Lines.{AtUnread, KeptAt, PassesText, SomePassed, Changes, TakesText, ReadsLine, ReadsLines};
 
-use editor::{Moved, State};
-use globals::Passed;
+use editor::{State, Stop, Stopped};
+use globals::TooLong;
 
 // The text of the kept record at `at`, passed through the standing globals, at the start of `line`.
-pub fn pass_text(script: &[u8], w: &[u32], j: &[u8], at: usize, line: &mut [u8]) -> Passed
+pub fn pass_text(
+    script: &[u8],
+    w: &[u32],
+    j: &[u8],
+    at: usize,
+    line: &mut [u8],
+) -> Result<usize, TooLong>
     requires { SomeStand script.now w.now × KeptAt j.now at × (256 ≤ length line.old) }
     ensures { PassesText script.now w.now j.now at result line.new }
 {
@@ -37,23 +43,26 @@ fn change_passed(j: &mut [u8], st: State, f: usize, line: &[u8], m: usize) -> St
 }
 
 // The line of the kept record from f up to the gap is read with the first m bytes of line for its text. 26: the journal would exceed its buffer.
-fn take_text(j: &mut [u8], st: State, f: usize, line: &[u8], m: usize) -> Moved
+fn take_text(j: &mut [u8], st: State, f: usize, line: &[u8], m: usize) -> Result<State, Stopped>
     requires { SomePassed j.old st f × (m ≤ length line.now) × (is_line (take m line.now) ≡ true) }
     ensures { TakesText f (take m line.now) j.old st j.new result }
 {
     let end = st.front - 1;
     if text::is_same(j, f + 2, end, line, m) {
-        return Moved::On(st);
+        return Ok(st);
     }
     let room = st.back - st.front;
     if room < m + 1 {
-        return Moved::Stop(26, st);
+        return Err(Stopped {
+            stop: Stop::JournalFull,
+            st,
+        });
     }
-    Moved::On(change_passed(j, st, f, line, m))
+    Ok(change_passed(j, st, f, line, m))
 }
 
 // The next line is read. One on which the globals stop passes the gap with the text that it has.
-fn read_line(script: &[u8], w: &[u32], j: &mut [u8], st: State) -> Moved
+fn read_line(script: &[u8], w: &[u32], j: &mut [u8], st: State) -> Result<State, Stopped>
     requires { SomeStand script.now w.now × AtUnread j.old st × (st.back < length j.old) }
     ensures { ReadsLine script.now w.now j.old st j.new result }
 {
@@ -61,23 +70,28 @@ fn read_line(script: &[u8], w: &[u32], j: &mut [u8], st: State) -> Moved
     let left = pass_text(script, w, j, st.back, &mut line);
     let s = editor::walk::pass_record(j, st);
     match left {
-        Passed::Long => Moved::Stop(25, s),
-        Passed::Text(m) => take_text(j, s, st.front, &line, m),
+        Err(TooLong) => Err(Stopped {
+            stop: Stop::LineLong,
+            st: s,
+        }),
+        Ok(m) => take_text(j, s, st.front, &line, m),
     }
 }
 
 // The lines up to source line `last` are read, which stand behind the gap; fewer where one stops.
-pub fn read_lines(script: &[u8], w: &[u32], j: &mut [u8], st: State, last: usize) -> Moved
+pub fn read_lines(
+    script: &[u8],
+    w: &[u32],
+    j: &mut [u8],
+    st: State,
+    last: usize,
+) -> Result<State, Stopped>
     requires { SomeStand script.now w.now × AtUnread j.old st × (last ≤ st.lines) }
     ensures { ReadsLines script.now w.now j.old st last j.new result }
 {
     let mut s = st;
     while s.past < last {
-        let r = read_line(script, w, j, s);
-        let Moved::On(u) = r else {
-            return r;
-        };
-        s = u;
+        s = read_line(script, w, j, s)?;
     }
-    Moved::On(s)
+    Ok(s)
 }

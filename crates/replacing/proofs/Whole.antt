@@ -17,8 +17,9 @@ use Rattle.theorems.specs.Programs.{runs_on}
 use Rattle.theorems.specs.ReadLines.{read_next, lacking, seen_all, read_past_lem}
 use Rattle.editor.specs.Shows.{Holds, Shows, lent, Answered, Puts, strike_over}
 use Rattle.editor.specs.declared.State.{State}
-use Rattle.editor.specs.declared.Moved.{Moved}
-use Rattle.editor.specs.declared.Moved.TheVariants.{On, Stop}
+use Rattle.std.specs.Prelude.{Ok}
+use Rattle.editor.specs.Stops.{Moved, stopping}
+use Rattle.editor.specs.declared.Stop.TheVariants.{JournalFull}
 use Rattle.editor.proofs.Reading.{next-rest, journal-is}
 use Rattle.editor.proofs.Parts.{perform-as}
 use Rattle.editor.proofs.Inserting.{held-journal, put-length}
@@ -109,7 +110,7 @@ module _ {j : List ℕ} {st : State} {end : ℕ} (ls : List Line) (e : Ed) (t : 
 
   -- there is no room
   pub replace-full : (x : Next) (r past room : ℕ) → Frees end j st r → room ≡ journal_length (map inserted ls) → (st.back - st.front) + r < room
-      → Counts end j st past → ReadsFrom end past j st x → Answered j (Stop 26 x.st) (perform (lent j) (replace_many ls n) (state e no_globals) t)
+      → Counts end j st past → ReadsFrom end past j st x → Answered j (stopping JournalFull x.st) (perform (lent j) (replace_many ls n) (state e no_globals) t)
   unfolding edits
   replace-full x r past room counts is full passes reads =
       let z : NextRead j n x (runs (lent j) no_globals (read_past n) e t) = next-read (runs (lent j) no_globals (read_past n) e t) (reads e t n h w (counted_is e t n h w passes)) in
@@ -139,7 +140,7 @@ module _ {j : List ℕ} {st : State} {end : ℕ} (ls : List Line) (e : Ed) (t : 
         omega (arith, shows-length (edit (strike n) z.0) z.1 z.3, struck-length (lent j) n e t z.0 z.1 w.within z.2, shows-length e t h) in
         ((_, _, z.3.holds), omega (arith, wide, z.3.holds.order))
 
-    pub replace-on : (i : List ℕ) (r : State) → length i ≡ length k → Puts ls k l i r → Answered i (On r) (perform (lent j) (replace_many ls n) (state e no_globals) t)
+    pub replace-on : (i : List ℕ) (r : State) → length i ≡ length k → Puts ls k l i r → Answered i (Ok r) (perform (lent j) (replace_many ls n) (state e no_globals) t)
     unfolding edits
     replace-on i r same puts =
         let z : S = struck-at in

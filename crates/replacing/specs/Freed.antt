@@ -11,7 +11,7 @@ use Rattle.definitions.specs.Edit.{read_past}
 use Rattle.editor.specs.Records.{enc_all}
 use Rattle.editor.specs.Shows.{Holds, Shows, lent, Answered}
 use Rattle.editor.specs.declared.State.{State}
-use Rattle.editor.specs.declared.Moved.{Moved}
+use Rattle.editor.specs.Stops.{Moved}
 use Rattle.spans.specs.Spans.{freed_by, EndsAt}
 
 unfoldable pub freed : List Record → ℕ

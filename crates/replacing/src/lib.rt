@@ -12,12 +12,18 @@ ghost use Rattle.inserts.specs.Lines.{Insertable};
 ghost use Rattle.spans.specs.Spans.{through_of, change_here, Spanned};
 ghost use Rattle.replacing.specs.Freed.{replacing, Replaces};
 
-use editor::{Moved, State};
-use spans::Found;
+use editor::{State, Stop, Stopped};
 
 // R of the records up to the place `to`. The room is tested for the whole command before a record changes.
 // A stop has read the next live line all the same.
-fn replace_to(j: &mut [u8], st: State, to: usize, s: &[u8], start: usize, end: usize) -> Moved
+fn replace_to(
+    j: &mut [u8],
+    st: State,
+    to: usize,
+    s: &[u8],
+    start: usize,
+    end: usize,
+) -> Result<State, Stopped>
     requires { Spanned j.old st to × Insertable s.now start end }
     ensures { Replaces to (lines_of (part_of s.now start end)) j.old st j.new result }
 {
@@ -29,11 +35,14 @@ fn replace_to(j: &mut [u8], st: State, to: usize, s: &[u8], start: usize, end: u
             let past = spans::finding::past_to(j, st, to);
             let next = spans::finding::next_from(j, st, to, past);
             let u = next.st;
-            return Moved::Stop(26, u);
+            return Err(Stopped {
+                stop: Stop::JournalFull,
+                st: u,
+            });
         }
     }
     let l = spans::striking::strike_span(j, st, to);
-    Moved::On(inserts::put_lines(j, l, s, start, end))
+    Ok(inserts::put_lines(j, l, s, start, end))
 }
 
 // R from the current line on.
@@ -44,15 +53,12 @@ pub fn replace_here(
     s: &[u8],
     start: usize,
     end: usize,
-) -> Moved
+) -> Result<State, Stopped>
     requires { ShowsText j.old st × Insertable s.now start end }
     ensures { Completes no_globals j.old st (change_here (replacing (lines_of (part_of s.now start end))) (through_of through)) j.new result }
 {
-    let found = spans::finding::span_end(j, st, through);
-    match found {
-        Found::Stop(n, u) => Moved::Stop(n, u),
-        Found::To(to, u) => replace_to(j, u, to, s, start, end),
-    }
+    let (to, u) = spans::finding::span_end(j, st, through)?;
+    replace_to(j, u, to, s, start, end)
 }
 
 // R: `from` and `through` are as in D; the lines are those of s from `start` up to `end`.
@@ -64,13 +70,10 @@ pub fn replace_span(
     s: &[u8],
     start: usize,
     end: usize,
-) -> Moved
+) -> Result<State, Stopped>
     requires { ShowsText j.old st × Insertable s.now start end }
     ensures { Performs no_globals j.old st (Op.replace (target_numbered from) (through_of through) (lines_of (part_of s.now start end))) j.new result }
 {
-    let moved = editor::moves::go_to(j, st, from);
-    match moved {
-        Moved::Stop(n, u) => Moved::Stop(n, u),
-        Moved::On(u) => replace_here(j, u, through, s, start, end),
-    }
+    let u = editor::moves::go_to(j, st, from)?;
+    replace_here(j, u, through, s, start, end)
 }

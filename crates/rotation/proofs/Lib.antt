@@ -1,2 +1,3 @@
--- `Laws`: bytes that are exchanged, and the turns by which parts change places.
+-- `Laws`: parts that change places. `Exchange`: two blocks exchanged byte by byte.
 pub mod Laws
+pub mod Exchange

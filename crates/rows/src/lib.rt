@@ -11,10 +11,8 @@ fn begins_in(s: &[u8], at: usize, c: u8) -> bool
     ensures { result ≡ leb (line_where (λ b. eqb b c) false (drop at s.now)) 16 }
 {
     let mut found = false;
-    let mut k: usize = 0;
-    while k < 16 {
-        found = found | ((s[at + k] == 10) & (s[at + k + 1] == c));
-        k += 1;
+    for k in 0..16 {
+        found |= (s[at + k] == b'\n') & (s[at + k + 1] == c);
     }
     found
 }
@@ -24,17 +22,16 @@ fn by_bytes(s: &[u8], at: usize, c: u8) -> usize
     requires { at ≤ length s.now }
     ensures { result ≡ at + line_where (λ b. eqb b c) false (drop at s.now) }
 {
-    let mut i = at;
-    while i + 1 < s.len() {
-        if (s[i] == 10) & (s[i + 1] == c) {
-            return i + 1;
+    for i in at + 1..s.len() {
+        if (s[i - 1] == b'\n') & (s[i] == c) {
+            return i;
         }
-        i += 1;
     }
     s.len()
 }
 
-// The start of the next line from `at` on that begins with c, or the end. A line begins at `at`. Sixteen bytes at a time as long as it begins after none of them.
+// The start of the next line from `at` on that begins with c, or the end. A line begins at `at`. Sixteen bytes at a time as long as it begins after none of them,
+// of 17 that are looked at, so that no iterator over chunks fits.
 pub fn line_with(s: &[u8], at: usize, c: u8) -> usize
     requires { at ≤ length s.now }
     ensures { (result ≡ at + line_where (λ b. eqb b c) true (drop at s.now)) × (result ≤ length s.now) }
@@ -55,7 +52,7 @@ pub fn line_with(s: &[u8], at: usize, c: u8) -> usize
     by_bytes(s, i, c)
 }
 
-// The place after the lines from `at` on whose first bytes are below `limit`. A line begins at `at`.
+// The place after the lines from `at` on whose first bytes are below `limit`. A line begins at `at`. The place goes on from line to line.
 pub fn lines_below(s: &[u8], at: usize, limit: u8) -> usize
     requires { at ≤ length s.now }
     ensures { (result ≡ at + line_where (λ b. leb limit b) true (drop at s.now)) × (at ≤ result) × (result ≤ length s.now) }

@@ -1,7 +1,7 @@
 -- The run's loop: where it stands after each round, and how it ends. Assumes nothing.
 use mathlib.Core.Path.{◌≡◌, refl, sym, ◌∙◌, subst}
 use mathlib.Core.Logic.{◌⊎◌, inl, inr}
-use mathlib.Core.Bool.{true, false, cond}
+use mathlib.Core.Bool.{Bool, true, false, cond}
 use mathlib.Core.List.{List, []}
 use Prim.Native.Nat.{ℕ, zero, suc, ◌+◌, ◌-◌, ◌≤◌}
 use native.Mathlib.Omega.{arith}
@@ -13,19 +13,21 @@ use Rattle.definitions.specs.Editor.{Ed}
 use Rattle.definitions.specs.StepProgram.{RunState, state}
 use Rattle.definitions.specs.Edit.{Op, step}
 use Rattle.definitions.specs.Control.{Item, Ctl, running, Pull, finished, want, lost, pull}
-use Rattle.definitions.specs.Run.{End, end, end_place, spent, stepping, run}
+use Rattle.definitions.specs.Run.{End, end, end_place, choose, spent, stepping, run}
 use Rattle.items.specs.Reserve.{reserve}
 use Rattle.globals.specs.Standing.{StandingBelow, OnlyCarried}
 use Rattle.globals.proofs.Standing.{standing-kept}
 use Rattle.control.specs.declared.Control.{Control}
 use Rattle.control.specs.declared.Wanted.{Wanted}
-use Rattle.control.specs.declared.Next.{Next}
-use Rattle.control.specs.declared.Next.TheVariants.{Finished, Want}
-use Rattle.control.specs.Shown.{ItemsKept, ShowsCtl, ShowsWant, ShowsNext}
+use Rattle.std.specs.Prelude.{Option, Some, None}
+use Rattle.control.specs.Shown.{ItemsKept, ShowsCtl, passed, ShowsWant, ShowsNext}
 use Rattle.control.proofs.Standing.{ctl-stays}
 use Rattle.editor.specs.declared.State.{State}
 use Rattle.editor.specs.Current.{Ready}
-use Rattle.seeks.specs.declared.Looked.TheVariants.{Yes, No, Stop}
+use Rattle.std.specs.Prelude.{Ok}
+use Rattle.editor.specs.Stops.{numbered, stopping}
+use Rattle.editor.specs.declared.Stop.{Stop}
+use Rattle.seeks.specs.declared.Looked.{Looked}
 use Rattle.seeks.specs.declared.Sought.{Sought}
 use Rattle.steps.specs.Steps.{GoodCtl, Wants}
 use Rattle.steps.proofs.Asked.{wanted-asked}
@@ -70,7 +72,7 @@ run-late : (g : Given) (steps : ℕ) (c : Ctl) (place : ℕ) (op : Op) (c₁ c�
 unfolding run spent
 run-late g steps c place op c₁ c₀ z t q = rw q
 
-none-wanted : (s w : List ℕ) (last n : ℕ) (p : Pull) → ShowsNext s w last n Finished p → NoneWanted p
+none-wanted : (s w : List ℕ) (last n : ℕ) (p : Pull) → ShowsNext s w last n None p → NoneWanted p
 unfolding ShowsNext
 none-wanted s w last n finished h = inl refl
 none-wanted s w last n lost h = inr refl
@@ -91,7 +93,7 @@ module _ {s table : List ℕ} {lends : Given} {budget last : ℕ} {w j : List �
   stands-pulled k h = standing-kept s w k last g.carries h.as_long h.same h.top g.stand
 
   -- nothing is left to do
-  pub going_done : (k : List ℕ) → ItemsKept w k last → (n : ℕ) (r : Next) → r ≡ Finished → ShowsNext s k last n r (pull g.from)
+  pub going_done : (k : List ℕ) → ItemsKept w k last → (n : ℕ) (r : Option Wanted) → r ≡ None → ShowsNext s k last n r (pull g.from)
       → EndsAs s k j (record { number = 0; steps = made; place = 0; st = st }) x
   unfolding Ends
   going_done k kept n r q h =
@@ -99,11 +101,11 @@ module _ {s table : List ℕ} {lends : Given} {budget last : ℕ} {w j : List �
       (refl, refl, refl, g.ready.shows, record { end = last; below = stands-pulled k kept })
 
   -- a step is wanted
-  pub going-wants : is_script s ≡ true → last ≤ 65536 → (k : List ℕ) (n : ℕ) (r : Next) (y : Wanted) → r ≡ Want y → ShowsNext s k last n r (pull g.from) → Wanting s k last n y g.from
+  pub going-wants : is_script s ≡ true → last ≤ 65536 → (k : List ℕ) (n : ℕ) (r : Option Wanted) (y : Wanted) → r ≡ Some y → ShowsNext s k last n r (pull g.from) → Wanting s k last n y g.from
   unfolding ShowsNext
   going-wants form short k n r y q h = by (pull g.from) refl (rw q at h)
     where
-      by : (p : Pull) → pull g.from ≡ p → ShowsNext s k last n (Want y) p → Wanting s k last n y g.from
+      by : (p : Pull) → pull g.from ≡ p → ShowsNext s k last n (Some y) p → Wanting s k last n y g.from
       by finished is h = absurd h
       by lost is h = absurd h
       by (want place op c₁ c₀) is h = record {
@@ -151,30 +153,29 @@ module _ {s table : List ℕ} {lends : Given} {budget last : ℕ} {w j : List �
     good-both : GoodCtl h.c₁ × GoodCtl h.c₀
     good-both = let z = wanted-asked g.from y.place h.op h.c₁ h.c₀ h.wants.good h.wants.next in (z.1, z.2)
 
-    pub going-yes : (d : Control) → d ≡ cond true y.yes y.no → (u : State) → r.looked ≡ Yes u → Going s table lends budget last v m d u (made + r.made) x
-    unfolding Leads
-    going-yes d is u q = further h.c₁ d u (rw is h.shown.yes_shows) good-both.0 (rw q at comes.leads)
+    pub going-on : (u : Looked) (d : Control) → d ≡ cond u.held y.yes y.no → r.looked ≡ Ok u → Going s table lends budget last v m d u.st (made + r.made) x
+    unfolding Leads choose
+    going-on u d is q = by u.held (rw q at comes.leads) is
+      where
+        by : (held : Bool) → GoesOn lends left made g.from at_state g.rest s v last table m r.made (choose held h.c₁ h.c₀) u.st → d ≡ cond held y.yes y.no
+            → Going s table lends budget last v m d u.st (made + r.made) x
+        by true on is = further h.c₁ d u.st (rw is h.shown.yes_shows) good-both.0 on
+        by false on is = further h.c₀ d u.st (rw is h.shown.no_shows) good-both.1 on
 
-    pub going-no : (d : Control) → d ≡ cond false y.yes y.no → (u : State) → r.looked ≡ No u → Going s table lends budget last v m d u (made + r.made) x
-    unfolding Leads
-    going-no d is u q = further h.c₀ d u (rw is h.shown.no_shows) good-both.1 (rw q at comes.leads)
-
-    pub going-stops : (number : ℕ) (u : State) → r.looked ≡ Stop number u → (z : Ended) → z ≡ record { number = number; steps = made + r.made; place = end_place number y.place; st = u }
+    pub going-stops : (n : Stop) (u : State) → r.looked ≡ stopping n u → (z : Ended) → z ≡ record { number = numbered n; steps = made + r.made; place = end_place (numbered n) y.place; st = u }
         → EndsAs s v m z x
     unfolding Leads Ends
-    going-stops number u q z is = by (rw q at comes.leads)
+    going-stops n u q z is = by (rw q at comes.leads)
       where
-        by : Stops lends left made g.from at_state g.rest s v last m r.made number y.place u → EndsAs s v m z x
+        by : Stops lends left made g.from at_state g.rest s v last m r.made (numbered n) y.place u → EndsAs s v m z x
         by e = rw (is, ← g.same, ← rest_of, e.same) (refl, refl, refl, e.shows, record { end = last; below = e.stand })
 
 -- ---- the lines that a search has passed
 
 module _ (d : Control) (x : Wanted) (n m : ℕ) where
-  pub yes-lines : d ≡ cond true x.yes x.no → x.yes.lines ≤ n → n ≤ m → d.lines ≤ m
-  yes-lines q h few = rw q (omega arith)
-
-  pub no_lines : d ≡ cond false x.yes x.no → x.no.lines ≤ n → n ≤ m → d.lines ≤ m
-  no_lines q h few = rw q (omega arith)
+  pub went-lines : (held : Bool) → d ≡ cond held x.yes x.no → passed x.yes ≤ n → passed x.no ≤ n → n ≤ m → passed d ≤ m
+  went-lines true q yes-few no-few few = rw q (omega arith)
+  went-lines false q yes-few no-few few = rw q (omega arith)
 
 -- the start
 pub going_start : {s table : List ℕ} {budget last : ℕ} {w j : List ℕ} {st : State} (g : Given) (c : Control) (items : List Item) (e : Ed) (t : Tape)

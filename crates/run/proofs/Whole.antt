@@ -23,8 +23,9 @@ use Rattle.definitions.specs.Script.{Script, items, refused_at, read_script}
 use Rattle.definitions.specs.Run.{End, end, run, run_items, Answer, answer, refusal, rest_passed, in_run_order, arranged, answer_of, ran_items, opening_length, work_length, ran_table, ran_script, run_answer, answer_number, answer_steps, answer_furthest, answer_place, answer_length, buffer_after, outcome_from, outcome_of}
 use Rattle.theorems.proofs.GoodScripts.{good-commands}
 use Rattle.theorems.specs.JournalBytes.{lines-back}
-use Rattle.answers.specs.declared.Answer.{Answer as Read}
-use Rattle.answers.proofs.Taking.{Refusal, refusal-values, is-done}
+use Rattle.std.specs.Prelude.{Ok, Err}
+use Rattle.answers.specs.declared.Refusal.{Refusal}
+use Rattle.answers.specs.Answers.{number_of}
 use Rattle.script.specs.Reading.{ScriptRead}
 use Rattle.items.specs.Reserve.{reserve}
 use Rattle.items.proofs.Keeping.{items_kept}
@@ -33,8 +34,9 @@ use Rattle.globals.proofs.Standing.{begins-only}
 use Rattle.globals.proofs.Standing.{begins as begins-carrying}
 use Rattle.control.proofs.Scripts.{startable}
 use Rattle.editor.specs.declared.State.{State}
-use Rattle.editor.specs.declared.Moved.{Moved}
-use Rattle.editor.specs.declared.Moved.TheVariants.{On, Stop}
+use Rattle.std.specs.Prelude.{Ok}
+use Rattle.editor.specs.Stops.{Moved, numbered, stopping}
+use Rattle.editor.specs.declared.Stop.{Stop}
 use Rattle.editor.specs.Shows.{Holds, ShowsText, Opens, lent, rest_of}
 use Rattle.closing.specs.Closing.{ClosesJournal}
 use Rattle.editor.proofs.Reading.{journal-is}
@@ -153,25 +155,25 @@ module _ (s w j : List ℕ) (r : Ended) where
 
   module _ (k : List ℕ) (none : r.number ≡ 0) (m : Moved) (passes : PassesRest s w j r.st k m) where
     module _ (last : State) (steps : ℕ) (e : Ed) (t : Tape) (same : r.steps ≡ steps) (far : r.st.furthest ≡ furthest e t) where
-      all_pass : (o : Read-so (Unit {0})) → RestLeft k (On last) (journal e t) o
+      all_pass : (o : Read-so (Unit {0})) → RestLeft k (Ok last) (journal e t) o
           → EndsIn k r.st.furthest (record { number = 0; steps = r.steps; place = 0; st = last }) (rest_passed steps (length s) e t o)
       unfolding RestLeft rest_passed EndsIn
       all_pass (gave u all) h = (refl, same, far, refl, h, λ q. refl)
       all_pass (stopped i all) h = absurd h
 
-      none_passes : (n : ℕ) (o : Read-so (Unit {0})) → RestLeft k (Stop n last) (journal e t) o
-          → EndsIn k r.st.furthest (record { number = n; steps = r.steps; place = length s; st = last }) (rest_passed steps (length s) e t o)
+      none_passes : (n : Stop) (o : Read-so (Unit {0})) → RestLeft k (stopping n last) (journal e t) o
+          → EndsIn k r.st.furthest (record { number = numbered n; steps = r.steps; place = length s; st = last }) (rest_passed steps (length s) e t o)
       unfolding RestLeft rest_passed EndsIn
       none_passes n (gave u all) h = absurd h
       none_passes n (stopped i all) h = (h.0, same, far, refl, h.1, λ q. absurd (stop-some i q))
 
-    pub unread-passed : (last : State) → m ≡ On last → PassesUnread s w j r k (record { number = 0; steps = r.steps; place = 0; st = last })
+    pub unread-passed : (last : State) → m ≡ Ok last → PassesUnread s w j r k (record { number = 0; steps = r.steps; place = 0; st = last })
     unfolding Ends in_run_order
     unread-passed last q (end (suc n) steps place (state e c)) t (a, b, d, shows, stand) = absurd (omega (arith, a))
     unread-passed last q (end zero steps place (state e c)) t (a, b, d, shows, stand) =
         all_pass last steps e t b shows.furthest _ (rw q at (passes e c t stand shows))
 
-    pub unread-stops : (n : ℕ) (last : State) → m ≡ Stop n last → PassesUnread s w j r k (record { number = n; steps = r.steps; place = length s; st = last })
+    pub unread-stops : (n : Stop) (last : State) → m ≡ stopping n last → PassesUnread s w j r k (record { number = numbered n; steps = r.steps; place = length s; st = last })
     unfolding Ends in_run_order
     unread-stops n last q (end (suc i) steps place (state e c)) t (a, b, d, shows, stand) = absurd (omega (arith, a))
     unread-stops n last q (end zero steps place (state e c)) t (a, b, d, shows, stand) =
@@ -264,10 +266,10 @@ module _ (table script : List ℕ) (budget work : ℕ) (buffer : List ℕ) where
       read_as x q = rw (form, le-leb (2 * length script + 64) work enough, q)
 
       -- the script does not decode
-      pub refused-script : (d : Read) → Refusal (λ n at. read_script script ≡ refused_at n at) d → (r : Answer-of) → r ≡ refused_by d → Ran table script budget work buffer r buffer
+      pub refused-script : (d : Refusal) → read_script script ≡ refused_at (number_of d.fault) d.place → (r : Answer-of) → r ≡ refused_by d → Ran table script budget work buffer r buffer
       unfolding ran_script refused_by
       refused-script d said r is =
-          rw (is, (refusal-values said).0, (refusal-values said).1) (ran-as _ _ (refused buffer said.number said.place _ (read_as (refused_at said.number said.place) said.holds)))
+          rw is (ran-as _ _ (refused buffer (number_of d.fault) d.place _ (read_as (refused_at (number_of d.fault) d.place) said)))
 
       pub read-items : (is : List Item) → read_script script ≡ items is → (r : Answer-of) (k : List ℕ) → Gives buffer (ran_script table (length script) budget (length buffer) (items is)) r k → Ran table script budget work buffer r k
       read-items is q r k g = ran-as r k (rw (read_as (items is) q) g)
@@ -282,7 +284,6 @@ not-false true h = refl
 not-false false h = sym h
 
 -- the script's items are as the run asks
-pub runnable : (s w : List ℕ) (n : ℕ) (d : Read) → is_script s ≡ true → ScriptRead s w (read_script s) d → d ≡ Read.Done n → (is : List Item) × (read_script s ≡ items is) × Runnable s w n is
-runnable s w n d form h q =
-    let r = is-done h q in
+pub runnable : (s w : List ℕ) (n : ℕ) → is_script s ≡ true → ScriptRead s w (read_script s) (Ok n) → (is : List Item) × (read_script s ≡ items is) × Runnable s w n is
+runnable s w n form r =
     (r.0, r.1, record { form = form; start = startable s w n r.0 form r.1 r.2; good = good-commands s form r.0 r.1 })

@@ -2,8 +2,8 @@
 use Rattle.std.specs.Prelude.{◌≡◌, List, ℕ, zero, suc, length}
 use Rattle.definitions.specs.Journal.{journal_length}
 use Rattle.definitions.specs.Run.{Answer as Answered, answer, refusal, run_answer, Outcome, outcome, outcome_from, outcome_of}
-use Rattle.answers.specs.declared.Answer.{Answer as Read}
-use Rattle.answers.specs.Answers.{number_of, place_of}
+use Rattle.answers.specs.declared.Refusal.{Refusal}
+use Rattle.answers.specs.Answers.{number_of}
 use Rattle.run.specs.declared.values.Values.{Values}
 use Rattle.run.specs.declared.Answer.{Answer}
 use Rattle.run.specs.declared.Answer.TheVariants.{Done, Stopped, Refused}
@@ -25,8 +25,8 @@ case_of (answer (suc n) steps furthest place j) = Stopped (suc n) steps furthest
 case_of (refusal number place) = Refused number place
 
 -- the refusal that the script's reader gives, with its number and place
-unfoldable pub refused_by : Read → Answer
-refused_by read = Refused (number_of read) (place_of read)
+unfoldable pub refused_by : Refusal → Answer
+refused_by r = Refused (number_of r.fault) r.place
 
 -- the answer r and the bytes of the journal buffer afterwards are those of `a`
 pub record Gives (buffer : List ℕ) (a : Answered) (r : Answer) (bytes : List ℕ) : Type 0 where

@@ -6,9 +6,7 @@ ghost use Rattle.definitions.specs.Run.{end_place};
 ghost use Rattle.editor.specs.Current.{Ready};
 ghost use Rattle.run.specs.Items.{CanRun, NoneStands, RunsItems};
 
-use control::Next;
 use editor::State;
-use seeks::Looked;
 use steps::answer_step;
 
 // How the steps end: the number, the steps that were made, the place, and the journal buffer's numbers.
@@ -58,7 +56,7 @@ pub fn run_items(
     let mut made: usize = 0;
     loop {
         let next = control::pull(w, end, c);
-        let Next::Want(x) = next else {
+        let Some(x) = next else {
             return Ended {
                 number: 0,
                 steps: made,
@@ -76,18 +74,13 @@ pub fn run_items(
         }
         let r = answer_step(script, table, w, x, j, s, budget - made);
         made += r.made;
-        let looked = r.looked;
-        match looked {
-            Looked::Yes(on) => {
-                s = on;
-                c = control::go_on(x, true);
+        match r.looked {
+            Ok(looked) => {
+                s = looked.st;
+                c = control::go_on(x, looked.held);
             }
-            Looked::No(on) => {
-                s = on;
-                c = control::go_on(x, false);
-            }
-            Looked::Stop(n, last) => {
-                return stopped(n, made, x.place, last);
+            Err(last) => {
+                return stopped(usize::from(last.stop), made, x.place, last.st);
             }
         }
     }

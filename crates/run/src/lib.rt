@@ -10,10 +10,9 @@ ghost use Rattle.definitions.specs.Journal.{Record};
 ghost use Rattle.editor.specs.Shows.{Holds};
 ghost use Rattle.run.specs.Items.{CanRun, RunsTable, SomeEnd, PassesUnread, GivesClosed, Opening, GivesRun};
 
-use answers::{Answer as Read, number, place};
+use answers::Refusal;
 use decoded::{Ended, run_items};
-use editor::Moved;
-use text::Form;
+use editor::Stopped;
 
 // How a run ends: done, stopped or refused.
 #[derive(Clone, Copy)]
@@ -78,16 +77,15 @@ fn pass_unread(script: &[u8], work: &[u32], journal: &mut [u8], ended: Ended) ->
         return ended;
     }
     let steps = ended.steps;
-    let rest = tail::pass_rest(script, work, journal, ended.st);
-    match rest {
-        Moved::On(last) => Ended {
+    match tail::pass_rest(script, work, journal, ended.st) {
+        Ok(last) => Ended {
             number: 0,
             steps,
             place: 0,
             st: last,
         },
-        Moved::Stop(n, last) => Ended {
-            number: n,
+        Err(Stopped { stop, st: last }) => Ended {
+            number: usize::from(stop),
             steps,
             place: script.len(),
             st: last,
@@ -150,8 +148,7 @@ fn run_decoded(
     requires { CanRun script.now work.old end budget }
     ensures { GivesRun script.now work.old end budget table.now journal.old result journal.new }
 {
-    let form = text::table_form(table);
-    let Form::Lines(lines) = form else {
+    let Some(lines) = text::table_form(table) else {
         return Answer::Refused {
             number: 7,
             place: 0,
@@ -167,12 +164,12 @@ fn run_decoded(
 }
 
 // The refusal of a script that does not decode, with the reader's number and place.
-fn refused(decoded: Read) -> Answer
-    ensures { result ≡ refused_by decoded }
+fn refused(refusal: Refusal) -> Answer
+    ensures { result ≡ refused_by refusal }
 {
     Answer::Refused {
-        number: number(decoded) as usize,
-        place: place(decoded),
+        number: u32::from(refusal.fault) as usize,
+        place: refusal.place,
     }
 }
 
@@ -193,9 +190,8 @@ pub fn run(table: &[u8], script: &[u8], budget: u32, work: &mut [u32], journal: 
             place: 0,
         };
     }
-    let decoded = script::read_script(script, work);
-    let Read::Done(end) = decoded else {
-        return refused(decoded);
-    };
-    run_decoded(table, script, budget as usize, work, end, journal)
+    match script::read_script(script, work) {
+        Ok(end) => run_decoded(table, script, budget as usize, work, end, journal),
+        Err(refusal) => refused(refusal),
+    }
 }

@@ -15,40 +15,43 @@ pub struct Values {
 }
 
 // The values of an answer. Done, number and place are 0; refused, steps, furthest line and length are.
-pub fn of(a: Answer) -> Values
-    ensures { result ≡ values_of a }
-{
-    match a {
-        Answer::Done {
-            steps,
-            furthest,
-            length,
-        } => Values {
-            number: 0,
-            steps,
-            furthest,
-            length,
-            place: 0,
-        },
-        Answer::Stopped {
-            number,
-            steps,
-            furthest,
-            length,
-            place,
-        } => Values {
-            number,
-            steps,
-            furthest,
-            length,
-            place,
-        },
-        Answer::Refused { number, place } => Values {
-            number,
-            steps: 0,
-            furthest: 0,
-            length: 0,
-            place,
-        },
+impl From<Answer> for Values {
+    ghost from_gives = { λ a v. v ≡ values_of a };
+
+    #[tactic(auto, unfolding(crate::specs::Answers::values_of))]
+    fn from(a: Answer) -> Values {
+        match a {
+            Answer::Done {
+                steps,
+                furthest,
+                length,
+            } => Values {
+                number: 0,
+                steps,
+                furthest,
+                length,
+                place: 0,
+            },
+            Answer::Stopped {
+                number,
+                steps,
+                furthest,
+                length,
+                place,
+            } => Values {
+                number,
+                steps,
+                furthest,
+                length,
+                place,
+            },
+            Answer::Refused { number, place } => Values {
+                number,
+                steps: 0,
+                furthest: 0,
+                length: 0,
+                place,
+            },
+        }
     }
 }

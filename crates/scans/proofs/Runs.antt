@@ -1,13 +1,15 @@
 -- Laws of runs of bytes that pass a test. Assumes nothing.
-use mathlib.Core.Path.{◌≡◌, refl}
-use mathlib.Core.Bool.{Bool, true, false, ◌&&◌}
+use mathlib.Core.Path.{◌≡◌, sym, refl, ap, ◌∙◌}
+use mathlib.Core.Bool.{Bool, true, false, ◌&&◌, and-true}
 use mathlib.Core.List.{List, [], ◌∷◌}
 use Prim.Native.Nat.{ℕ, zero, suc, ◌+◌, ◌-◌, ◌≤◌, ◌<◌}
 use native.Mathlib.Nat.{not-suc-le-zero, add-zero}
 use native.Mathlib.Numerals.{add-one}
 use native.Mathlib.Omega.{arith}
-use lib.ListN.{length, drop, get_or, length-drop}
-use lib.Seq.{drop-cons, get_or-drop}
+use lib.ListN.{length, take, drop, get_or, length-drop}
+use lib.Seq.{drop-cons, get_or-drop, get_or-take, length-take-le}
+use Rattle.std.specs.List.{fold}
+use Rattle.text.specs.Lines.{part}
 use lib.Dec.{eqb, eqb-zero-suc, eqb-suc-suc}
 use borrow.Author.Tests.{eqb-true}
 use Rattle.scans.specs.Leading.{leading}
@@ -82,20 +84,28 @@ module _ (test : ℕ → Bool) where
   abbrev pub all_pass : ℕ → List ℕ → Bool
   all_pass n bs = eqb (leading test n bs) n
 
-  pass-more : (n : ℕ) (bs : List ℕ) → n < length bs → all_pass (suc n) bs ≡ (all_pass n bs && test (get_or bs n 0))
+  pub pass-fold : (bs : List ℕ) (t : Bool) → fold (λ all b. all && test b) t bs ≡ (t && all_pass (length bs) bs)
   unfolding leading
-  pass-more n [] h = absurd (not-suc-le-zero h)
-  pass-more zero (b ∷ bs) h = go (test b)
+  pass-fold [] t = sym (and-true t)
+  pass-fold (b ∷ bs) t = pass-fold bs (t && test b) ∙ go t (test b)
     where
-      go : (t : Bool) → eqb (elim t [ true ↦ 1 | false ↦ 0 ]) 1 ≡ t
-      go true = refl
-      go false = refl
-  pass-more (suc n) (b ∷ bs) h = go (test b) (pass-more n bs (omega arith))
-    where
-      go : (t : Bool) → all_pass (suc n) bs ≡ (all_pass n bs && test (get_or bs n 0))
-          → eqb (elim t [ true ↦ suc (leading test (suc n) bs) | false ↦ 0 ]) (suc (suc n)) ≡ (eqb (elim t [ true ↦ suc (leading test n bs) | false ↦ 0 ]) (suc n) && test (get_or bs n 0))
-      go true ih = rw (eqb-suc-suc (leading test (suc n) bs) (suc n), eqb-suc-suc (leading test n bs) n) ih
-      go false ih = rw (eqb-zero-suc (suc n), eqb-zero-suc n)
+      go : (t u : Bool) → ((t && u) && all_pass (length bs) bs) ≡ (t && eqb (elim u [ true ↦ suc (leading test (length bs) bs) | false ↦ 0 ]) (suc (length bs)))
+      go false u = refl
+      go true true = sym (eqb-suc-suc (leading test (length bs) bs) (length bs))
+      go true false = sym (eqb-zero-suc (length bs))
+
+  leading-take : (n : ℕ) (bs : List ℕ) → leading test n (take n bs) ≡ leading test n bs
+  unfolding leading
+  leading-take zero bs = refl
+  leading-take (suc n) [] = refl
+  leading-take (suc n) (b ∷ bs) = ap (λ (k : ℕ). elim (test b) [ true ↦ suc k | false ↦ 0 ]) (leading-take n bs)
+
+  -- n bytes of a slice
+  pub pass-part : (s : List ℕ) (from n : ℕ) → from + n ≤ length s → all_pass (length (part from (from + n) s)) (part from (from + n) s) ≡ all_pass n (drop from s)
+  pass-part s from n h =
+      let wide : from + n - from ≡ n = omega arith in
+      let long : length (take n (drop from s)) ≡ n = length-take-le n (drop from s) (simp length-drop (omega arith)) in
+      rw (wide, long, leading-take n (drop from s))
 
   passes-before : (n : ℕ) (bs : List ℕ) (k : ℕ) → k < leading test n bs → test (get_or bs k 0) ≡ true
   unfolding leading
@@ -118,16 +128,26 @@ module _ (test : ℕ → Bool) where
       let place : i + suc d ≡ (i + 1) + d = omega arith in
       rw (here, rest, place)
 
+  -- the first i bytes of a part pass, and no byte follows, or one that does not
+  module _ (s : List ℕ) (at end : ℕ) (low : at ≤ end) (fits : end ≤ length s) where
+    part-byte : (k : ℕ) → k < end - at → get_or (part at end s) k 0 ≡ get_or s (at + k) 0
+    part-byte k h = get_or-take (end - at) (drop at s) k 0 h ∙ get_or-drop at s k 0
+
+    pub reach-over-part : (i : ℕ) → i ≤ end - at → ((k : ℕ) → k < i → test (get_or (part at end s) k 0) ≡ true) → reach s at end ≡ reach s (at + i) end
+    reach-over-part i most all =
+        pass-each s end fits i at (omega arith)
+        (λ k above below. let place : at + (k - at) ≡ k = omega arith in rw (part-byte (k - at) (omega arith), place) at (all (k - at) (omega arith)))
+
+    pub reach-at : (i : ℕ) → i < end - at → test (get_or (part at end s) i 0) ≡ false → ((k : ℕ) → k < i → test (get_or (part at end s) k 0) ≡ true) → at + i ≡ reach s at end
+    reach-at i more stop all =
+        sym (reach-over-part i (omega arith) all ∙ reach-stop s (at + i) end (omega arith) fits (rw (part-byte i more) at stop))
+
+    pub reach-all : ((k : ℕ) → k < end - at → test (get_or (part at end s) k 0) ≡ true) → end ≡ reach s at end
+    reach-all all =
+        let place : at + (end - at) ≡ end = omega arith in
+        sym (rw place at (reach-over-part (end - at) (omega arith) all) ∙ reach-end s end end (omega arith))
+
   module _ (s : List ℕ) (from : ℕ) where
-    pub pass-none : all_pass 0 (drop from s) ≡ true
-    unfolding leading
-    pass-none = refl
-
-    pub pass-next : (n : ℕ) → from + n < length s → all_pass (n + 1) (drop from s) ≡ (all_pass n (drop from s) && test (get_or s (from + n) 0))
-    pass-next n h =
-        let inside : n < length (drop from s) = simp length-drop (omega arith) in
-        rw (add-one n, ← get_or-drop from s n 0) (pass-more n (drop from s) inside)
-
     -- each of n bytes that all pass
     pass-among : (n : ℕ) → all_pass n (drop from s) ≡ true → (k : ℕ) → from ≤ k → k < from + n → test (get_or s k 0) ≡ true
     pass-among n all k low high =

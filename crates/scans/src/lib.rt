@@ -4,10 +4,9 @@
 ghost use Rattle.std.specs.Prelude.{◌≡◌, ◌+◌, ◌-◌, ◌≤◌, length, drop, eqb};
 ghost use Rattle.scans.specs.Leading.{leading, is_of};
 
-use text::copies::lesser;
 use text::upper;
 
-// A kind of bytes.
+// A kind of bytes: data, not a closure, since contracts name it.
 #[derive(Clone, Copy)]
 pub enum Kind {
     // This byte.
@@ -29,8 +28,8 @@ fn is_of(kind: Kind, b: u8) -> bool
         Kind::Only(a) => b == a,
         Kind::Not(a) => b != a,
         Kind::NotFolded(a) => upper(b) != a,
-        Kind::Either(a, c) => { if b == a { true } else { b == c } }
-        Kind::Neither(a, c) => { if b == a { false } else { b != c } }
+        Kind::Either(a, c) => b == a || b == c,
+        Kind::Neither(a, c) => b != a && b != c,
     }
 }
 
@@ -39,31 +38,20 @@ pub fn past(s: &[u8], at: usize, end: usize, kind: Kind) -> usize
     requires { (at ≤ end) × (end ≤ length s.now) }
     ensures { (result ≡ at + leading (is_of kind) (end - at) (drop at s.now)) × (result ≤ end) }
 {
-    let mut i = at;
-    while i < end {
-        if !is_of(kind, s[i]) {
-            return i;
-        }
-        i += 1;
+    match s[at..end].iter().position(|b| !is_of(kind, *b)) {
+        Some(i) => at + i,
+        None => end,
     }
-    i
 }
 
-// Whether the eight bytes from `at` on are all of a kind. No way leads out of the loop, so that all eight are looked at at once.
-fn eight_are_of(s: &[u8], at: usize, kind: Kind) -> bool
-    requires { at + 8 ≤ length s.now }
-    ensures { result ≡ eqb (leading (is_of kind) 8 (drop at s.now)) 8 }
+// Whether bytes are all of a kind. No way leads out of the fold, so that eight are looked at at once.
+fn all_are_of(s: &[u8], kind: Kind) -> bool
+    ensures { result ≡ eqb (leading (is_of kind) (length s.now) s.now) (length s.now) }
 {
-    let mut all = true;
-    let mut k: usize = 0;
-    while k < 8 {
-        all = all & is_of(kind, s[at + k]);
-        k += 1;
-    }
-    all
+    s.iter().fold(true, |all, b| all & is_of(kind, *b))
 }
 
-// The same place for runs that may be long: eight bytes at a time. The last eight are those before `end`, where fewer are left: some are then looked at twice.
+// The same place for runs that may be long: eight bytes at a time. The last eight are those before `end`, where fewer are left: some are then looked at twice, which no iterator over chunks does.
 pub fn past_long(s: &[u8], at: usize, end: usize, kind: Kind) -> usize
     requires { (at ≤ end) × (end ≤ length s.now) }
     ensures { (result ≡ at + leading (is_of kind) (end - at) (drop at s.now)) × (result ≤ end) }
@@ -71,8 +59,8 @@ pub fn past_long(s: &[u8], at: usize, end: usize, kind: Kind) -> usize
     let mut i = at;
     if 8 <= end {
         while i < end {
-            let from = lesser(i, end - 8);
-            if !eight_are_of(s, from, kind) {
+            let from = i.min(end - 8);
+            if !all_are_of(&s[from..from + 8], kind) {
                 break;
             }
             i = from + 8;

@@ -12,8 +12,10 @@ use Rattle.definitions.specs.Control.{Item, simple, opens, leave, forever, branc
 use Rattle.definitions.specs.Reader.{Cursor, got, refused, Token, token}
 use Rattle.definitions.specs.Commands.{prefix, moves, deletes, seeks, inserts_string, inserts_lines, replaces, alters, points, splits, joins, globals, names_words, branches, loops, skip_then, shape_of, decode}
 use Rattle.definitions.specs.Script.{Due, Group, is_in_group, decoded, named, count_read}
-use Rattle.answers.specs.declared.Answer.{Answer}
-use Rattle.answers.specs.declared.Follow.{Follow}
+use Rattle.std.specs.Prelude.{Ok}
+use Rattle.answers.specs.declared.Command.{Command}
+use Rattle.answers.specs.declared.Read.{Read}
+use Rattle.answers.specs.Answers.{whole_read, prefix_read}
 use Rattle.answers.specs.declared.State.{State}
 use Rattle.lexer.specs.Places.{cursor_at}
 use Rattle.lexer.specs.Shapes.{plain_of, seek_of, change_of, shape_in}
@@ -76,9 +78,9 @@ module _ (g : Bool) (place : ℕ) (c : Cursor) (shape : ShapeHere) where
   unfolding decode shape_in
   is-joins e = rw e
 
-  pub is-globals : (change : ChangeHere) → shape ≡ Globals change → decode g place (shape_in shape) c ≡ decode false place (globals (change_of change)) c
+  pub is-globals : (k : ChangeHere) → shape ≡ Globals k → decode g place (shape_in shape) c ≡ decode false place (globals (change_of k)) c
   unfolding decode shape_in
-  is-globals change e = rw e
+  is-globals k e = rw e
 
   pub is-names : shape ≡ Names → decode g place (shape_in shape) c ≡ decode false place names_words c
   unfolding decode shape_in
@@ -112,24 +114,24 @@ pub long-loop : (shape : ShapeHere) (place at : ℕ) (b : Bool) → shape ≡ Lo
 unfolding NameOf
 long-loop shape place at b e h = rw e at h
 
-module _ (s w w' : List ℕ) (place at k : ℕ) (r : CommandRoom s w place at k) (g : Bool) (shape : ShapeHere) (x : Answer) where
+module _ (s w w' : List ℕ) (place at k : ℕ) (r : CommandRoom s w place at k) (g : Bool) (shape : ShapeHere) (x : Read Command) where
   room : k + 16 < length w
   room = omega (arith, r.room, r.fits.work)
 
-  pub plain-written : (p : PlainHere) (kind : ℕ) → shape ≡ Plain p → kind ≡ plain_kind p → (w' ≡ set w k (head kind place)) × (x ≡ Answer.Command Follow.Nothing at (k + 1))
-      → CommandRead s w w' place k (decode g place (shape_in shape) (cursor_at s at)) x
+  pub plain-written : (p : PlainHere) (kind : ℕ) → shape ≡ Plain p → kind ≡ plain_kind p → (w' ≡ set w k (head kind place)) × (x ≡ whole_read (k + 1) at)
+      → CommandRead s w w' place k (decode g place (shape_in shape) (cursor_at s at)) (Ok x)
   unfolding decode shape_in open_after
   plain-written p kind e is (we, xe) = rw (e, we, xe, is)
       (whole-one s w place at k r (decode g place (shape_in (Plain p)) (cursor_at s at)) (simple place (plain_of p)) at (omega arith) r.inside (λ n. omega arith) (head (plain_kind p) place) refl
       (plain-item s (set w k (head (plain_kind p) place)) k place p (one-is w k (head (plain_kind p) place) room)))
 
-  pub leaves-written : shape ≡ Leaves → (w' ≡ set w k (head leave_kind place)) × (x ≡ Answer.Command Follow.Nothing at (k + 1)) → CommandRead s w w' place k (decode g place (shape_in shape) (cursor_at s at)) x
+  pub leaves-written : shape ≡ Leaves → (w' ≡ set w k (head leave_kind place)) × (x ≡ whole_read (k + 1) at) → CommandRead s w w' place k (decode g place (shape_in shape) (cursor_at s at)) (Ok x)
   unfolding decode shape_in ItemAt open_after
   leaves-written e (we, xe) = rw (e, we, xe)
       (whole-one s w place at k r (decode g place (shape_in Leaves) (cursor_at s at)) (leave place) at (omega arith) r.inside (λ n. omega arith) (head leave_kind place) refl
       (refl, one-is w k (head leave_kind place) room))
 
-  pub repeats-written : shape ≡ Repeats → NameOf shape place at → (w' ≡ set w k (head repeat_kind place)) × (x ≡ Answer.Command (Follow.Body false) at (k + 1)) → CommandRead s w w' place k (decode g place (shape_in shape) (cursor_at s at)) x
+  pub repeats-written : shape ≡ Repeats → NameOf shape place at → (w' ≡ set w k (head repeat_kind place)) × (x ≡ prefix_read false (k + 1) at) → CommandRead s w w' place k (decode g place (shape_in shape) (cursor_at s at)) (Ok x)
   unfolding decode shape_in ItemAt OpenerAt open_after
   repeats-written e long (we, xe) =
       let far = long-repeat shape place at e long in
@@ -138,7 +140,7 @@ module _ (s w w' : List ℕ) (place at k : ℕ) (r : CommandRoom s w place at k)
       (refl, one-is w k (head repeat_kind place) room))
 
   pub eof-written : (next : ℕ) → shape ≡ BranchesEof → NameOf shape place at → skip_then (cursor_at s at) ≡ cursor_at s next → at ≤ next → next ≤ length s
-      → (w' ≡ set w k (head if_eof_kind place)) × (x ≡ Answer.Command (Follow.Body true) next (k + 1)) → CommandRead s w w' place k (decode g place (shape_in shape) (cursor_at s at)) x
+      → (w' ≡ set w k (head if_eof_kind place)) × (x ≡ prefix_read true (k + 1) next) → CommandRead s w w' place k (decode g place (shape_in shape) (cursor_at s at)) (Ok x)
   unfolding decode shape_in ItemAt OpenerAt open_after
   eof-written next e long then from to (we, xe) =
       let far = long-eof shape place at e long in

@@ -11,13 +11,14 @@ use Rattle.definitions.specs.Bytes.{is_digit, is_letter}
 use Rattle.definitions.specs.Control.{Item}
 use Rattle.definitions.specs.Reader.{place_at, skip_spaces, skip_comment, token, digits, name}
 use Rattle.definitions.specs.Script.{Due, Group, AfterRound, done, open_group, close_group, separator, line_items, script_end, count_read, named, class_of, by_class, read_at, read_one}
-use Rattle.answers.specs.declared.Answer.{Answer}
+use Rattle.std.specs.Prelude.{Result, Ok, Err}
+use Rattle.answers.specs.declared.Read.{Read}
+use Rattle.answers.specs.declared.Refusal.{Refusal}
 use Rattle.answers.specs.declared.State.{State}
-use Rattle.answers.specs.Answers.{RoundOr}
 use Rattle.lexer.specs.Places.{cursor_at}
 use Rattle.lexer.proofs.AtPlace.{next-in, after-in}
 use Rattle.lexer.proofs.Blanks.{comment-more}
-use Rattle.script.specs.Reading.{due_of, groups_in, reading_of, ReadSoFar, RoundRead}
+use Rattle.script.specs.Reading.{due_of, groups_in, reading_of, ReadSoFar, OnwardRead}
 use Rattle.script.proofs.Affording.{affords-on}
 
 module _ (due : Due) (groups : List Group) (acc : List Item) (s : List ℕ) (at : ℕ) where
@@ -79,7 +80,6 @@ module _ (s w : List ℕ) (st : State) (at : ℕ) (acc : List Item) (i : ℕ) wh
   pub stands_on : ReadSoFar s w st at acc → at ≤ i → i ≤ length s → ReadSoFar s w st i acc
   stands_on h from to = record { inside = to; deep = h.deep; no_body = h.no_body; gathered = h.gathered; affords = affords-on h.affords i from; fits = h.fits }
 
-pub comes-from : (s w : List ℕ) (at i : ℕ) (x : AfterRound) (r : Answer) → at ≤ i → RoundRead s w i x r → RoundRead s w at x r
-comes-from s w at i x r le (RoundOr.more st next (acc, e, h, far)) = RoundOr.more st next (acc, e, h, omega arith)
-comes-from s w at i x r le (RoundOr.done n h) = RoundOr.done n h
-comes-from s w at i x r le (RoundOr.refused n p h) = RoundOr.refused n p h
+pub comes-from : (s w : List ℕ) (at i : ℕ) (x : AfterRound) (r : Result (Read State) Refusal) → at ≤ i → OnwardRead s w i x r → OnwardRead s w at x r
+comes-from s w at i x (Ok r) le (acc, e, h, far) = (acc, e, h, omega arith)
+comes-from s w at i x (Err r) le e = e

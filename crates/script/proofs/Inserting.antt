@@ -15,11 +15,10 @@ use Rattle.definitions.specs.Edit.{Op, replace, insert, join}
 use Rattle.definitions.specs.Control.{Item, simple}
 use Rattle.definitions.specs.Reader.{Cursor, Got, got, refused, and_then, skip_spaces, quoted}
 use Rattle.definitions.specs.Commands.{Decoded, whole, Shape, inserts_lines, replaces, line_span, optional_target, script_lines, replace_op, decode}
-use Rattle.answers.specs.declared.Answer.{Answer}
-use Rattle.answers.specs.declared.Follow.{Follow}
-use Rattle.answers.specs.Answers.{CommandOr}
+use Rattle.std.specs.Prelude.{Ok}
+use Rattle.answers.specs.Answers.{whole_read}
 use Rattle.lexer.specs.Places.{cursor_at}
-use Rattle.lexer.specs.Answers.{TwoAt, QuotedRead}
+use Rattle.lexer.specs.Answers.{ValueAt, part_in, QuotedRead}
 use Rattle.lexer.specs.Targets.{target_of, through_of, span_of, option_of}
 use Rattle.lexer.specs.Inserted.{lines_to}
 use Rattle.lexer.proofs.Given.{goes_on, passed-up}
@@ -102,9 +101,9 @@ module _ (s w : List ℕ) (place at k : ℕ) (r : CommandRoom s w place at k) wh
 
   pub whole_four : (x : Got Decoded) (i : Item) (next : ℕ) → ((n : ℕ) → open_after n i ≡ n + 0) → place + 2 ≤ next → next ≤ length s → (a b c d : ℕ) → x ≡ got (whole i) (cursor_at s next)
       → ItemAt s (set (set (set (set w k a) (k + 1) b) (k + 2) c) (k + 3) d) k (k + 4) i
-      → CommandRead s w (set (set (set (set w k a) (k + 1) b) (k + 2) c) (k + 3) d) place k x (Answer.Command Follow.Nothing next (k + 4))
+      → CommandRead s w (set (set (set (set w k a) (k + 1) b) (k + 2) c) (k + 3) d) place k x (Ok (whole_read (k + 4) next))
   unfolding CommandIs
-  whole_four x i next quiet from to a b c d e it = CommandOr.read Follow.Nothing next (k + 4) (
+  whole_four x i next quiet from to a b c d e it = (
     four-stay w k a b c d (omega (arith, far)),
     (i, e, record { passed = omega arith; inside = to; forth = omega arith; two = omega arith; opening = quiet; item = it }),
   )
@@ -116,8 +115,8 @@ module _ (s w : List ℕ) (place at k : ℕ) (r : CommandRoom s w place at k) wh
     quotes-refused n p e = quotes-decode q place (cursor_at s at) ∙ passed-up (quoted (skip_spaces (cursor_at s at))) _ n p (ap quoted spaces ∙ e)
 
     pub quotes-written : at ≤ i → (start end next v u : ℕ) → v ≡ head kind place → u ≡ string_word start (end - start)
-        → TwoAt s (λ a e. take (e - a) (drop a s)) (QuotedRead i) (quoted (cursor_at s i)) start end next
-        → CommandRead s w (set (set w k v) (k + 1) u) place k (decode false place shape (cursor_at s at)) (Answer.Command Follow.Nothing next (k + 2))
+        → ValueAt s (part_in s) (QuotedRead i) (quoted (cursor_at s i)) (record { start = start; end = end }) next
+        → CommandRead s w (set (set w k v) (k + 1) u) place k (decode false place shape (cursor_at s at)) (Ok (whole_read (k + 2) next))
     unfolding ItemAt open_after
     quotes-written after start end next v u hd wd (read, (one, le, from), to) =
         let l : Line = take (end - start) (drop start s) in
@@ -157,7 +156,7 @@ module _ (s w : List ℕ) (place at k : ℕ) (r : CommandRoom s w place at k) wh
 
   pub inserts-written : (x : Got Decoded) (a start end next v u : ℕ) → a ≤ 65537 → v ≡ head insert_lines_kind place → u ≡ spot_word a
       → x ≡ got (whole (simple place (insert (option_of a) (lines_to s start end)))) (cursor_at s next) → at ≤ start → start ≤ end → next ≡ suc end → next ≤ length s
-      → CommandRead s w (set (set (set (set w k v) (k + 1) u) (k + 2) start) (k + 3) end) place k x (Answer.Command Follow.Nothing next (k + 4))
+      → CommandRead s w (set (set (set (set w k v) (k + 1) u) (k + 2) start) (k + 3) end) place k x (Ok (whole_read (k + 4) next))
   unfolding ItemAt OpAt open_after
   inserts-written x a start end next v u small hd wd e from le nx to =
       whole_four x (simple place (insert (option_of a) (lines_to s start end))) next (λ n. omega arith) (omega (arith, r.named)) to v u start end e
@@ -178,14 +177,14 @@ module _ (s w : List ℕ) (place at k : ℕ) (r : CommandRoom s w place at k) wh
     unfolding decode
     span-refused n p e = passed-up (line_span (cursor_at s at)) _ n p e
 
-    pub span-read : (a b from : ℕ) → line_span (cursor_at s at) ≡ got (span_of a b) (cursor_at s from) → decode grouped place replaces (cursor_at s at)
+    pub span-read : (a b from : ℕ) → line_span (cursor_at s at) ≡ got (span_of (record { first = a; last = b })) (cursor_at s from) → decode grouped place replaces (cursor_at s at)
         ≡ and_then (script_lines grouped (cursor_at s from)) (λ ls c₂. got (whole (simple place (replace (target_of a) (through_of b) ls))) c₂)
     unfolding decode span_of replace_op
-    span-read a b from e = goes_on (line_span (cursor_at s at)) _ (span_of a b) (cursor_at s from) e
+    span-read a b from e = goes_on (line_span (cursor_at s at)) _ (span_of (record { first = a; last = b })) (cursor_at s from) e
 
   pub replaces-written : (x : Got Decoded) (a b start end next v u : ℕ) → a < 65536 → v ≡ head_with replace_kind place (span_number b) → u ≡ span_word a b
       → x ≡ got (whole (simple place (replace (target_of a) (through_of b) (lines_to s start end)))) (cursor_at s next) → at ≤ start → start ≤ end → next ≡ suc end → next ≤ length s
-      → CommandRead s w (set (set (set (set w k v) (k + 1) u) (k + 2) start) (k + 3) end) place k x (Answer.Command Follow.Nothing next (k + 4))
+      → CommandRead s w (set (set (set (set w k v) (k + 1) u) (k + 2) start) (k + 3) end) place k x (Ok (whole_read (k + 4) next))
   unfolding ItemAt OpAt open_after
   replaces-written x a b start end next v u small hd wd e from le nx to =
       whole_four x (simple place (replace (target_of a) (through_of b) (lines_to s start end))) next (λ n. omega arith) (omega (arith, r.named)) to v u start end e (

@@ -15,11 +15,10 @@ use Rattle.definitions.specs.Edit.{move}
 use Rattle.definitions.specs.Control.{times, Item, simple, opens}
 use Rattle.definitions.specs.Reader.{Got, got, refused, skip_spaces, token, digits}
 use Rattle.definitions.specs.Commands.{Decoded, whole, prefix, moves, target, decode}
-use Rattle.answers.specs.declared.Answer.{Answer}
-use Rattle.answers.specs.declared.Follow.{Follow}
-use Rattle.answers.specs.Answers.{CommandOr}
+use Rattle.std.specs.Prelude.{Ok}
+use Rattle.answers.specs.Answers.{whole_read, prefix_read}
 use Rattle.lexer.specs.Places.{cursor_at}
-use Rattle.lexer.specs.Answers.{NumberAt, NumberUpTo, capped}
+use Rattle.lexer.specs.Answers.{ValueAt, NumberUpTo, capped}
 use Rattle.lexer.specs.Targets.{target_of}
 use Rattle.lexer.specs.Shapes.{plain_of}
 use Rattle.lexer.proofs.Digits.{capped_small, capped-large}
@@ -66,24 +65,24 @@ module _ (s w : List ℕ) (place at k : ℕ) (r : CommandRoom s w place at k) (x
   pub room-two : k + 34 ≤ length w
   room-two = omega (arith, r.room, r.named, r.inside, r.fits.work)
 
-  pub whole-one : ((n : ℕ) → open_after n i ≡ n + 0) → (a : ℕ) → x ≡ got (whole i) (cursor_at s next) → ItemAt s (set w k a) k (k + 1) i → CommandRead s w (set w k a) place k x (Answer.Command Follow.Nothing next (k + 1))
+  pub whole-one : ((n : ℕ) → open_after n i ≡ n + 0) → (a : ℕ) → x ≡ got (whole i) (cursor_at s next) → ItemAt s (set w k a) k (k + 1) i → CommandRead s w (set w k a) place k x (Ok (whole_read (k + 1) next))
   unfolding CommandIs
-  whole-one quiet a e it = CommandOr.read Follow.Nothing next (k + 1) (
+  whole-one quiet a e it = (
     one-stays w k a (omega (arith, room-two)),
     (i, e, record { passed = omega (arith, r.named); inside = to; forth = omega arith; two = omega (arith, r.named); opening = quiet; item = it }),
   )
 
-  pub prefix-one : ((n : ℕ) → open_after n i ≡ n + 1) → Apart s place k next (k + 1) → (a : ℕ) (b : Bool) → x ≡ got (prefix b i) (cursor_at s next) → ItemAt s (set w k a) k (k + 1) i → CommandRead s w (set w k a) place k x (Answer.Command (Follow.Body b) next (k + 1))
+  pub prefix-one : ((n : ℕ) → open_after n i ≡ n + 1) → Apart s place k next (k + 1) → (a : ℕ) (b : Bool) → x ≡ got (prefix b i) (cursor_at s next) → ItemAt s (set w k a) k (k + 1) i → CommandRead s w (set w k a) place k x (Ok (prefix_read b (k + 1) next))
   unfolding CommandIs
-  prefix-one one_more apart a b e it = CommandOr.read (Follow.Body b) next (k + 1) (
+  prefix-one one_more apart a b e it = (
     one-stays w k a (omega (arith, room-two)),
     (i, e, record { passed = omega (arith, r.named); inside = to; forth = omega arith; two = omega (arith, r.named); opening = one_more; item = it }, apart),
   )
 
   pub whole-two : ((n : ℕ) → open_after n i ≡ n + 0) → (a b : ℕ) → x ≡ got (whole i) (cursor_at s next) → ItemAt s (set (set w k a) (k + 1) b) k (k + 2) i
-      → CommandRead s w (set (set w k a) (k + 1) b) place k x (Answer.Command Follow.Nothing next (k + 2))
+      → CommandRead s w (set (set w k a) (k + 1) b) place k x (Ok (whole_read (k + 2) next))
   unfolding CommandIs
-  whole-two quiet a b e it = CommandOr.read Follow.Nothing next (k + 2) (
+  whole-two quiet a b e it = (
     two-stay w k a b (omega (arith, room-two)),
     (i, e, record { passed = omega (arith, r.named); inside = to; forth = omega arith; two = omega (arith, r.named); opening = quiet; item = it }),
   )
@@ -105,7 +104,7 @@ module _ (s w : List ℕ) (place k v next : ℕ) (r : CommandRoom s w place (pla
       over n e m = rw (e, counted, lt-leb n 65535 m)
 
   pub small_count : Apart s place k next (k + 1) → (a : ℕ) → a ≡ head_with count_kind place v → v < 512 → place < next → next ≤ length s
-      → CommandRead s w (set w k a) place k (counted place (digits (cursor_at s place))) (Answer.Command (Follow.Body false) next (k + 1))
+      → CommandRead s w (set w k a) place k (counted place (digits (cursor_at s place))) (Ok (prefix_read false (k + 1) next))
   unfolding ItemAt OpenerAt TimesAt open_after
   small_count apart a is h far to =
       prefix-one s w place (place + 1) k r (counted place (digits (cursor_at s place))) (opens place (times v)) next (omega arith) to (λ n. refl) apart a false
@@ -113,11 +112,10 @@ module _ (s w : List ℕ) (place k v next : ℕ) (r : CommandRoom s w place (pla
       (inl (h, (refl, one-is w k a (omega (arith, r.room, r.named, r.inside, r.fits.work)) ∙ is)))
 
   pub large-count : Apart s place k next (k + 2) → (a : ℕ) → a ≡ head long_count_kind place → v ≤ 65535 → suc place < next → next ≤ length s
-      → CommandRead s w (set (set w k a) (k + 1) v) place k (counted place (digits (cursor_at s place))) (Answer.Command (Follow.Body false) next (k + 2))
+      → CommandRead s w (set (set w k a) (k + 1) v) place k (counted place (digits (cursor_at s place))) (Ok (prefix_read false (k + 2) next))
   unfolding ItemAt OpenerAt TimesAt CommandIs open_after
   large-count apart a is h far to =
-      let room : k + 17 < length w = omega (arith, r.room, r.named, r.inside, r.fits.work) in
-      CommandOr.read (Follow.Body false) next (k + 2) (
+      let room : k + 17 < length w = omega (arith, r.room, r.named, r.inside, r.fits.work) in (
         two-stay w k a v room,
         (
           opens place (times v),
@@ -166,8 +164,8 @@ module _ (s w : List ℕ) (place at k : ℕ) (r : CommandRoom s w place at k) (i
   unfolding decode
   moves-refused n p e = passed-up (target (skip_spaces (cursor_at s at))) _ n p (ap target spaces ∙ e)
 
-  pub moves-written : at ≤ i → (a next v : ℕ) → v ≡ head move_kind place → NumberAt s target_of (NumberUpTo 65536 (suc i)) (target (cursor_at s i)) a next
-      → CommandRead s w (set (set w k v) (k + 1) a) place k (decode false place moves (cursor_at s at)) (Answer.Command Follow.Nothing next (k + 2))
+  pub moves-written : at ≤ i → (a next v : ℕ) → v ≡ head move_kind place → ValueAt s target_of (NumberUpTo 65536 (suc i)) (target (cursor_at s i)) a next
+      → CommandRead s w (set (set w k v) (k + 1) a) place k (decode false place moves (cursor_at s at)) (Ok (whole_read (k + 2) next))
   unfolding decode ItemAt OpAt open_after
   moves-written after a next v hd (read, (small, from), to) =
       whole-two s w place at k r (decode false place moves (cursor_at s at)) (simple place (move (target_of a))) next (omega arith) to (λ n. omega arith) v a

@@ -12,10 +12,10 @@ use Rattle.definitions.specs.Edit.{delete}
 use Rattle.definitions.specs.Control.{simple}
 use Rattle.definitions.specs.Reader.{refused}
 use Rattle.definitions.specs.Commands.{deletes, line_span, delete_op, decode}
-use Rattle.answers.specs.declared.Answer.{Answer}
-use Rattle.answers.specs.declared.Follow.{Follow}
+use Rattle.std.specs.Prelude.{Ok}
+use Rattle.answers.specs.Answers.{whole_read}
 use Rattle.lexer.specs.Places.{cursor_at}
-use Rattle.lexer.specs.Answers.{TwoAt}
+use Rattle.lexer.specs.Answers.{ValueAt}
 use Rattle.lexer.specs.Targets.{target_of, through_of, span_of, SpanRead}
 use Rattle.lexer.proofs.Given.{goes_on, passed-up}
 use Rattle.items.specs.Kinds.{delete_kind}
@@ -52,12 +52,12 @@ module _ (s w : List ℕ) (place at k : ℕ) (r : CommandRoom s w place at k) wh
   unfolding decode
   deletes-refused n p e = passed-up (line_span (cursor_at s at)) _ n p e
 
-  pub deletes-written : (a b next v u : ℕ) → v ≡ head_with delete_kind place (span_number b) → u ≡ span_word a b → TwoAt s span_of (SpanRead at) (line_span (cursor_at s at)) a b next
-      → CommandRead s w (set (set w k v) (k + 1) u) place k (decode false place deletes (cursor_at s at)) (Answer.Command Follow.Nothing next (k + 2))
+  pub deletes-written : (a b next v u : ℕ) → v ≡ head_with delete_kind place (span_number b) → u ≡ span_word a b → ValueAt s span_of (SpanRead at) (line_span (cursor_at s at)) (record { first = a; last = b }) next
+      → CommandRead s w (set (set w k v) (k + 1) u) place k (decode false place deletes (cursor_at s at)) (Ok (whole_read (k + 2) next))
   unfolding decode span_of delete_op ItemAt OpAt open_after
   deletes-written a b next v u hd wd (read, (le, small, from), to) =
       whole-two s w place at k r (decode false place deletes (cursor_at s at)) (simple place (delete (target_of a) (through_of b))) next from to (λ n. omega arith) v u
-      (goes_on (line_span (cursor_at s at)) _ (span_of a b) (cursor_at s next) read)
+      (goes_on (line_span (cursor_at s at)) _ (span_of (record { first = a; last = b })) (cursor_at s next) read)
       (refl, span-item s (set (set w k v) (k + 1) u) k delete_kind place a b (first-is w k v u room ∙ hd) (second_is w k v u room ∙ wd) (omega arith) (omega (arith, r.named, r.inside, r.fits.small)))
     where
       room : k + 17 < length w

@@ -1,4 +1,5 @@
 -- WORD in words: its string decoded. Assumes nothing.
+use Rattle.std.specs.Prelude.{Ok, Err}
 use mathlib.Core.Path.{◌≡◌, refl, sym, ap, ◌∙◌}
 use mathlib.Core.Bool.{true, false}
 use mathlib.Core.List.{List, [], ◌∷◌}
@@ -18,12 +19,11 @@ use Rattle.theorems.specs.ReaderSteps.{quoted-line}
 use Rattle.wordset.specs.Sets.{SetAt}
 use Rattle.wordset.specs.Decoding.{ThreePut, DecodedAs}
 use Rattle.wordset.specs.Laws.{same_set}
-use Rattle.wordset.specs.declared.Decoded.{Decoded}
-use Rattle.answers.specs.declared.Answer.{Answer}
-use Rattle.answers.specs.declared.Follow.{Follow}
-use Rattle.answers.specs.Answers.{CommandOr}
+use Rattle.wordset.specs.declared.Misused.{Misused}
+use Rattle.std.specs.Prelude.{Ok}
+use Rattle.answers.specs.Answers.{whole_read}
 use Rattle.lexer.specs.Places.{cursor_at}
-use Rattle.lexer.specs.Answers.{TwoAt, QuotedRead}
+use Rattle.lexer.specs.Answers.{ValueAt, part_in, QuotedRead}
 use Rattle.lexer.proofs.Given.{goes_on, passed-up}
 use Rattle.items.specs.Kinds.{word_set_kind}
 use Rattle.items.specs.Words.{head, OpAt, ItemAt}
@@ -33,16 +33,16 @@ use Rattle.script.proofs.Keeping.{kept_set, kept-all}
 
 -- ---- what the decoder answers
 
-module _ (w : List ℕ) (k : ℕ) (r : Decoded) where
-  pub misused-is : (ns : Names) (p : ℕ) → r ≡ Decoded.Misused p → DecodedAs ns w k r → ns ≡ misused_at p
+module _ (w : List ℕ) (k : ℕ) where
+  pub misused-is : (ns : Names) (m : Misused) → DecodedAs ns w k (Err m) → ns ≡ misused_at m.at
   unfolding DecodedAs
-  misused-is (all_names xs) p e (is, set) = absurd (let y : ◌≡◌ {A = ℕ} 0 1 = cc in omega arith)
-  misused-is (misused_at q) p e is = let same : q ≡ p = cc in ap misused_at same
+  misused-is (all_names xs) m (is, set) = absurd (let y : ◌≡◌ {A = ℕ} 0 1 = cc in omega arith)
+  misused-is (misused_at q) m is = let same : q ≡ m.at = cc in ap misused_at same
 
-  pub set_is : (ns : Names) → r ≡ Decoded.Set → DecodedAs ns w k r → (xs : List Named) × (ns ≡ all_names xs) × SetAt w k xs
+  pub set_is : (ns : Names) → DecodedAs ns w k (Ok tt) → (xs : List Named) × (ns ≡ all_names xs) × SetAt w k xs
   unfolding DecodedAs
-  set_is (all_names xs) e (is, set) = (xs, refl, set)
-  set_is (misused_at q) e is = absurd (let y : ◌≡◌ {A = ℕ} 0 1 = cc in omega arith)
+  set_is (all_names xs) (is, set) = (xs, refl, set)
+  set_is (misused_at q) is = absurd (let y : ◌≡◌ {A = ℕ} 0 1 = cc in omega arith)
 
 -- ---- the command
 
@@ -54,7 +54,7 @@ module _ (s w : List ℕ) (place at k : ℕ) (r : CommandRoom s w place at k) (i
   unfolding decode word_names
   names-refused n p e = passed-up _ _ n p (passed-up (quoted (skip_spaces (cursor_at s at))) _ n p (ap quoted spaces ∙ e))
 
-  module _ (start end next : ℕ) (there : TwoAt s (λ a e. take (e - a) (drop a s)) (QuotedRead i) (quoted (cursor_at s i)) start end next) where
+  module _ (start end next : ℕ) (there : ValueAt s (part_in s) (QuotedRead i) (quoted (cursor_at s i)) (record { start = start; end = end }) next) where
     abbrev string : Line
     string = take (end - start) (drop start s)
 
@@ -104,9 +104,9 @@ module _ (s w : List ℕ) (place at k : ℕ) (r : CommandRoom s w place at k) (i
       )
 
       pub names-written : (at ≤ i) → (xs : List Named) → names_from start 0 string ≡ all_names xs → SetAt w' (k + 1) xs
-          → CommandRead s w (set w' k v) place k Read (Answer.Command Follow.Nothing next (k + 4))
+          → CommandRead s w (set w' k v) place k Read (Ok (whole_read (k + 4) next))
       unfolding CommandIs ItemAt open_after
-      names-written after xs e is = CommandOr.read Follow.Nothing next (k + 4) (
+      names-written after xs e is = (
         stay,
         (
           simple place (name_words xs),

@@ -1,4 +1,5 @@
 -- Groups: what `(`, `)` and ELSE come to. Assumes nothing.
+use Rattle.std.specs.Int.{from_bool}
 use mathlib.Core.Path.{◌≡◌, refl, sym, ap, ◌∙◌}
 use mathlib.Core.Bool.{Bool, true, false}
 use mathlib.Core.List.{List, ◌∷◌}
@@ -13,15 +14,14 @@ use Rattle.definitions.specs.Control.{Item, opens, bare, bracket, otherwise}
 use Rattle.definitions.specs.Reader.{next_byte, place_at}
 use Rattle.definitions.specs.Script.{nothing, Group, group, reading, refused_at, more, done, closes, open_group, group_items, group_of, else_group, is_else, after_else, group_end, close_group}
 use Rattle.matching.specs.Words.{bit_of}
-use Rattle.answers.specs.declared.Answer.{Answer}
 use Rattle.answers.specs.declared.State.{State}
-use Rattle.answers.specs.Answers.{RoundOr}
+use Rattle.answers.specs.Answers.{read_as}
 use Rattle.lexer.specs.Places.{cursor_at}
 use Rattle.lexer.proofs.AtPlace.{is-next, not-next, after-in, after_next, next-inside}
 use Rattle.items.specs.Kinds.{bracket_kind, else_kind, bare_kind}
 use Rattle.items.specs.Words.{head, ItemAt, OpenerAt, Closed}
 use Rattle.script.specs.Gathered.{Gathered}
-use Rattle.script.specs.Reading.{due_of, group_in, groups_in, bodies_in, reading_of, Fits, Affords, ReadSoFar, Unwritten, RoundRead}
+use Rattle.script.specs.Reading.{due_of, group_in, groups_in, bodies_in, reading_of, Fits, Affords, ReadSoFar, Unwritten, OnwardRead}
 use Rattle.script.proofs.Keeping.{gather, acc_kept, groups-kept, bodies_kept, fits_kept, free, kept-all, kept_set}
 use Rattle.script.proofs.Affording.{affords-bare, affords-body, affords-end, affords-else}
 use Rattle.script.proofs.Closing.{closed-kept, gathered-closes}
@@ -45,13 +45,10 @@ unfolding bit_of
 flag-half k true = omega arith
 flag-half k false = omega arith
 
-pub flag-on : (e : Bool) → e ≡ true → 1 ≡ bit_of e
+pub flag-is : (e : Bool) → from_bool e ≡ bit_of e
 unfolding bit_of
-flag-on e is = rw is
-
-pub flag_off : (e : Bool) → e ≡ false → 0 ≡ bit_of e
-unfolding bit_of
-flag_off e is = rw is
+flag-is true = refl
+flag-is false = refl
 
 -- one word is written at k, or two, then the word of a group
 module _ (w : List ℕ) (k top d : ℕ) (far : top + d < length w) where
@@ -99,9 +96,9 @@ module _ (s w w' : List ℕ) (k d d' x : ℕ) (one_more : d' ≡ d + 1) (kept : 
 
   pub opened : (from next k' : ℕ) (acc : List Item) (g : Group) → group_in x ≡ g → Gathered s w' k' acc → from < next → next ≤ length s → d < 16 → Fits s w
       → Affords s next k' 0 (x / 2 + bodies_in w d) d' acc
-      → RoundRead s w' from (more (reading (cursor_at s next) nothing (g ∷ groups_in w d) acc)) (Answer.More (record { k = k'; due = 0; elses = false; depth = d' }) next)
+      → OnwardRead s w' from (more (reading (cursor_at s next) nothing (g ∷ groups_in w d) acc)) (read_as (record { k = k'; due = 0; elses = false; depth = d' }) next)
   unfolding reading_of due_of
-  opened from next k' acc g is gathered far within deep fits affords = RoundOr.more (record { k = k'; due = 0; elses = false; depth = d' }) next (
+  opened from next k' acc g is gathered far within deep fits affords = (
     acc,
     rw (groups-more, is),
     record {
@@ -124,9 +121,9 @@ module _ (s w : List ℕ) (st : State) (at : ℕ) (acc : List Item) (h : ReadSoF
   module _ (less : at < length s) where
     module _ (deep : st.depth < 16) where
       pub opens-bare : st.due ≡ 0 → (a : ℕ) → a ≡ head bare_kind at →
-          RoundRead s (set (set (set w st.k a) (st.k + 1) bracket_kind) (length w - (st.depth + 1)) 2) at
+          OnwardRead s (set (set (set w st.k a) (st.k + 1) bracket_kind) (length w - (st.depth + 1)) 2) at
           (more (reading (cursor_at s (at + 1)) nothing (group 1 false ∷ groups_in w st.depth) (bracket ∷ opens at bare ∷ acc)))
-          (Answer.More (record { k = st.k + 2; due = 0; elses = false; depth = st.depth + 1 }) (at + 1))
+          (read_as (record { k = st.k + 2; due = 0; elses = false; depth = st.depth + 1 }) (at + 1))
       unfolding ItemAt OpenerAt group_in
       opens-bare z a is =
           let room = free s w st at acc h in
@@ -144,9 +141,9 @@ module _ (s w : List ℕ) (st : State) (at : ℕ) (acc : List Item) (h : ReadSoF
           (omega arith) (omega arith) deep h.fits (affords-bare h.affords z at)
 
       pub opens-body : (x : ℕ) → x ≡ 2 * st.due + bit_of st.elses →
-          RoundRead s (set (set w st.k bracket_kind) (length w - (st.depth + 1)) x) at
+          OnwardRead s (set (set w st.k bracket_kind) (length w - (st.depth + 1)) x) at
           (more (reading (cursor_at s (at + 1)) nothing (group st.due st.elses ∷ groups_in w st.depth) (bracket ∷ acc)))
-          (Answer.More (record { k = st.k + 1; due = 0; elses = false; depth = st.depth + 1 }) (at + 1))
+          (read_as (record { k = st.k + 1; due = 0; elses = false; depth = st.depth + 1 }) (at + 1))
       unfolding ItemAt
       opens-body x is =
           let room = free s w st at acc h in
@@ -182,13 +179,13 @@ module _ (s w : List ℕ) (st : State) (at : ℕ) (acc : List Item) (h : ReadSoF
     -- ---- a group ends
 
     pub ends : 0 < st.depth → st.due ≡ 0 → (n : ℕ) → n ≡ get_or w (length w - st.depth) 0 / 2 → (w' : List ℕ) → Closed st.k n w w'
-        → RoundRead s w' at (more (reading (cursor_at s (at + 1)) nothing (groups_in w (st.depth - 1)) (closes n acc)))
-        (Answer.More (record { k = st.k + n; due = 0; elses = false; depth = st.depth - 1 }) (at + 1))
+        → OnwardRead s w' at (more (reading (cursor_at s (at + 1)) nothing (groups_in w (st.depth - 1)) (closes n acc)))
+        (read_as (record { k = st.k + n; due = 0; elses = false; depth = st.depth - 1 }) (at + 1))
     unfolding reading_of due_of
     ends pos z n is w' c =
         let half : bodies_in w st.depth ≡ n + bodies_in w (st.depth - 1) = some-bodies w st.depth (λ z. omega (arith, z)) ∙ ap (λ (m : ℕ). m + bodies_in w (st.depth - 1)) (sym is) in
         let far : st.k + n + 16 ≤ length w = omega (arith, h.affords.room, h.deep, h.fits.work, h.inside, half) in
-        let kept : Unwritten st.k 16 w w' = closed-kept st.k 16 st.k n w w' (omega arith) far c in RoundOr.more (record { k = st.k + n; due = 0; elses = false; depth = st.depth - 1 }) (at + 1) (
+        let kept : Unwritten st.k 16 w w' = closed-kept st.k 16 st.k n w w' (omega arith) far c in (
           closes n acc,
           rw (groups-kept st.k 16 w w' kept (st.depth - 1) (omega (arith, h.deep))),
           record {
@@ -245,8 +242,8 @@ module _ (s w : List ℕ) (st : State) (at : ℕ) (acc : List Item) (h : ReadSoF
     else-there e = rw (is-next 40 (cursor_at s at) e, after_next s at (rw e (omega arith)))
 
     pub else-opens : 0 < st.depth → st.due ≡ 0 → n ≡ get_or w (length w - st.depth) 0 / 2 → next_byte (cursor_at s at) ≡ 40
-        → RoundRead s (set (set (set w st.k else_kind) (st.k + 1) bracket_kind) (length w - st.depth) (2 * n)) at (else_group n (groups_in w (st.depth - 1)) acc (cursor_at s at))
-        (Answer.More (record { k = st.k + 2; due = 0; elses = false; depth = st.depth }) (at + 1))
+        → OnwardRead s (set (set (set w st.k else_kind) (st.k + 1) bracket_kind) (length w - st.depth) (2 * n)) at (else_group n (groups_in w (st.depth - 1)) acc (cursor_at s at))
+        (read_as (record { k = st.k + 2; due = 0; elses = false; depth = st.depth }) (at + 1))
     unfolding ItemAt bit_of
     else-opens pos z is e =
         let within : at < length s = next-inside s at (rw e (omega arith)) in

@@ -10,19 +10,20 @@ use lib.Seq.{get_or-set_same}
 use lib.Dec.{eqb}
 use borrow.Author.Tests.{eqb-true, eqb-false}
 use Rattle.definitions.specs.Control.{Item, line_end}
-use Rattle.definitions.specs.Reader.{Cursor, Got}
+use Rattle.definitions.specs.Reader.{Cursor, Got, refused}
 use Rattle.definitions.specs.Commands.{Decoded}
-use Rattle.definitions.specs.Script.{nothing, body, Group, reading, refused_at, AfterRound, more, done, bodies, closes, decoded, separator, line_items, script_end}
-use Rattle.answers.specs.declared.Answer.{Answer}
+use Rattle.definitions.specs.Script.{Due, nothing, body, Group, reading, refused_at, more, done, bodies, closes, decoded, separator, line_items, script_end}
+use Rattle.std.specs.Prelude.{Result, Ok}
+use Rattle.answers.specs.declared.Fault.TheVariants.{Argument, Bracket}
+use Rattle.answers.specs.declared.Read.{Read}
+use Rattle.answers.specs.declared.Refusal.{Refusal}
 use Rattle.answers.specs.declared.Follow.{Follow}
 use Rattle.answers.specs.declared.State.{State}
-use Rattle.answers.specs.Answers.{RoundOr}
-use Rattle.answers.proofs.Taking.{Refusal}
+use Rattle.answers.specs.Answers.{AnswerOr, read_as, refusal}
 use Rattle.lexer.specs.Places.{cursor_at}
-use Rattle.lexer.specs.Answers.{Refuses}
 use Rattle.items.specs.Kinds.{line_end_kind}
 use Rattle.items.specs.Words.{ItemAt, Closed}
-use Rattle.script.specs.Reading.{due_of, group_in, groups_in, bodies_in, reading_of, ReadSoFar, Unwritten, WholeIs, PrefixIs, CommandIs, RoundRead}
+use Rattle.script.specs.Reading.{due_of, group_in, groups_in, bodies_in, reading_of, ReadSoFar, Unwritten, WholeIs, PrefixIs, CommandIs, Finished, OnwardRead}
 use Rattle.script.specs.Placed.{separated, ended}
 use Rattle.script.proofs.Keeping.{gather, in_order, acc_kept, groups-kept, bodies_kept, fits_kept, free, stands-kept, kept-all, kept_set}
 use Rattle.script.proofs.Affording.{affords-on, affords-line, affords-whole, affords-prefix, affords-all}
@@ -63,9 +64,6 @@ unfolding groups_in
 many-groups w zero = refl
 many-groups w (suc d) = ap suc (many-groups w d)
 
-pub refusal-comes : (s w : List ℕ) (at : ℕ) (x : AfterRound) (n p : ℕ) → x ≡ done (refused_at n p) → RoundRead s w at x (Answer.Refused n p)
-refusal-comes s w at x n p e = RoundOr.refused n p e
-
 -- ---- separators and the end
 
 module _ (s w : List ℕ) (st : State) (at : ℕ) (acc : List Item) (h : ReadSoFar s w st at acc) where
@@ -80,10 +78,10 @@ module _ (s w : List ℕ) (st : State) (at : ℕ) (acc : List Item) (h : ReadSoF
   separator-more z acc' c = rw (none-due st.due st.elses z)
 
   pub passed : (next : ℕ) → st.due ≡ 0 → at < next → next ≤ length s
-      → RoundRead s w at (separator (due_of st.due st.elses) (groups_in w st.depth) acc at (cursor_at s next))
-      (Answer.More st next)
+      → OnwardRead s w at (separator (due_of st.due st.elses) (groups_in w st.depth) acc at (cursor_at s next))
+      (read_as st next)
   unfolding reading_of
-  passed next z far within = RoundOr.more st next (
+  passed next z far within = (
     acc,
     separator-more z acc (cursor_at s next),
     record { inside = within; deep = h.deep; no_body = h.no_body; gathered = h.gathered; affords = affords-on h.affords next (omega arith); fits = h.fits },
@@ -99,17 +97,17 @@ module _ (s w : List ℕ) (st : State) (at : ℕ) (acc : List Item) (h : ReadSoF
   outside d acc' z = rw (no-groups w d z)
 
   pub line-inside : st.due ≡ 0 → (st.depth ≡ 0 → ⊥) → at < length s
-      → RoundRead s w at (separator (due_of st.due st.elses) (groups_in w st.depth) (line_items (groups_in w st.depth) acc) at (cursor_at s (at + 1)))
-      (Answer.More st (at + 1))
+      → OnwardRead s w at (separator (due_of st.due st.elses) (groups_in w st.depth) (line_items (groups_in w st.depth) acc) at (cursor_at s (at + 1)))
+      (read_as st (at + 1))
   line-inside z d less = rw (in_group st.depth acc d) (passed (at + 1) z (omega arith) (omega arith))
 
   pub line-outside : st.due ≡ 0 → st.depth ≡ 0 → at < length s
-      → RoundRead s (set w st.k line_end_kind) at (separator (due_of st.due st.elses) (groups_in w st.depth) (line_items (groups_in w st.depth) acc) at (cursor_at s (at + 1)))
-      (Answer.More (record { k = st.k + 1; due = st.due; elses = st.elses; depth = st.depth }) (at + 1))
+      → OnwardRead s (set w st.k line_end_kind) at (separator (due_of st.due st.elses) (groups_in w st.depth) (line_items (groups_in w st.depth) acc) at (cursor_at s (at + 1)))
+      (read_as (record { k = st.k + 1; due = st.due; elses = st.elses; depth = st.depth }) (at + 1))
   unfolding reading_of ItemAt
   line-outside z d less =
       let far = free s w st at acc h in
-      let kept : Unwritten st.k 16 w (set w st.k line_end_kind) = kept_set st.k 16 st.k line_end_kind w w (omega arith) (omega (arith, far)) (kept-all st.k 16 w) in RoundOr.more (record { k = st.k + 1; due = st.due; elses = st.elses; depth = st.depth }) (at + 1) (
+      let kept : Unwritten st.k 16 w (set w st.k line_end_kind) = kept_set st.k 16 st.k line_end_kind w w (omega arith) (omega (arith, far)) (kept-all st.k 16 w) in (
         line_end ∷ acc,
         separator-more z (line_items (groups_in w st.depth) acc) (cursor_at s (at + 1))
             ∙ ap (λ (l : List Item). more (reading (cursor_at s (at + 1)) (due_of st.due st.elses) (groups_in w st.depth) l)) (outside st.depth acc d)
@@ -134,40 +132,45 @@ module _ (s w : List ℕ) (st : State) (at : ℕ) (acc : List Item) (h : ReadSoF
   unfolding script_end
   end-open z d = rw (none-due st.due st.elses z, some-groups w st.depth d)
 
-  pub end-done : st.due ≡ 0 → st.depth ≡ 0 → RoundRead s w at (done (script_end (due_of st.due st.elses) (groups_in w st.depth) acc at)) (Answer.Done st.k)
+  pub end-done : st.due ≡ 0 → st.depth ≡ 0 → Finished s w (done (script_end (due_of st.due st.elses) (groups_in w st.depth) acc at)) st.k
   unfolding script_end
-  end-done z d = let all = affords-all h.affords d in RoundOr.done st.k (reverse acc, rw (none-due st.due st.elses z, no-groups w st.depth d), record { lie = in_order s w st.k acc h.gathered; room = omega (arith, all.0, h.inside, h.fits.work); short = omega (arith, all.1, h.inside, h.fits.small) })
+  end-done z d = let all = affords-all h.affords d in (reverse acc, rw (none-due st.due st.elses z, no-groups w st.depth d), record { lie = in_order s w st.k acc h.gathered; room = omega (arith, all.0, h.inside, h.fits.work); short = omega (arith, all.1, h.inside, h.fits.small) })
 
-  pub separator-gives : (next : ℕ) (r : Answer) → r ≡ separated st at next → at < next → next ≤ length s
-      → RoundRead s w at (separator (due_of st.due st.elses) (groups_in w st.depth) acc at (cursor_at s next)) r
+  pub separator-gives : (next : ℕ) (r : Result (Read State) Refusal) → r ≡ separated st at next → at < next → next ≤ length s
+      → OnwardRead s w at (separator (due_of st.due st.elses) (groups_in w st.depth) acc at (cursor_at s next)) r
   unfolding separated
   separator-gives next r e far within = rw e (go (eqb st.due 0) refl)
     where
       go : (t : Bool) → eqb st.due 0 ≡ t
-          → RoundRead s w at (separator (due_of st.due st.elses) (groups_in w st.depth) acc at (cursor_at s next)) (cond t (Answer.More st next) (Answer.Refused 3 at))
+          → OnwardRead s w at (separator (due_of st.due st.elses) (groups_in w st.depth) acc at (cursor_at s next)) (cond t (read_as st next) (refusal Argument at))
       go true z = passed next (eqb-true st.due 0 z) far within
-      go false z = refusal-comes s w at _ 3 at (separator-missing (eqb-false st.due 0 z) acc (cursor_at s next))
+      go false z = separator-missing (eqb-false st.due 0 z) acc (cursor_at s next)
 
-  pub end-gives : (r : Answer) → r ≡ ended st at → RoundRead s w at (done (script_end (due_of st.due st.elses) (groups_in w st.depth) acc at)) r
+  abbrev Ended : Result (Unit {0}) Refusal → Type 0
+  Ended =
+      AnswerOr (λ u. Finished s w (done (script_end (due_of st.due st.elses) (groups_in w st.depth) acc at)) st.k)
+      (λ n p. done (script_end (due_of st.due st.elses) (groups_in w st.depth) acc at) ≡ done (refused_at n p))
+
+  pub end-gives : (r : Result (Unit {0}) Refusal) → r ≡ ended st at → Ended r
   unfolding ended
   end-gives r e = rw e (go (eqb st.due 0) (eqb st.depth 0) refl refl)
     where
       go : (t u : Bool) → eqb st.due 0 ≡ t → eqb st.depth 0 ≡ u
-          → RoundRead s w at (done (script_end (due_of st.due st.elses) (groups_in w st.depth) acc at)) (cond t (cond u (Answer.Done st.k) (Answer.Refused 5 at)) (Answer.Refused 3 at))
-      go false u z d = refusal-comes s w at _ 3 at (end-missing (eqb-false st.due 0 z))
-      go true false z d = refusal-comes s w at _ 5 at (end-open (eqb-true st.due 0 z) (eqb-false st.depth 0 d))
+          → Ended (cond t (cond u (Ok tt) (refusal Bracket at)) (refusal Argument at))
+      go false u z d = end-missing (eqb-false st.due 0 z)
+      go true false z d = end-open (eqb-true st.due 0 z) (eqb-false st.depth 0 d)
       go true true z d = end-done (eqb-true st.due 0 z) (eqb-true st.depth 0 d)
 
   -- ---- a command that was read
 
   module _ (x : Got Decoded) where
     whole-comes : (next m : ℕ) (w' : List ℕ) → WholeIs s w at st.k x next m → Closed m st.due w w'
-        → RoundRead s w' at (decoded (due_of st.due st.elses) (groups_in w st.depth) acc x)
-        (Answer.More (record { k = m + st.due; due = 0; elses = false; depth = st.depth }) next)
+        → OnwardRead s w' at (decoded (due_of st.due st.elses) (groups_in w st.depth) acc x)
+        (read_as (record { k = m + st.due; due = 0; elses = false; depth = st.depth }) next)
     unfolding reading_of due_of decoded
     whole-comes next m w' (i, e, l) c =
         let far : m + st.due + 16 ≤ length w = omega (arith, h.affords.room, h.deep, h.fits.work, h.inside, l.two, l.inside, l.passed) in
-        let kept : Unwritten m 16 w w' = closed-kept m 16 m st.due w w' (omega arith) far c in RoundOr.more (record { k = m + st.due; due = 0; elses = false; depth = st.depth }) next (
+        let kept : Unwritten m 16 w w' = closed-kept m 16 m st.due w w' (omega arith) far c in (
           closes st.due (i ∷ acc),
           rw (e, bodies-due st.due st.elses, groups-kept m 16 w w' kept st.depth h.deep),
           record {
@@ -183,10 +186,10 @@ module _ (s w : List ℕ) (st : State) (at : ℕ) (acc : List Item) (h : ReadSoF
         )
 
     prefix-comes : (b : Bool) (next m : ℕ) → PrefixIs s w at st.k x b next m
-        → RoundRead s w at (decoded (due_of st.due st.elses) (groups_in w st.depth) acc x)
-        (Answer.More (record { k = m; due = st.due + 1; elses = b; depth = st.depth }) next)
+        → OnwardRead s w at (decoded (due_of st.due st.elses) (groups_in w st.depth) acc x)
+        (read_as (record { k = m; due = st.due + 1; elses = b; depth = st.depth }) next)
     unfolding reading_of due_of decoded
-    prefix-comes b next m (i, e, l, apart) = RoundOr.more (record { k = m; due = st.due + 1; elses = b; depth = st.depth }) next (
+    prefix-comes b next m (i, e, l, apart) = (
       i ∷ acc,
       rw (e, bodies-due st.due st.elses, add-one st.due),
       record {
@@ -223,19 +226,19 @@ module _ (s w w' : List ℕ) (st : State) (at : ℕ) (acc : List Item) (x : Got 
       finish-room = closes-room s w' st at acc (stands-kept s w w' st at acc kept h) next m x is
 
       pub finish-whole : (w'' : List ℕ) → Closed m st.due w' w''
-          → RoundRead s w'' at (decoded (due_of st.due st.elses) (groups_in w st.depth) acc x)
-          (Answer.More (record { k = m + st.due; due = 0; elses = false; depth = st.depth }) next)
+          → OnwardRead s w'' at (decoded (due_of st.due st.elses) (groups_in w st.depth) acc x)
+          (read_as (record { k = m + st.due; due = 0; elses = false; depth = st.depth }) next)
       finish-whole w'' closed =
-          subst (λ (g : List Group). RoundRead s w'' at (decoded (due_of st.due st.elses) g acc x) (Answer.More (record { k = m + st.due; due = 0; elses = false; depth = st.depth }) next))
+          subst (λ (g : List Group). OnwardRead s w'' at (decoded (due_of st.due st.elses) g acc x) (read_as (record { k = m + st.due; due = 0; elses = false; depth = st.depth }) next))
           groups-now (whole-comes s w' st at acc (stands-kept s w w' st at acc kept h) x next m w'' is closed)
 
     pub finish-prefix : (b : Bool) → PrefixIs s w' at st.k x b next m
-        → RoundRead s w' at (decoded (due_of st.due st.elses) (groups_in w st.depth) acc x)
-        (Answer.More (record { k = m; due = st.due + 1; elses = b; depth = st.depth }) next)
+        → OnwardRead s w' at (decoded (due_of st.due st.elses) (groups_in w st.depth) acc x)
+        (read_as (record { k = m; due = st.due + 1; elses = b; depth = st.depth }) next)
     finish-prefix b is =
-        subst (λ (g : List Group). RoundRead s w' at (decoded (due_of st.due st.elses) g acc x) (Answer.More (record { k = m; due = st.due + 1; elses = b; depth = st.depth }) next))
+        subst (λ (g : List Group). OnwardRead s w' at (decoded (due_of st.due st.elses) g acc x) (read_as (record { k = m; due = st.due + 1; elses = b; depth = st.depth }) next))
         groups-now (prefix-comes s w' st at acc (stands-kept s w w' st at acc kept h) x b next m is)
 
-  pub finish-refused : (c : Answer) → Refusal (Refuses x) c → RoundRead s w' at (decoded (due_of st.due st.elses) (groups_in w st.depth) acc x) c
-  unfolding decoded
-  finish-refused c no-command = rw no-command.is (RoundOr.refused no-command.number no-command.place (rw no-command.holds))
+pub refused-up : (due : Due) (groups : List Group) (acc : List Item) (x : Got Decoded) (n p : ℕ) → x ≡ refused n p → decoded due groups acc x ≡ done (refused_at n p)
+unfolding decoded
+refused-up due groups acc x n p e = rw e

@@ -1,17 +1,15 @@
 -- Commands with qualified strings in words. Assumes nothing.
 use mathlib.Core.Path.{◌≡◌, refl, ◌∙◌}
-use mathlib.Core.Bool.{false}
+use mathlib.Core.Bool.{Bool, false}
 use mathlib.Core.List.{List, [], ◌∷◌}
 use Prim.Native.Nat.{ℕ, suc, ◌+◌, ◌-◌, ◌≤◌, ◌<◌}
 use native.Mathlib.Omega.{arith}
 use lib.ListN.{length, take, drop, get_or, set, length-set}
-use denote.Enum.Declared.{tag_of}
-use types.Run.{OneOf}
 use lib.Seq.{sets, length-sets, get_or-set_same, get_or-set_other}
 use Rattle.definitions.specs.Bytes.{Line}
 use Rattle.definitions.specs.Matching.{Qualified, qualified}
 use Rattle.definitions.specs.Search.{one}
-use Rattle.definitions.specs.Edit.{Op, alter, split, add_global, point}
+use Rattle.definitions.specs.Edit.{Op, Change, alter, split, add_global, point}
 use Rattle.definitions.specs.Control.{simple}
 use Rattle.definitions.specs.Reader.{Cursor, got, refused, and_then}
 use Rattle.definitions.specs.Strings.{start_qualifiers, qualified_string, two_strings, two_plain_strings}
@@ -20,13 +18,12 @@ use Rattle.matching.specs.Quals.{qualifiers_of}
 use Rattle.matching.specs.Words.{string_words, led_in, Encodes, Writable}
 use Rattle.matching.specs.declared.Quals.{Quals}
 use Rattle.matching.proofs.Keeping.{string-encodes, kept-behind}
-use Rattle.answers.specs.declared.Answer.{Answer}
-use Rattle.answers.specs.declared.Follow.{Follow}
-use Rattle.answers.specs.Answers.{CommandOr}
-use Rattle.answers.specs.contracts.Answer.{the_type}
-use Rattle.answers.proofs.Taking.{not_strings, is-strings, no-strings, up-command}
+use Rattle.std.specs.Prelude.{Ok}
+use Rattle.answers.specs.declared.Read.{Read}
+use Rattle.answers.specs.Answers.{whole_read}
 use Rattle.lexer.specs.Places.{cursor_at}
 use Rattle.lexer.proofs.Given.{goes_on, passed-up}
+use Rattle.strings.specs.declared.TwoStrings.{TwoStrings}
 use Rattle.strings.specs.Answers.{StringAt, QuotedAt, PairAt}
 use Rattle.strings.proofs.Callers.{string-few, string-writable}
 use Rattle.strings.proofs.Lines.{strings-short}
@@ -113,12 +110,12 @@ module _ (s w : List ℕ) (place at k : ℕ) (r : CommandRoom s w place at k) wh
     pub aims-written : (q : Quals) (start end next : ℕ) → QuotedAt s at (start_qualifiers false (cursor_at s at)) (qualified_string false (cursor_at s at)) q start end next → (v m : ℕ) (w' : List ℕ)
         → v ≡ head kind place
         → w' ≡ sets (set w k v) (k + 1) (string_words (qualifiers_of q) start (end - start) (led_in q)) → m ≡ k + 1 + length (string_words (qualifiers_of q) start (end - start) (led_in q))
-        → CommandRead s w w' place k (decode false place shape (cursor_at s at)) (Answer.Command Follow.Nothing next m)
+        → CommandRead s w w' place k (decode false place shape (cursor_at s at)) (Ok (whole_read m next))
     unfolding ItemAt CommandIs open_after
     aims-written q start end next (read, stands, opened) v m w' hd we me =
         let few = string-few s at q start end next stands in
         let l : Qualified = qualified (qualifiers_of q) (take (end - start) (drop start s)) in
-        rw (we, me) (CommandOr.read Follow.Nothing next (k + 1 + length (string_words (qualifiers_of q) start (end - start) (led_in q))) (
+        rw (we, me) ((
           string-stays q start end next stands v,
           (
             simple place (aim_op a l),
@@ -148,7 +145,7 @@ module _ (s w : List ℕ) (place at k : ℕ) (r : CommandRoom s w place at k) wh
         → v ≡ head kind place
         → w' ≡ sets (set w k v) (k + 1) (string_words (qualifiers_of q) start (end - start) (led_in q)) → m ≡ k + 1 + length (string_words (qualifiers_of q) start (end - start) (led_in q))
         → u ≡ string_word second (second-end - second)
-        → CommandRead s w (set w' m u) place k (decode false place shape (cursor_at s at)) (Answer.Command Follow.Nothing next (m + 1))
+        → CommandRead s w (set w' m u) place k (decode false place shape (cursor_at s at)) (Ok (whole_read (m + 1) next))
     unfolding ItemAt CommandIs open_after
     strings-written read lies v m u w' hd we me wd =
         let few = string-few s at q start end second stands.first in
@@ -157,7 +154,7 @@ module _ (s w : List ℕ) (place at k : ℕ) (r : CommandRoom s w place at k) wh
         let w2 : List ℕ = sets (set w k v) (k + 1) (string_words (qualifiers_of q) start (end - start) (led_in q)) in
         let inside : n < length w2 = rw (length-sets (set w k v) (k + 1) (string_words (qualifiers_of q) start (end - start) (led_in q)), length-set w k v) (omega (arith, room)) in
         let there = string-there q start end second stands.first v in
-        rw (we, me) (CommandOr.read Follow.Nothing next (n + 1) (
+        rw (we, me) ((
           kept_set k 16 n u w w2 (omega arith) (omega (arith, room)) (string-stays q start end second stands.first v),
           (
             simple place op,
@@ -179,34 +176,34 @@ module _ (s w : List ℕ) (place at k : ℕ) (r : CommandRoom s w place at k) wh
           ),
         ))
 
-  module _ {kind : ℕ} {both : Answer} where
-    -- what is no two strings is a refusal
-    pub pairs-refused : {shape : Shape} → Pairs s at kind both shape → OneOf not_strings (tag_of the_type both) → CommandRead s w w place k (decode false place shape (cursor_at s at)) both
-    unfolding decode
-    pairs-refused (of_alters c pointing e h) t = up-command (no-strings h t) (passed-up (two_strings (cursor_at s at)) _)
-    pairs-refused (of_globals c e h) t = up-command (no-strings h t) (passed-up (two_plain_strings (cursor_at s at)) _)
+  pub alters-refused : (c : Change) (pointing : Bool) (n p : ℕ) → two_strings (cursor_at s at) ≡ refused n p → decode false place (alters c pointing) (cursor_at s at) ≡ refused n p
+  unfolding decode
+  alters-refused c pointing n p e = passed-up (two_strings (cursor_at s at)) _ n p e
 
-    module _ (q : Quals) (start end second second-end next : ℕ) (is : both ≡ Answer.TwoStrings q start end second second-end next) where
-      -- where they lie
-      pub pairs-stand : {shape : Shape} → Pairs s at kind both shape → PairAt s at q start end second second-end next
-      pairs-stand (of_alters c pointing e h) = (is-strings h is).1
-      pairs-stand (of_globals c e h) = (is-strings h is).stand
+  pub globals-refused : (c : Change) (n p : ℕ) → two_plain_strings (cursor_at s at) ≡ refused n p → decode false place (globals c) (cursor_at s at) ≡ refused n p
+  unfolding decode
+  globals-refused c n p e = passed-up (two_plain_strings (cursor_at s at)) _ n p e
 
-      pub pairs-written : {shape : Shape} → Pairs s at kind both shape → (v m u : ℕ) (w' : List ℕ)
-          → v ≡ head kind place
-          → w' ≡ sets (set w k v) (k + 1) (string_words (qualifiers_of q) start (end - start) (led_in q)) → m ≡ k + 1 + length (string_words (qualifiers_of q) start (end - start) (led_in q))
-          → u ≡ string_word second (second-end - second)
-          → CommandRead s w (set w' m u) place k (decode false place shape (cursor_at s at)) (Answer.Command Follow.Nothing next (m + 1))
-      unfolding decode OpAt alter_op
-      pairs-written (of_alters c pointing e h) =
-          let x = is-strings h is in
-          strings-written kind (alters c pointing) (alter c pointing _ _) q start end second second-end next x.1
-          (goes_on (two_strings (cursor_at s at)) _ _ (cursor_at s next) x.0) (λ w₁ m two. rw e at two)
-      pairs-written (of_globals c e h) =
-          let x = is-strings h is in
-          strings-written kind (globals c) (add_global c _ _) q start end second second-end next x.stand
-          (goes_on (two_plain_strings (cursor_at s at)) _ _ (cursor_at s next) x.both) (λ w₁ m two. rw (e, x.unqualified) at two)
+  module _ {kind : ℕ} {both : Read TwoStrings} where
+    -- where they lie
+    pub pairs-stand : {shape : Shape} → Pairs s at kind both shape → PairAt s at both.value.first.quals both.value.first.part.start both.value.first.part.end both.value.second.start both.value.second.end both.next
+    pairs-stand (of_alters c pointing e h) = h.1
+    pairs-stand (of_globals c e h) = h.stand
 
-pub pairs_small : {s : List ℕ} {at kind : ℕ} {both : Answer} → (shape : Shape) × Pairs s at kind both shape → kind < 256
+    pub pairs-written : {shape : Shape} → Pairs s at kind both shape → (v m u : ℕ) (w' : List ℕ)
+        → v ≡ head kind place
+        → w' ≡ sets (set w k v) (k + 1) (string_words (qualifiers_of both.value.first.quals) both.value.first.part.start (both.value.first.part.end - both.value.first.part.start) (led_in both.value.first.quals))
+        → m ≡ k + 1 + length (string_words (qualifiers_of both.value.first.quals) both.value.first.part.start (both.value.first.part.end - both.value.first.part.start) (led_in both.value.first.quals))
+        → u ≡ string_word both.value.second.start (both.value.second.end - both.value.second.start)
+        → CommandRead s w (set w' m u) place k (decode false place shape (cursor_at s at)) (Ok (whole_read (m + 1) both.next))
+    unfolding decode OpAt alter_op
+    pairs-written (of_alters c pointing e h) =
+        strings-written kind (alters c pointing) (alter c pointing _ _) both.value.first.quals both.value.first.part.start both.value.first.part.end both.value.second.start both.value.second.end both.next h.1
+        (goes_on (two_strings (cursor_at s at)) _ _ (cursor_at s both.next) h.0) (λ w₁ m two. rw e at two)
+    pairs-written (of_globals c e h) =
+        strings-written kind (globals c) (add_global c _ _) both.value.first.quals both.value.first.part.start both.value.first.part.end both.value.second.start both.value.second.end both.next h.stand
+        (goes_on (two_plain_strings (cursor_at s at)) _ _ (cursor_at s both.next) h.both) (λ w₁ m two. rw (e, h.unqualified) at two)
+
+pub pairs_small : {s : List ℕ} {at kind : ℕ} {both : Read TwoStrings} → (shape : Shape) × Pairs s at kind both shape → kind < 256
 pairs_small (_, of_alters c pointing e h) = omega (arith, e, (change-shape c pointing).0)
 pairs_small (_, of_globals c e h) = omega (arith, e, (global-shape c).0)

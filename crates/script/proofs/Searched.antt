@@ -16,9 +16,8 @@ use Rattle.definitions.specs.Strings.{search_expression}
 use Rattle.definitions.specs.Commands.{prefix, seeks, branches, loops, skip_then, test_of, decode}
 use Rattle.matching.proofs.Running.{forward}
 use Rattle.matching.proofs.Keeping.{kept_append, kept-ahead}
-use Rattle.answers.specs.declared.Answer.{Answer}
-use Rattle.answers.specs.declared.Follow.{Follow}
-use Rattle.answers.specs.Answers.{CommandOr}
+use Rattle.std.specs.Prelude.{Ok}
+use Rattle.answers.specs.Answers.{whole_read, prefix_read}
 use Rattle.lexer.specs.Places.{cursor_at}
 use Rattle.lexer.proofs.Given.{goes_on, passed-up}
 use Rattle.searches.specs.Parsing.{SearchRoom, SearchWritten}
@@ -125,9 +124,9 @@ module _ (s w w' : List ℕ) (place at k : ℕ) (r : CommandRoom s w place at k)
     lies_at : (f : ℕ) → first ≡ f → SearchAt s w' k m f found.search
     lies_at f hd = subst (λ (y : ℕ). SearchAt s w' k m y found.search) hd found.lies
 
-    pub seeks-written : (f : Seek) → first ≡ head (seek_kind f) place → CommandRead s w w' place k (decode false place (seeks f) (cursor_at s at)) (Answer.Command Follow.Nothing next m)
+    pub seeks-written : (f : Seek) → first ≡ head (seek_kind f) place → CommandRead s w w' place k (decode false place (seeks f) (cursor_at s at)) (Ok (whole_read m next))
     unfolding decode CommandIs ItemAt open_after
-    seeks-written f hd = CommandOr.read Follow.Nothing next m (
+    seeks-written f hd = (
       found.kept,
       (
         seek place f found.search,
@@ -147,9 +146,9 @@ module _ (s w w' : List ℕ) (place at k : ℕ) (r : CommandRoom s w place at k)
     loop-item false hd = lies_at (head until_kind place) hd
 
     pub branches-written : (b : Bool) (after : ℕ) → place + 2 ≤ at → first ≡ head (branch_kind b) place → skip_then (cursor_at s next) ≡ cursor_at s after → next ≤ after → after ≤ length s
-        → CommandRead s w w' place k (decode false place (branches b) (cursor_at s at)) (Answer.Command (Follow.Body true) after m)
+        → CommandRead s w w' place k (decode false place (branches b) (cursor_at s at)) (Ok (prefix_read true m after))
     unfolding decode CommandIs open_after
-    branches-written b after long hd then from to = CommandOr.read (Follow.Body true) after m (
+    branches-written b after long hd then from to = (
       found.kept,
       (
         opens place (branch (test_of b found.search)),
@@ -161,9 +160,9 @@ module _ (s w w' : List ℕ) (place at k : ℕ) (r : CommandRoom s w place at k)
     )
 
     pub loops-written : (b : Bool) → place + 2 ≤ at → first ≡ head (loop_kind b) place
-        → CommandRead s w w' place k (decode false place (loops b) (cursor_at s at)) (Answer.Command (Follow.Body false) next m)
+        → CommandRead s w w' place k (decode false place (loops b) (cursor_at s at)) (Ok (prefix_read false m next))
     unfolding decode CommandIs open_after
-    loops-written b long hd = CommandOr.read (Follow.Body false) next m (
+    loops-written b long hd = (
       found.kept,
       (
         opens place (loop (test_of b found.search)),

@@ -10,29 +10,15 @@ use lib.ListN.{length}
 use Rattle.definitions.specs.Table.{is_script}
 use Rattle.definitions.specs.Control.{Item}
 use Rattle.definitions.specs.Script.{Reading, Script, items, refused_at, more, done, read_one, read_all, read_script}
-use Rattle.answers.specs.declared.Answer.{Answer}
+use Rattle.std.specs.Prelude.{Ok, Err}
+use Rattle.answers.specs.declared.Refusal.{Refusal}
 use Rattle.answers.specs.declared.State.{State}
-use Rattle.answers.specs.Answers.{DoneOr}
-use Rattle.answers.proofs.Taking.{is-more}
+use Rattle.answers.specs.Answers.{number_of}
 use Rattle.strings.proofs.Lines.{script-short}
 use Rattle.script.specs.Gathered.{Gathered}
-use Rattle.script.specs.Reading.{due_of, groups_in, bodies_in, reading_of, ReadSoFar, Onward, Finished, RoundRead, ScriptRead}
-use Rattle.script.specs.Placed.{place_after, Turned}
+use Rattle.script.specs.Reading.{due_of, groups_in, bodies_in, reading_of, ReadSoFar, Onward, Finished, ScriptRead}
+use Rattle.script.specs.Placed.{Round}
 use Rattle.script.proofs.Affording.{affords-first}
-
--- where the reader stands after a round: where it goes on, or where it was
-moved : (at : ℕ) {st : State} {next : ℕ} {r : Answer} → r ≡ Answer.More st next → next ≡ place_after at r
-unfolding place_after
-moved at e = rw e
-
-pub moves : (s w w' : List ℕ) (st : State) (at : ℕ) {r : Answer} {st' : State} {next : ℕ}
-    → ((acc : List Item) → ReadSoFar s w st at acc → RoundRead s w' at (read_one (reading_of s w st at acc)) r) → r ≡ Answer.More st' next → Turned s w w' st at next (Answer.More st' next)
-moves s w w' st at comes e = (λ acc h. rw e at (comes acc h), moved at refl)
-
-pub stays : {P : ℕ → Type 0} {Q : ℕ → ℕ → Type 0} (at : ℕ) {r : Answer} → DoneOr P Q r → at ≡ place_after at r
-unfolding place_after
-stays at (DoneOr.read n h) = refl
-stays at (DoneOr.refused k p h) = refl
 
 -- the state and the place show a reading from which the rounds that are left come to x
 pub record Going (s w : List ℕ) (st : State) (at : ℕ) (x : Script) : Type 0 where
@@ -68,23 +54,28 @@ after-done (suc n) r x pos e = rw (e, read_all)
 -- a round was made from `from` on
 module _ (s w w' : List ℕ) (st : State) (from : ℕ) (x : Script) (g : Going s w st from x) where
   -- it goes on, and the reader stands at `at`
-  pub goes_on : (at : ℕ) (r : Answer) → Turned s w w' st from at r → (st' : State) (next : ℕ) → r ≡ Answer.More st' next → Going s w' st' at x × (from < at) × (at ≤ length s)
-  goes_on at r comes st' next e = rw (comes.1 ∙ sym (moved from e)) (on (is-more (comes.0 g.acc g.stands) e))
+  pub goes_on : (at : ℕ) (st' : State) → Round s w st from (λ y. Onward s w' from y st' at) → Going s w' st' at x × (from < at) × (at ≤ length s)
+  goes_on at st' comes = on (comes g.acc g.stands)
     where
-      on : Onward s w' from (read_one (reading_of s w st from g.acc)) st' next → Going s w' st' next x × (from < next) × (next ≤ length s)
+      on : Onward s w' from (read_one (reading_of s w st from g.acc)) st' at → Going s w' st' at x × (from < at) × (at ≤ length s)
       on (acc', is, h, far) = (
         record {
           rounds = g.rounds - 1;
           acc = acc';
           stands = h;
           enough = omega (arith, g.enough, h.inside);
-          comes_to = sym (after_more g.rounds (reading_of s w st from g.acc) (reading_of s w' st' next acc') (omega (arith, g.enough)) is) ∙ g.comes_to;
+          comes_to = sym (after_more g.rounds (reading_of s w st from g.acc) (reading_of s w' st' at acc') (omega (arith, g.enough)) is) ∙ g.comes_to;
         },
         far,
         h.inside,
       )
 
   -- it was the last
-  pub ends : (r : Answer) → DoneOr (Finished s w' (read_one (reading_of s w st from g.acc))) (λ n p. read_one (reading_of s w st from g.acc) ≡ done (refused_at n p)) r → ScriptRead s w' x r
-  ends r (DoneOr.read n (is, e, ready)) = DoneOr.read n (is, sym g.comes_to ∙ after-done g.rounds (reading_of s w st from g.acc) (items is) (omega (arith, g.enough)) e, ready)
-  ends r (DoneOr.refused n p e) = DoneOr.refused n p (sym g.comes_to ∙ after-done g.rounds (reading_of s w st from g.acc) (refused_at n p) (omega (arith, g.enough)) e)
+  pub ends : Round s w st from (λ y. Finished s w' y st.k) → ScriptRead s w' x (Ok st.k)
+  ends comes = on (comes g.acc g.stands)
+    where
+      on : Finished s w' (read_one (reading_of s w st from g.acc)) st.k → ScriptRead s w' x (Ok st.k)
+      on (is, e, ready) = (is, sym g.comes_to ∙ after-done g.rounds (reading_of s w st from g.acc) (items is) (omega (arith, g.enough)) e, ready)
+
+  pub refuses : (r : Refusal) → Round s w st from (λ y. y ≡ done (refused_at (number_of r.fault) r.place)) → ScriptRead s w' x (Err r)
+  refuses r comes = sym g.comes_to ∙ after-done g.rounds (reading_of s w st from g.acc) (refused_at (number_of r.fault) r.place) (omega (arith, g.enough)) (comes g.acc g.stands)

@@ -1,15 +1,17 @@
 -- The reader's state: numbers, and the last words of the work area, which hold the open groups.
-use Rattle.std.specs.Prelude.{◌≡◌, Bool, true, false, cond, List, [], ◌∷◌, ℕ, zero, suc, ◌+◌, ◌-◌, ◌*◌, ◌/◌, ◌%◌, ◌≤◌, ◌<◌, length, get_or, eqb, leb}
+use Rattle.std.specs.Prelude.{◌≡◌, Bool, true, false, cond, List, [], ◌∷◌, ℕ, zero, suc, ◌+◌, ◌-◌, ◌*◌, ◌/◌, ◌%◌, ◌≤◌, ◌<◌, length, get_or, eqb, leb, Option, Some, None, Result}
 use Rattle.definitions.specs.Bytes.{is_digit}
 use Rattle.definitions.specs.Control.{times, Item, opens}
 use Rattle.definitions.specs.Table.{is_script}
 use Rattle.definitions.specs.Reader.{Got, got, refused, Token, token}
 use Rattle.definitions.specs.Commands.{Decoded as Command-read, whole, prefix}
 use Rattle.definitions.specs.Script.{Due, nothing, body, Group, group, Reading, reading, Script, items, refused_at, AfterRound, more, done, decoded}
-use Rattle.answers.specs.declared.Answer.{Answer}
+use Rattle.answers.specs.declared.Command.{Command}
 use Rattle.answers.specs.declared.Follow.{Follow}
+use Rattle.answers.specs.declared.Read.{Read}
+use Rattle.answers.specs.declared.Refusal.{Refusal}
 use Rattle.answers.specs.declared.State.{State}
-use Rattle.answers.specs.Answers.{CommandOr, RoundOr, DoneOr}
+use Rattle.answers.specs.Answers.{AnswerOr, ReadOr}
 use Rattle.lexer.specs.Places.{cursor_at}
 use Rattle.lexer.specs.Answers.{Refuses}
 use Rattle.items.specs.Words.{ItemAt}
@@ -111,9 +113,13 @@ unfoldable pub CommandIs : List ℕ → List ℕ → ℕ → ℕ → Got Command
 CommandIs s w place k x Follow.Nothing next m = WholeIs s w place k x next m
 CommandIs s w place k x (Follow.Body e) next m = PrefixIs s w place k x e next m
 
--- what the reader of a command answers, with the words before and after: those before it, and those of the groups, stay
-abbrev pub CommandRead : List ℕ → List ℕ → List ℕ → ℕ → ℕ → Got Command-read → Answer → Type 0
-CommandRead s w w' place k x = CommandOr (λ follow next m. Unwritten k 16 w w' × CommandIs s w' place k x follow next m) (Refuses x)
+-- a command was read up to `next`, with the words before and after: those before it, and those of the groups, stay
+abbrev pub CommandAt : List ℕ → List ℕ → List ℕ → ℕ → ℕ → Got Command-read → Command → ℕ → Type 0
+CommandAt s w w' place k x c next = Unwritten k 16 w w' × CommandIs s w' place k x c.follow next c.free
+
+-- what the reader of a command answers
+abbrev pub CommandRead : List ℕ → List ℕ → List ℕ → ℕ → ℕ → Got Command-read → Result (Read Command) Refusal → Type 0
+CommandRead s w w' place k x = ReadOr (CommandAt s w w' place k x) (Refuses x)
 
 -- a repeat count at `place`
 unfoldable pub counted : ℕ → Token → Got Command-read
@@ -128,15 +134,23 @@ Onward s w at x st next = (acc : List Item) × (x ≡ more (reading_of s w st ne
 abbrev pub Finished : List ℕ → List ℕ → AfterRound → ℕ → Type 0
 Finished s w x n = (is : List Item) × (x ≡ done (items is)) × ItemsReady s w n is
 
--- the answer r of a round that began at place `at`, with the words after it
-abbrev pub RoundRead : List ℕ → List ℕ → ℕ → AfterRound → Answer → Type 0
-RoundRead s w at x = RoundOr (Onward s w at x) (Finished s w x) (λ n p. x ≡ done (refused_at n p))
+-- the answer of a round that began at place `at` and does not end the script, with the words after it
+abbrev pub OnwardRead : List ℕ → List ℕ → ℕ → AfterRound → Result (Read State) Refusal → Type 0
+OnwardRead s w at x = ReadOr (Onward s w at x) (λ n p. x ≡ done (refused_at n p))
+
+-- the answer of a round from the state st, with the words after it: the state after it, or none at the script's end
+abbrev pub StepIs : List ℕ → List ℕ → State → ℕ → AfterRound → Option (Read State) → Type 0
+StepIs s w st at x (Some r) = Onward s w at x r.value r.next
+StepIs s w st at x None = Finished s w x st.k
+
+abbrev pub RoundRead : List ℕ → List ℕ → State → ℕ → AfterRound → Result (Option (Read State)) Refusal → Type 0
+RoundRead s w st at x = AnswerOr (StepIs s w st at x) (λ n p. x ≡ done (refused_at n p))
 
 -- ---- the whole script
 
 -- the answer r of the reader, with the words after it: the items lie in the words from 0 on, and leave one word for each body open at once, and the reserve
-abbrev pub ScriptRead : List ℕ → List ℕ → Script → Answer → Type 0
-ScriptRead s w x = DoneOr (λ n. (is : List Item) × (x ≡ items is) × ItemsReady s w n is) (λ n p. x ≡ refused_at n p)
+abbrev pub ScriptRead : List ℕ → List ℕ → Script → Result ℕ Refusal → Type 0
+ScriptRead s w x = AnswerOr (λ n. (is : List Item) × (x ≡ items is) × ItemsReady s w n is) (λ n p. x ≡ refused_at n p)
 
 -- ---- what the functions of a round are handed, and what they answer
 
@@ -148,12 +162,16 @@ abbrev pub HalfwayIn : List ℕ → State → ℕ → Type 0
 HalfwayIn w st at = (s : List ℕ) × (acc : List Item) × ReadSoFar s w st at acc × (at < length s)
 
 -- a round from the state st and the place `at` on, in which the words w become w', answers `next` of what is due, of the open groups and of the items: of one script, or of any
-abbrev pub RoundOf : List ℕ → List ℕ → List ℕ → State → ℕ → (Due → List Group → List Item → AfterRound) → Answer → Type 0
-RoundOf s w w' st at next r = (acc : List Item) → ReadSoFar s w st at acc → RoundRead s w' at (next (due_of st.due st.elses) (groups_in w st.depth) acc) r
+abbrev pub RoundOf : List ℕ → List ℕ → List ℕ → State → ℕ → (Due → List Group → List Item → AfterRound) → Result (Read State) Refusal → Type 0
+RoundOf s w w' st at next r = (acc : List Item) → ReadSoFar s w st at acc → OnwardRead s w' at (next (due_of st.due st.elses) (groups_in w st.depth) acc) r
 
-abbrev pub RoundIn : List ℕ → List ℕ → State → ℕ → (List ℕ → Due → List Group → List Item → AfterRound) → Answer → Type 0
+abbrev pub RoundIn : List ℕ → List ℕ → State → ℕ → (List ℕ → Due → List Group → List Item → AfterRound) → Result (Read State) Refusal → Type 0
 RoundIn w w' st at next r =
-    (s : List ℕ) (acc : List Item) → ReadSoFar s w st at acc → at < length s → RoundRead s w' at (next s (due_of st.due st.elses) (groups_in w st.depth) acc) r
+    (s : List ℕ) (acc : List Item) → ReadSoFar s w st at acc → at < length s → OnwardRead s w' at (next s (due_of st.due st.elses) (groups_in w st.depth) acc) r
+
+-- the same of one script, where it may end
+abbrev pub StepOf : List ℕ → List ℕ → List ℕ → State → ℕ → (Due → List Group → List Item → AfterRound) → Result (Option (Read State)) Refusal → Type 0
+StepOf s w w' st at next r = (acc : List Item) → ReadSoFar s w st at acc → RoundRead s w' st at (next (due_of st.due st.elses) (groups_in w st.depth) acc) r
 
 -- reading goes on at a place, nothing due
 abbrev pub goes_on : List ℕ → ℕ → List Group → List Item → AfterRound
@@ -168,7 +186,7 @@ abbrev pub bodies_at : List ℕ → ℕ → ℕ
 bodies_at w d = get_or w (length w - d) 0 / 2
 
 -- the command that was read leads on from the state st, wherever it began
-abbrev pub Finishes : List ℕ → List ℕ → State → Answer → Answer → Type 0
+abbrev pub Finishes : List ℕ → List ℕ → State → Read Command → Read State → Type 0
 Finishes w w' st c r =
-    (s before : List ℕ) (at : ℕ) (acc : List Item) (x : Got Command-read) → ReadSoFar s before st at acc → CommandRead s before w at st.k x c
-    → RoundRead s w' at (decoded (due_of st.due st.elses) (groups_in before st.depth) acc x) r
+    (s before : List ℕ) (at : ℕ) (acc : List Item) (x : Got Command-read) → ReadSoFar s before st at acc → CommandAt s before w at st.k x c.value c.next
+    → Onward s w' at (decoded (due_of st.due st.elses) (groups_in before st.depth) acc x) r.value r.next

@@ -1,10 +1,11 @@
 -- A search expression in a command.
-use Rattle.std.specs.Prelude.{◌≡◌, true, List, ℕ, suc, ◌+◌, ◌-◌, ◌*◌, ◌≤◌, ◌<◌, length, get_or}
+use Rattle.std.specs.Prelude.{◌≡◌, true, List, ℕ, suc, ◌+◌, ◌-◌, ◌*◌, ◌≤◌, ◌<◌, length, get_or, Result}
 use Rattle.definitions.specs.Bytes.{is_digit}
 use Rattle.definitions.specs.Reader.{Got, got}
 use Rattle.definitions.specs.Search.{Search}
-use Rattle.answers.specs.declared.Answer.{Answer}
-use Rattle.answers.specs.Answers.{SearchOr}
+use Rattle.answers.specs.declared.Read.{Read}
+use Rattle.answers.specs.declared.Refusal.{Refusal}
+use Rattle.answers.specs.Answers.{ReadOr}
 use Rattle.lexer.specs.Places.{cursor_at}
 use Rattle.lexer.specs.Answers.{Refuses}
 use Rattle.lexer.specs.declared.shapes.Shape.{Shape}
@@ -46,5 +47,5 @@ pub record Found (s w w' : List ℕ) (at k first next m : ℕ) (x : Got Search) 
   pub two : m + 2 * (length s - next) ≤ k + 2 + 2 * (length s - at)
   pub spare : is_digit (get_or s next 0) ≡ true → suc m + 2 * (length s - next) ≤ k + 2 + 2 * (length s - at)
 
-abbrev pub Searched : List ℕ → List ℕ → List ℕ → ℕ → ℕ → ℕ → Got Search → Answer → Type 0
-Searched s w w' at k first x = SearchOr (λ next m. Found s w w' at k first next m x) (Refuses x)
+abbrev pub Searched : List ℕ → List ℕ → List ℕ → ℕ → ℕ → ℕ → Got Search → Result (Read ℕ) Refusal → Type 0
+Searched s w w' at k first x = ReadOr (λ m next. Found s w w' at k first next m x) (Refuses x)

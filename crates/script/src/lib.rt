@@ -17,79 +17,65 @@ ghost use Rattle.definitions.specs.Table.{is_script};
 ghost use Rattle.definitions.specs.Reader.{digits};
 ghost use Rattle.definitions.specs.Script.{count_read, read_at, read_one, read_script};
 ghost use Rattle.lexer.specs.Places.{cursor_at};
-ghost use Rattle.script.specs.Reading.{reading_of, Halfway, RoundOf, ScriptRead};
+ghost use Rattle.script.specs.Reading.{reading_of, Halfway, RoundOf, StepOf, ScriptRead};
 
-use answers::{Answer, State};
+use answers::{Answer, Read, Refusal, State};
 use commands::count;
 use groups::{close_group, open_group};
 use lexer::bytes::{is_digit, is_letter};
 use lexer::names::name;
 use lexer::spaces::{skip_comment, skip_spaces};
 use named::named;
-use reading::read_round;
+use reading::{read_next, reader_at};
 use rounds::{finish, line_end, script_end, separator};
 
-// A round, and where it left the reader.
-#[derive(Clone, Copy)]
-pub struct Round {
-    pub answer: Answer,
-    pub at: usize,
-}
-
 // A repeat count.
-fn counted(s: &[u8], w: &mut [u32], st: State, at: usize) -> Answer
+fn counted(s: &[u8], w: &mut [u32], st: State, at: usize) -> Answer<State>
     requires { Halfway s.now w.old st at × (at < length s.now) × (is_digit (get_or s.now at 0) ≡ true) }
     ensures { RoundOf s.now w.old w.new st at (λ due groups acc. count_read due groups acc at (digits (cursor_at s.now at))) result }
 {
-    let c = count(s, w, st.k, at);
-    finish(w, st, c)
+    let command = count(s, w, st.k, at)?;
+    Ok(finish(w, st, command))
 }
 
 // Where a command may begin: the byte there says what it is.
-fn read_at(s: &[u8], w: &mut [u32], st: State, at: usize) -> Answer
+fn read_at(s: &[u8], w: &mut [u32], st: State, at: usize) -> Answer<State>
     requires { Halfway s.now w.old st at × (at < length s.now) }
     ensures { RoundOf s.now w.old w.new st at (λ due groups acc. read_at due groups acc (cursor_at s.now at)) result }
 {
-    let b = s[at];
-    if b == 59 {
-        return separator(st, at, at + 1);
+    match s[at] {
+        b';' => separator(st, at, at + 1),
+        b'\n' => line_end(w, st, at),
+        b'(' => open_group(w, st, at),
+        b')' => close_group(s, w, st, at),
+        b'\\' => separator(st, at, skip_comment(s, at + 1)),
+        b if is_digit(b) => counted(s, w, st, at),
+        b if is_letter(b) => named(s, w, st, at, name(s, at)),
+        b => {
+            let sign = Read {
+                value: u32::from(b),
+                next: at + 1,
+            };
+            named(s, w, st, at, sign)
+        }
     }
-    if b == 10 {
-        return line_end(w, st, at);
-    }
-    if b == 40 {
-        return open_group(w, st, at);
-    }
-    if b == 41 {
-        return close_group(s, w, st, at);
-    }
-    if is_digit(b) {
-        return counted(s, w, st, at);
-    }
-    if is_letter(b) {
-        let n = name(s, at);
-        return named(s, w, st, at, n.letters, n.next);
-    }
-    if b == 92 {
-        return separator(st, at, skip_comment(s, at + 1));
-    }
-    named(s, w, st, at, b as u32, at + 1)
 }
 
-// One round: a command, a prefix, a bracket or a separator; or the script's end.
-fn read_one(s: &[u8], w: &mut [u32], st: State, from: usize) -> Answer
+// One round: a command, a prefix, a bracket or a separator, and the state after it; none at the script's end.
+fn read_one(s: &[u8], w: &mut [u32], st: State, from: usize) -> Result<Option<Read<State>>, Refusal>
     requires { Halfway s.now w.old st from }
-    ensures { RoundOf s.now w.old w.new st from (λ due groups acc. read_one (reading_of s.now w.old st from acc)) result }
+    ensures { StepOf s.now w.old w.new st from (λ due groups acc. read_one (reading_of s.now w.old st from acc)) result }
 {
     let at = skip_spaces(s, from);
     if at < s.len() {
-        return read_at(s, w, st, at);
+        return Ok(Some(read_at(s, w, st, at)?));
     }
-    script_end(st, at)
+    script_end(st, at)?;
+    Ok(None)
 }
 
-// Reads a script: its items go to the work area, from the first word on.
-pub fn read_script(s: &[u8], w: &mut [u32]) -> Answer
+// Reads a script: its items go to the work area, from the first word on. Their end.
+pub fn read_script(s: &[u8], w: &mut [u32]) -> Result<usize, Refusal>
     requires { (is_script s.now ≡ true) × (2 * length s.now + 64 ≤ length w.old) }
     ensures { ScriptRead s.now w.new (read_script s.now) result }
 {
@@ -99,14 +85,11 @@ pub fn read_script(s: &[u8], w: &mut [u32]) -> Answer
         elses: false,
         depth: 0,
     };
-    let mut at = 0;
+    let mut reader = reader_at(s, 0);
     loop {
-        let round = read_round(s, w, st, at);
-        let answer = round.answer;
-        let Answer::More(next, _) = answer else {
-            return answer;
+        let Some(next) = read_next(&mut reader, w, st)? else {
+            return Ok(st.k);
         };
         st = next;
-        at = round.at;
     }
 }

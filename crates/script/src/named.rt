@@ -14,7 +14,7 @@ use crate::qualified::{aims, alters, globals, point_kind, split_kind};
 use crate::rounds::finish;
 use crate::searching::{branches, loops, seeks};
 use crate::words::names;
-use answers::{Answer, State};
+use answers::{Answer, Command, Fault, Read, State};
 use items::kinds::{AGP, IF_EOF, INSERT_STRING, JOIN, REPEAT};
 use lexer::shapes::{Shape, command};
 use lexer::words::skip_then;
@@ -28,13 +28,13 @@ fn decode(
     at: usize,
     shape: Shape,
     grouped: bool,
-) -> Answer
+) -> Answer<Command>
     requires { CommandRoom s.now w.old place at k × NameOf shape place at }
     ensures { ShapeRead s.now w.old w.new place at k grouped (shape_in shape) result }
 {
     match shape {
-        Shape::Plain(p) => whole_word(w, k, plain_kind(p), place, at),
-        Shape::Leaves => whole_word(w, k, AGP, place, at),
+        Shape::Plain(p) => Ok(whole_word(w, k, plain_kind(p), place, at)),
+        Shape::Leaves => Ok(whole_word(w, k, AGP, place, at)),
         Shape::Seeks(f) => seeks(s, w, k, place, at, f),
         Shape::Moves => moves(s, w, k, place, at),
         Shape::Deletes => deletes(s, w, k, place, at),
@@ -47,20 +47,23 @@ fn decode(
         Shape::Joins => quotes(s, w, k, place, at, JOIN),
         Shape::Globals(change) => globals(s, w, k, place, at, change),
         Shape::Names => names(s, w, k, place, at),
-        Shape::Repeats => prefix_word(w, k, REPEAT, place, at, false),
+        Shape::Repeats => Ok(prefix_word(w, k, REPEAT, place, at, false)),
         Shape::Branches(holds) => branches(s, w, k, place, at, holds),
-        Shape::BranchesEof => prefix_word(w, k, IF_EOF, place, skip_then(s, at), true),
+        Shape::BranchesEof => {
+            let next = skip_then(s, at);
+            Ok(prefix_word(w, k, IF_EOF, place, next, true))
+        }
         Shape::Loops(holds) => loops(s, w, k, place, at, holds),
-        Shape::Unknown => Answer::Refused(2, place),
+        Shape::Unknown => Err(Fault::Unknown.at(place)),
     }
 }
 
-// A command with this name, which stands at `at` and ends at `next`.
-pub fn named(s: &[u8], w: &mut [u32], st: State, at: usize, letters: u32, next: usize) -> Answer
-    requires { Halfway s.now w.old st at × (at < next) × (next ≤ length s.now) × (256 ≤ letters → at + 2 ≤ next) }
-    ensures { RoundOf s.now w.old w.new st at (λ due groups acc. «named-of» due groups acc at (token letters (cursor_at s.now next))) result }
+// A command with this name, which stands at `at`.
+pub fn named(s: &[u8], w: &mut [u32], st: State, at: usize, name: Read<u32>) -> Answer<State>
+    requires { Halfway s.now w.old st at × (at < name.next) × (name.next ≤ length s.now) × (256 ≤ name.value → at + 2 ≤ name.next) }
+    ensures { RoundOf s.now w.old w.new st at (λ due groups acc. «named-of» due groups acc at (token name.value (cursor_at s.now name.next))) result }
 {
-    let shape = command(letters);
-    let c = decode(s, w, st.k, at, next, shape, st.depth != 0);
-    finish(w, st, c)
+    let shape = command(name.value);
+    let c = decode(s, w, st.k, at, name.next, shape, st.depth != 0)?;
+    Ok(finish(w, st, c))
 }

@@ -6,7 +6,8 @@ ghost use Rattle.items.specs.Kinds.{change_kind, point_kind, split_kind, global_
 ghost use Rattle.script.specs.Reading.{CommandRoom};
 ghost use Rattle.script.specs.Commands.{Aims, PairGiven, PairWritten, ShapeRead};
 
-use answers::{Answer, Follow};
+use crate::commands::whole;
+use answers::{Answer, Command, Read};
 use items::arguments::string_word;
 use items::heads::head;
 use items::kinds::{
@@ -15,7 +16,7 @@ use items::kinds::{
 };
 use lexer::shapes::Change;
 use matching::search::put_string;
-use strings::{qualified_string, two_plain_strings, two_strings};
+use strings::{TwoStrings, qualified_string, two_plain_strings, two_strings};
 
 fn change_kind(change: Change, pointing: bool) -> u32
     ensures { result ≡ change_kind (change_of change) pointing }
@@ -34,25 +35,22 @@ fn change_kind(change: Change, pointing: bool) -> u32
 }
 
 // The words of a command of two strings, which were read.
-fn put_strings(w: &mut [u32], k: usize, kind: u32, place: usize, both: Answer) -> Answer
+fn put_strings(
+    w: &mut [u32],
+    k: usize,
+    kind: u32,
+    place: usize,
+    both: Read<TwoStrings>,
+) -> Read<Command>
     requires { PairGiven w.old k place kind both }
     ensures { PairWritten w.old w.new k place kind both result }
 {
-    let Answer::TwoStrings {
-        quals,
-        start,
-        end,
-        second,
-        second_end,
-        next,
-    } = both
-    else {
-        return both;
-    };
+    let TwoStrings { first, second } = both.value;
+    let part = first.part;
     w[k] = head(kind, place);
-    let m = put_string(w, k + 1, quals, start, end - start);
-    w[m] = string_word(second, second_end);
-    Answer::Command(Follow::Nothing, next, m + 1)
+    let m = put_string(w, k + 1, first.quals, part.start, part.end - part.start);
+    w[m] = string_word(second.start, second.end);
+    whole(m + 1, both.next)
 }
 
 // A, B, E, AP, BP, EP: a qualified string and a second string.
@@ -64,17 +62,12 @@ pub fn alters(
     at: usize,
     change: Change,
     pointing: bool,
-) -> Answer
+) -> Answer<Command>
     requires { CommandRoom s.now w.old place at k }
     ensures { ShapeRead s.now w.old w.new place at k false («alters-shape» (change_of change) pointing) result }
 {
-    put_strings(
-        w,
-        k,
-        change_kind(change, pointing),
-        place,
-        two_strings(s, at),
-    )
+    let both = two_strings(s, at)?;
+    Ok(put_strings(w, k, change_kind(change, pointing), place, both))
 }
 
 fn global_kind(change: Change) -> u32
@@ -88,11 +81,19 @@ fn global_kind(change: Change) -> u32
 }
 
 // GA, GB, GE: two strings, written as a change's are, the first without qualifiers.
-pub fn globals(s: &[u8], w: &mut [u32], k: usize, place: usize, at: usize, change: Change) -> Answer
+pub fn globals(
+    s: &[u8],
+    w: &mut [u32],
+    k: usize,
+    place: usize,
+    at: usize,
+    change: Change,
+) -> Answer<Command>
     requires { CommandRoom s.now w.old place at k }
     ensures { ShapeRead s.now w.old w.new place at k false («globals-shape» (change_of change)) result }
 {
-    put_strings(w, k, global_kind(change), place, two_plain_strings(s, at))
+    let both = two_plain_strings(s, at)?;
+    Ok(put_strings(w, k, global_kind(change), place, both))
 }
 
 pub fn point_kind(after: bool) -> u32
@@ -108,21 +109,26 @@ pub fn split_kind(after: bool) -> u32
 }
 
 // PA, PB, SA, SB: a qualified string.
-pub fn aims(s: &[u8], w: &mut [u32], k: usize, place: usize, at: usize, kind: u32) -> Answer
+pub fn aims(
+    s: &[u8],
+    w: &mut [u32],
+    k: usize,
+    place: usize,
+    at: usize,
+    kind: u32,
+) -> Answer<Command>
     requires { CommandRoom s.now w.old place at k × ((shape : Shape) × Aims kind shape) }
     ensures { (shape : Shape) → Aims kind shape → ShapeRead s.now w.old w.new place at k false shape result }
 {
-    let string = qualified_string(s, at, false);
-    let Answer::OneString {
-        quals,
-        start,
-        end,
-        next,
-    } = string
-    else {
-        return string;
-    };
+    let string = qualified_string(s, at, false)?;
+    let part = string.value.part;
     w[k] = head(kind, place);
-    let m = put_string(w, k + 1, quals, start, end - start);
-    Answer::Command(Follow::Nothing, next, m)
+    let m = put_string(
+        w,
+        k + 1,
+        string.value.quals,
+        part.start,
+        part.end - part.start,
+    );
+    Ok(whole(m, string.next))
 }

@@ -1,10 +1,10 @@
 // The reader that carries its place: a script, and the offset of its next byte. Thin: the work is done on the slice and numbers.
 ghost use Rattle.std.specs.Prelude.{◌≡◌};
 ghost use Rattle.script.specs.Reading.{Halfway};
-ghost use Rattle.script.specs.Placed.{Turned, Moves};
+ghost use Rattle.script.specs.Placed.{Moves};
 
-use crate::{Round, read_one};
-use answers::{Answer, State};
+use crate::read_one;
+use answers::{Refusal, State};
 
 #[derive(Clone, Copy)]
 pub struct Reader<'a> {
@@ -20,34 +20,18 @@ pub fn reader_at<'a>(script: &'a [u8], at: usize) -> Reader<'a>
     Reader { script, at }
 }
 
-// A round from a place on, on the slice and numbers. Where reading does not go on, the reader stays.
-fn read_from(s: &[u8], w: &mut [u32], st: State, at: usize) -> Round
-    requires { Halfway s.now w.old st at }
-    ensures { Turned s.now w.old w.new st at result.at result.answer }
-{
-    let answer = read_one(s, w, st, at);
-    let Answer::More(_, next) = answer else {
-        return Round { answer, at };
-    };
-    Round { answer, at: next }
-}
-
-// Reads the next round and moves on.
-pub fn read_next<'s, 'a, 'w>(r: &'s mut Reader<'a>, w: &'w mut [u32], st: State) -> Answer
+// Reads the next round and moves on; the state after it, none at the script's end. Where reading does not go on, the reader stays.
+pub fn read_next<'s, 'a, 'w>(
+    r: &'s mut Reader<'a>,
+    w: &'w mut [u32],
+    st: State,
+) -> Result<Option<State>, Refusal>
     requires { Halfway r.old.script.now w.old st r.old.at }
     ensures { Moves r.old r.new w.old w.new st result }
 {
-    let round = read_from(r.script, w, st, r.at);
-    r.at = round.at;
-    round.answer
-}
-
-// One round by a reader at a place, and the reader's place after it.
-pub fn read_round(s: &[u8], w: &mut [u32], st: State, at: usize) -> Round
-    requires { Halfway s.now w.old st at }
-    ensures { Turned s.now w.old w.new st at result.at result.answer }
-{
-    let mut r = reader_at(s, at);
-    let answer = read_next(&mut r, w, st);
-    Round { answer, at: r.at }
+    let Some(round) = read_one(r.script, w, st, r.at)? else {
+        return Ok(None);
+    };
+    r.at = round.next;
+    Ok(Some(round.value))
 }

@@ -5,63 +5,65 @@ ghost use Rattle.definitions.specs.Reader.{Got};
 ghost use Rattle.definitions.specs.Commands.{Decoded};
 ghost use Rattle.definitions.specs.Script.{separator as «separator-of», line_items};
 ghost use Rattle.lexer.specs.Places.{cursor_at};
-ghost use Rattle.script.specs.Reading.{ReadSoFar, CommandRead, HalfwayIn, RoundIn, Finishes};
+ghost use Rattle.script.specs.Reading.{ReadSoFar, CommandAt, HalfwayIn, RoundIn, Finishes};
 ghost use Rattle.script.specs.Placed.{separated, ended};
 
-use answers::{Answer, Follow, State};
+use answers::{Answer, Command, Fault, Follow, Read, Refusal, State};
 use items::kinds::LINE_END;
 use items::puts::put_closes;
 
 // `;`, a line end or a comment, with the place after it: where a body must follow it is missing, 3.
-pub fn separator(st: State, at: usize, next: usize) -> Answer
+pub fn separator(st: State, at: usize, next: usize) -> Answer<State>
     ensures { result ≡ separated st at next }
 {
     if st.due != 0 {
-        return Answer::Refused(3, at);
+        return Err(Fault::Argument.at(at));
     }
-    Answer::More(st, next)
+    Ok(Read { value: st, next })
 }
 
 // A line end: outside groups it is an item.
-pub fn line_end(w: &mut [u32], st: State, at: usize) -> Answer
+pub fn line_end(w: &mut [u32], st: State, at: usize) -> Answer<State>
     requires { HalfwayIn w.old st at }
     ensures { RoundIn w.old w.new st at (λ s due groups acc. «separator-of» due groups (line_items groups acc) at (cursor_at s (at + 1))) result }
 {
     if st.due != 0 {
-        return Answer::Refused(3, at);
+        return Err(Fault::Argument.at(at));
     }
     if st.depth != 0 {
-        return Answer::More(st, at + 1);
+        return Ok(Read {
+            value: st,
+            next: at + 1,
+        });
     }
     let k = st.k;
     w[k] = LINE_END;
-    let mut more = st;
-    more.k = k + 1;
-    Answer::More(more, at + 1)
+    Ok(Read {
+        value: State { k: k + 1, ..st },
+        next: at + 1,
+    })
 }
 
 // The script's end: a group that is never closed is 5.
-pub fn script_end(st: State, at: usize) -> Answer
+pub fn script_end(st: State, at: usize) -> Result<(), Refusal>
     ensures { result ≡ ended st at }
 {
     if st.due != 0 {
-        return Answer::Refused(3, at);
+        return Err(Fault::Argument.at(at));
     }
     if st.depth != 0 {
-        return Answer::Refused(5, at);
+        return Err(Fault::Bracket.at(at));
     }
-    Answer::Done(st.k)
+    Ok(())
 }
 
 // A command that was read, with its words: it closes the bodies that it was due for; after a prefix a command or group must follow.
-pub fn finish(w: &mut [u32], st: State, c: Answer) -> Answer
-    requires { (s : List ℕ) × (before : List ℕ) × (at : ℕ) × (acc : List Item) × (x : Got Decoded) × ReadSoFar s before st at acc × CommandRead s before w.old at st.k x c }
+pub fn finish(w: &mut [u32], st: State, c: Read<Command>) -> Read<State>
+    requires { (s : List ℕ) × (before : List ℕ) × (at : ℕ) × (acc : List Item) × (x : Got Decoded) × ReadSoFar s before st at acc × CommandAt s before w.old at st.k x c.value c.next }
     ensures { Finishes w.old w.new st c result }
 {
-    let Answer::Command(follow, next, m) = c else {
-        return c;
-    };
-    match follow {
+    let m = c.value.free;
+    match c.value.follow {
         Follow::Nothing => {
             let due = st.due;
             put_closes(w, m, due);
@@ -71,7 +73,10 @@ pub fn finish(w: &mut [u32], st: State, c: Answer) -> Answer
                 elses: false,
                 depth: st.depth,
             };
-            Answer::More(closed, next)
+            Read {
+                value: closed,
+                next: c.next,
+            }
         }
         Follow::Body(elses) => {
             let opened = State {
@@ -80,7 +85,10 @@ pub fn finish(w: &mut [u32], st: State, c: Answer) -> Answer
                 elses,
                 depth: st.depth,
             };
-            Answer::More(opened, next)
+            Read {
+                value: opened,
+                next: c.next,
+            }
         }
     }
 }

@@ -10,7 +10,8 @@ ghost use Rattle.script.specs.Reading.{CommandRoom};
 ghost use Rattle.script.specs.Commands.{ShapeRead};
 ghost use Rattle.script.specs.Searches.{Searched};
 
-use answers::{Answer, Follow};
+use crate::commands::{prefix, whole};
+use answers::{Answer, Command};
 use items::heads::head;
 use items::kinds::{FIND, FIND_BACK, FIND_DELETE, IF, UNLESS, UNTIL, WHILE};
 use items::puts::put_two;
@@ -19,17 +20,21 @@ use lexer::words::skip_then;
 use searches::search;
 
 // The first word, where the search ends, and the search. The groups' words are kept from it.
-fn search_words(s: &[u8], w: &mut [u32], k: usize, place: usize, at: usize, kind: u32) -> Answer
+fn search_words(
+    s: &[u8],
+    w: &mut [u32],
+    k: usize,
+    place: usize,
+    at: usize,
+    kind: u32,
+) -> Answer<usize>
     requires { CommandRoom s.now w.old place at k × (kind < 256) }
     ensures { Searched s.now w.old w.new at k («head_of» kind place) (search_expression (cursor_at s.now at)) result }
 {
     let limit = w.len() - 16;
-    let found = search(s, at, &mut w[..limit], k + 2);
-    let Answer::Search(_, m) = found else {
-        return found;
-    };
-    put_two(w, k, head(kind, place), m as u32);
-    found
+    let found = search(s, at, &mut w[..limit], k + 2)?;
+    put_two(w, k, head(kind, place), found.value as u32);
+    Ok(found)
 }
 
 fn seek_kind(seek: Seek) -> u32
@@ -43,15 +48,19 @@ fn seek_kind(seek: Seek) -> u32
 }
 
 // F, BF, DF.
-pub fn seeks(s: &[u8], w: &mut [u32], k: usize, place: usize, at: usize, seek: Seek) -> Answer
+pub fn seeks(
+    s: &[u8],
+    w: &mut [u32],
+    k: usize,
+    place: usize,
+    at: usize,
+    seek: Seek,
+) -> Answer<Command>
     requires { CommandRoom s.now w.old place at k }
     ensures { ShapeRead s.now w.old w.new place at k false («seeks-shape» (seek_of seek)) result }
 {
-    let found = search_words(s, w, k, place, at, seek_kind(seek));
-    let Answer::Search(next, m) = found else {
-        return found;
-    };
-    Answer::Command(Follow::Nothing, next, m)
+    let found = search_words(s, w, k, place, at, seek_kind(seek))?;
+    Ok(whole(found.value, found.next))
 }
 
 fn branch_kind(holds: bool) -> u32
@@ -61,15 +70,19 @@ fn branch_kind(holds: bool) -> u32
 }
 
 // IF (true), UL: THEN may follow.
-pub fn branches(s: &[u8], w: &mut [u32], k: usize, place: usize, at: usize, holds: bool) -> Answer
+pub fn branches(
+    s: &[u8],
+    w: &mut [u32],
+    k: usize,
+    place: usize,
+    at: usize,
+    holds: bool,
+) -> Answer<Command>
     requires { CommandRoom s.now w.old place at k × (place + 2 ≤ at) }
     ensures { ShapeRead s.now w.old w.new place at k false («branches-shape» holds) result }
 {
-    let found = search_words(s, w, k, place, at, branch_kind(holds));
-    let Answer::Search(next, m) = found else {
-        return found;
-    };
-    Answer::Command(Follow::Body(true), skip_then(s, next), m)
+    let found = search_words(s, w, k, place, at, branch_kind(holds))?;
+    Ok(prefix(true, found.value, skip_then(s, found.next)))
 }
 
 fn loop_kind(holds: bool) -> u32
@@ -79,13 +92,17 @@ fn loop_kind(holds: bool) -> u32
 }
 
 // WH (true), UT.
-pub fn loops(s: &[u8], w: &mut [u32], k: usize, place: usize, at: usize, holds: bool) -> Answer
+pub fn loops(
+    s: &[u8],
+    w: &mut [u32],
+    k: usize,
+    place: usize,
+    at: usize,
+    holds: bool,
+) -> Answer<Command>
     requires { CommandRoom s.now w.old place at k × (place + 2 ≤ at) }
     ensures { ShapeRead s.now w.old w.new place at k false («loops-shape» holds) result }
 {
-    let found = search_words(s, w, k, place, at, loop_kind(holds));
-    let Answer::Search(next, m) = found else {
-        return found;
-    };
-    Answer::Command(Follow::Body(false), next, m)
+    let found = search_words(s, w, k, place, at, loop_kind(holds))?;
+    Ok(prefix(false, found.value, found.next))
 }

@@ -4,29 +4,26 @@ ghost use Rattle.definitions.specs.Commands.{names_words};
 ghost use Rattle.script.specs.Reading.{CommandRoom};
 ghost use Rattle.script.specs.Commands.{ShapeRead};
 
-use answers::{Answer, Follow};
+use crate::commands::whole;
+use answers::{Answer, Command, Fault};
 use items::heads::head;
 use items::kinds::WORD_SET;
 use items::puts::put_one;
 use lexer::spaces::skip_spaces;
 use lexer::strings::quoted;
-use wordset::Decoded;
 
 // WORD: a string that names bytes. 33: a `-` or `"` that is used otherwise.
-pub fn names(s: &[u8], w: &mut [u32], k: usize, place: usize, at: usize) -> Answer
+pub fn names(s: &[u8], w: &mut [u32], k: usize, place: usize, at: usize) -> Answer<Command>
     requires { CommandRoom s.now w.old place at k }
     ensures { ShapeRead s.now w.old w.new place at k false names_words result }
 {
-    let string = quoted(s, skip_spaces(s, at));
-    let Answer::Two(start, end, next) = string else {
-        return string;
-    };
-    let decoded = wordset::decode(w, k + 1, s, start, end);
-    match decoded {
-        Decoded::Misused(p) => Answer::Refused(33, p),
-        Decoded::Set => {
+    let string = quoted(s, skip_spaces(s, at))?;
+    let part = string.value;
+    match wordset::decode(w, k + 1, s, part.start, part.end) {
+        Err(misused) => Err(Fault::Names.at(misused.at)),
+        Ok(()) => {
             put_one(w, k, head(WORD_SET, place));
-            Answer::Command(Follow::Nothing, next, k + 4)
+            Ok(whole(k + 4, string.next))
         }
     }
 }

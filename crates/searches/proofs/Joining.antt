@@ -14,10 +14,9 @@ use Rattle.definitions.specs.Strings.{operator}
 use Rattle.matching.specs.Words.{Encodes}
 use Rattle.matching.proofs.Running.{forward}
 use Rattle.matching.proofs.Keeping.{kept-take}
-use Rattle.answers.specs.declared.Answer.{Answer}
-use Rattle.answers.specs.Answers.{SearchOr}
+use Rattle.answers.specs.Answers.{read_as}
 use Rattle.lexer.specs.Places.{cursor_at}
-use Rattle.searches.specs.Parsing.{SearchRoom, SearchWritten, SearchRefused, Parsed}
+use Rattle.searches.specs.Parsing.{SearchWritten, SearchRefused, Parsed}
 use Rattle.searches.proofs.Answering.{Operated}
 use Rattle.searches.proofs.Steps.{Joint}
 
@@ -63,8 +62,8 @@ module _ {s : List ℕ} {op kind : ℕ} {right whole : ℕ → Cursor → Got Se
   module _ {first w : List ℕ} {k i m : ℕ} (joined : Joined s first w at k bound whole more i m) where
     -- no operator follows
     pub joined-ends : (u : List ℕ) → operator op (cursor_at s i) ≡ none → take k first ≡ take k u
-        → Parsed s u w at k bound (λ n. whole n (cursor_at s at)) (Answer.Search i m)
-    joined-ends u e before = SearchOr.read i m (record {
+        → Parsed s u w at k bound (λ n. whole n (cursor_at s at)) (read_as m i)
+    joined-ends u e before = record {
       search = joined.search;
       is = λ n h.
           let on = joined.rest n h in
@@ -75,18 +74,9 @@ module _ {s : List ℕ} {op kind : ℕ} {right whole : ℕ → Cursor → Got Se
       within = joined.within;
       room = joined.room;
       spare = joined.spare;
-    })
+    }
 
     module _ {next : ℕ} (operates : Operated s op i next) where
-      -- there is room for the right part, whose words begin after the word between the parts
-      pub right-room : {u : List ℕ} → SearchRoom s u at k → length first ≡ length u → SearchRoom s w next (m + 1)
-      right-room room same = record {
-        form = room.form;
-        inside = operates.within;
-        enough = omega (arith, room.enough, same, joined.long, joined.room, operates.after, operates.within);
-        fits = omega (arith, room.fits, joined.room, operates.after, operates.within);
-      }
-
       pub right-refused : (e p : ℕ) → SearchRefused (3 * (length s - next) + need) (λ n. right n (cursor_at s next)) e p
           → SearchRefused bound (λ n. whole n (cursor_at s at)) e p
       right-refused e p refusal n h =
@@ -95,16 +85,9 @@ module _ {s : List ℕ} {op kind : ℕ} {right whole : ℕ → Cursor → Got Se
           (refusal (on.0 - 1) (omega (arith, on.1, operates.after, operates.within)))
 
       module _ {w₂ : List ℕ} {past end : ℕ} (second : SearchWritten s w w₂ next (m + 1) (3 * (length s - next) + need) (λ n. right n (cursor_at s next)) past end) where
-        -- the loop goes on after the right part
-        pub further : (i < past) × (past ≤ length s)
-        further = (omega (arith, operates.after, second.after), second.within)
-
-        -- the word between the parts is one of the words, and the place that it holds fits
+        -- the word between the parts is one of the words
         pub between : m < length w₂
         between = let on = forward s w₂ (m + 1) end second.search second.encodes in omega (arith, on.0, on.1)
-
-        pub end_fits : {u : List ℕ} → SearchRoom s u at k → end ≤ 1073741823
-        end_fits room = omega (arith, room.fits, joined.room, second.room, operates.after, operates.within, second.within)
 
         pub joins : length w₂ ≡ length w → Joined s first (set w₂ m (4 * end + kind)) at k bound whole more past end
         joins same =

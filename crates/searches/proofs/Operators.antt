@@ -8,11 +8,11 @@ use lib.ListN.{length, get_or, length-drop}
 use borrow.Author.Tests.{eq-eqb, ne_eqb}
 use Rattle.definitions.specs.Reader.{place_at, bytes_left, next_byte, skip_spaces, skip_blank}
 use Rattle.definitions.specs.Strings.{closing, operator}
-use Rattle.answers.specs.declared.Answer.{Answer}
-use Rattle.answers.specs.Answers.{PastOr}
+use Rattle.std.specs.Prelude.{Ok, Some, None}
+use Rattle.answers.specs.declared.Fault.TheVariants.{Argument, Bracket}
+use Rattle.answers.specs.Answers.{refusal}
 use Rattle.lexer.specs.Places.{cursor_at}
 use Rattle.lexer.proofs.AtPlace.{is-next, not-next, next-in, next-end, after-in, next-inside}
-use Rattle.searches.specs.declared.Right.{Right}
 use Rattle.searches.specs.Parsing.{right_of, RightOn, Closes}
 
 module _ (s : List ℕ) (at b i : ℕ) (blank : skip_blank (cursor_at s at) ≡ cursor_at s i) where
@@ -20,17 +20,15 @@ module _ (s : List ℕ) (at b i : ℕ) (blank : skip_blank (cursor_at s at) ≡ 
   unfolding operator
   absent e = rw (blank, not-next b (cursor_at s i) e)
 
-  pub no-operator-left : 0 < b → length s ≤ i → (right_of s Right.Missing ≡ operator b (cursor_at s at)) × RightOn at (length s) Right.Missing
-  unfolding right_of RightOn
+  pub no-operator-left : 0 < b → length s ≤ i → (right_of s None ≡ operator b (cursor_at s at)) × RightOn at (length s) None
   no-operator-left pos h = (sym (absent (λ e. omega (arith, e, next-end s i h))), tt)
 
-  pub no-operator : i < length s → (get_or s i 0 ≡ b → ⊥) → (right_of s Right.Missing ≡ operator b (cursor_at s at)) × RightOn at (length s) Right.Missing
-  unfolding right_of RightOn
+  pub no-operator : i < length s → (get_or s i 0 ≡ b → ⊥) → (right_of s None ≡ operator b (cursor_at s at)) × RightOn at (length s) None
   no-operator h e = (sym (absent (λ f. e (sym (next-in s i h) ∙ f))), tt)
 
   pub operator-here : (next : ℕ) → i < length s → get_or s i 0 ≡ b → at ≤ i → skip_blank (cursor_at s (i + 1)) ≡ cursor_at s next → i + 1 ≤ next → next ≤ length s
-      → (right_of s (Right.At next) ≡ operator b (cursor_at s at)) × RightOn at (length s) (Right.At next)
-  unfolding right_of RightOn operator
+      → (right_of s (Some next) ≡ operator b (cursor_at s at)) × RightOn at (length s) (Some next)
+  unfolding operator
   operator-here next h e from blank₂ low high =
       (rw (blank, is-next b (cursor_at s i) (next-in s i h ∙ e), after-in s i h, blank₂), (omega arith, high))
 
@@ -38,9 +36,9 @@ module _ (s : List ℕ) (at i : ℕ) (spaces : skip_spaces (cursor_at s at) ≡ 
   pub bracket-inside : next_byte (cursor_at s i) ≡ 41 → i < length s
   bracket-inside e = next-inside s i (omega (arith, e))
 
-  pub closes_here : next_byte (cursor_at s i) ≡ 41 → at ≤ i → Closes s at (Answer.Past (i + 1))
+  pub closes_here : next_byte (cursor_at s i) ≡ 41 → at ≤ i → Closes s at (Ok (i + 1))
   unfolding closing
-  closes_here e from = PastOr.read (i + 1) (
+  closes_here e from = (
     λ se. rw (spaces, is-next 41 (cursor_at s i) e, after-in s i (bracket-inside e)),
     omega arith,
     omega (arith, bracket-inside e),
@@ -51,10 +49,10 @@ module _ (s : List ℕ) (at i : ℕ) (spaces : skip_spaces (cursor_at s at) ≡ 
     unfolding bytes_left
     left = rw blank (length-drop end s)
 
-    pub never-closed : length s ≤ end → Closes s at (Answer.Refused 5 end)
+    pub never-closed : length s ≤ end → Closes s at (refusal Bracket end)
     unfolding closing place_at
-    never-closed h = PastOr.refused 5 end (λ se. rw (spaces, not-next 41 (cursor_at s i) other, left, eq-eqb (length s - end) 0 (omega arith), blank))
+    never-closed h = (λ se. rw (spaces, not-next 41 (cursor_at s i) other, left, eq-eqb (length s - end) 0 (omega arith), blank))
 
-    pub something-else : end < length s → Closes s at (Answer.Refused 3 i)
+    pub something-else : end < length s → Closes s at (refusal Argument i)
     unfolding closing place_at
-    something-else h = PastOr.refused 3 i (λ se. rw (spaces, not-next 41 (cursor_at s i) other, left, ne_eqb (length s - end) 0 (λ e. omega (arith, e))))
+    something-else h = (λ se. rw (spaces, not-next 41 (cursor_at s i) other, left, ne_eqb (length s - end) 0 (λ e. omega (arith, e))))

@@ -7,8 +7,10 @@ use native.Mathlib.Omega.{arith}
 use lib.ListN.{length, drop, length-drop}
 use Rattle.definitions.specs.Reader.{place_at, bytes_left, next_byte, after_byte, is_next, skip_spaces}
 use Rattle.definitions.specs.Strings.{closing, part, alternatives, search_expression}
-use Rattle.answers.specs.declared.Answer.{Answer}
-use Rattle.answers.specs.Answers.{SearchOr}
+use Rattle.std.specs.Prelude.{Result}
+use Rattle.answers.specs.declared.Read.{Read}
+use Rattle.answers.specs.declared.Refusal.{Refusal}
+use Rattle.answers.specs.Answers.{read_as}
 use Rattle.lexer.specs.Places.{cursor_at}
 use Rattle.lexer.proofs.AtPlace.{is-next, not-next, after-in, next-inside}
 use Rattle.searches.specs.Parsing.{ClosesAt, NotClosed, string_part, SearchRoom, SearchWritten, SearchRefused, Parsed}
@@ -16,10 +18,10 @@ use Rattle.searches.proofs.Steps.{part-string, part-too-deep, part-inside, part-
 use Rattle.searches.proofs.Answering.{same-parsed, with-fuel}
 
 module _ (s : List ℕ) (at deep : ℕ) {i : ℕ} (spaces : skip_spaces (cursor_at s at) ≡ cursor_at s i) (from : at ≤ i) where
-  pub one-string : {u w : List ℕ} {k : ℕ} {r : Answer} → (next_byte (cursor_at s i) ≡ 40 → ⊥) → Parsed s u w at k 0 (λ n. string_part (cursor_at s at)) r
+  pub one-string : (u w : List ℕ) (k : ℕ) (r : Result (Read ℕ) Refusal) → (next_byte (cursor_at s i) ≡ 40 → ⊥) → Parsed s u w at k 0 (λ n. string_part (cursor_at s at)) r
       → Parsed s u w at k (3 * (length s - at) + 1) (λ n. part n deep (cursor_at s at)) r
-  one-string e parsed =
-      same-parsed parsed (omega arith) (λ n h. part-string n deep (cursor_at s at) (omega arith) (rw spaces (not-next 40 (cursor_at s i) e)))
+  one-string u w k r e parsed =
+      same-parsed s u w at k _ _ _ _ r parsed (omega arith) (λ n h. part-string n deep (cursor_at s at) (omega arith) (rw spaces (not-next 40 (cursor_at s i) e)))
 
   module _ (bracket : next_byte (cursor_at s i) ≡ 40) where
     opens : is_next 40 (skip_spaces (cursor_at s at)) ≡ true
@@ -31,9 +33,9 @@ module _ (s : List ℕ) (at deep : ℕ) {i : ℕ} (spaces : skip_spaces (cursor_
     inner : after_byte (skip_spaces (cursor_at s at)) ≡ cursor_at s (i + 1)
     inner = rw spaces (after-in s i bracket-within)
 
-    pub too_deep : {u w : List ℕ} {k : ℕ} → deep ≡ 0 → Parsed s u w at k (3 * (length s - at) + 1) (λ n. part n deep (cursor_at s at)) (Answer.Refused 5 i)
+    pub too_deep : deep ≡ 0 → SearchRefused (3 * (length s - at) + 1) (λ n. part n deep (cursor_at s at)) 5 i
     unfolding place_at
-    too_deep d = SearchOr.refused 5 i (λ n h. part-too-deep (cursor_at s at) opens n deep (omega arith) d ∙ rw spaces)
+    too_deep d = λ n h. part-too-deep (cursor_at s at) opens n deep (omega arith) d ∙ rw spaces
 
     pub inner_room : {u : List ℕ} {k : ℕ} → SearchRoom s u at k → SearchRoom s u (i + 1) k
     inner_room room = record {
@@ -58,8 +60,8 @@ module _ (s : List ℕ) (at deep : ℕ) {i : ℕ} (spaces : skip_spaces (cursor_
         pub inner-open : (e p : ℕ) → NotClosed s past e p → SearchRefused (3 * (length s - at) + 1) (λ n. part n deep (cursor_at s at)) e p
         inner-open e p refusal n h = inside n h ∙ refusal read.search
 
-        pub inner-closed : (next : ℕ) → ClosesAt s past next → Parsed s u w at k (3 * (length s - at) + 1) (λ n. part n deep (cursor_at s at)) (Answer.Search next m)
-        inner-closed next (closes, taken, within) = SearchOr.read next m (record {
+        pub inner-closed : (next : ℕ) → ClosesAt s past next → Parsed s u w at k (3 * (length s - at) + 1) (λ n. part n deep (cursor_at s at)) (read_as m next)
+        inner-closed next (closes, taken, within) = record {
           search = read.search;
           is = λ n h. inside n h ∙ closes read.search;
           encodes = read.encodes;
@@ -68,11 +70,11 @@ module _ (s : List ℕ) (at deep : ℕ) {i : ℕ} (spaces : skip_spaces (cursor_
           within = within;
           room = omega (arith, read.room, read.within);
           spare = λ digit. omega (arith, read.room, read.within, bracket-within);
-        })
+        }
 
 -- the whole expression
-pub whole-search : (s : List ℕ) (at : ℕ) {u w : List ℕ} {k : ℕ} {r : Answer} → Parsed s u w at k (3 * (length s - at) + 1) (λ n. part n 8 (cursor_at s at)) r
+pub whole-search : (s : List ℕ) (at : ℕ) (u w : List ℕ) (k : ℕ) (r : Result (Read ℕ) Refusal) → Parsed s u w at k (3 * (length s - at) + 1) (λ n. part n 8 (cursor_at s at)) r
     → Parsed s u w at k 0 (λ n. search_expression (cursor_at s at)) r
 unfolding search_expression bytes_left
-whole-search s at parsed =
-    with-fuel parsed (4 * length (drop at s) + 4) (omega (arith, length-drop at s))
+whole-search s at u w k r parsed =
+    with-fuel s u w at k _ _ r parsed (4 * length (drop at s) + 4) (omega (arith, length-drop at s))

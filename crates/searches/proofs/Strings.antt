@@ -14,8 +14,7 @@ use Rattle.matching.specs.declared.Quals.{Quals}
 use Rattle.matching.specs.Quals.{qualifiers_of}
 use Rattle.matching.specs.Words.{string_words, led_in, Writable}
 use Rattle.matching.proofs.Keeping.{string-encodes}
-use Rattle.answers.specs.declared.Answer.{Answer}
-use Rattle.answers.specs.Answers.{SearchOr}
+use Rattle.answers.specs.Answers.{read_as}
 use Rattle.lexer.specs.Places.{cursor_at}
 use Rattle.strings.specs.Answers.{StringAt, QuotedAt}
 use Rattle.strings.proofs.Callers.{string-few, string-spare, string-writable}
@@ -50,8 +49,8 @@ module _ (s w : List ℕ) (at k : ℕ) (room : SearchRoom s w at k) where
     part-is-string = rw read.0
 
     pub string-parsed : (w' : List ℕ) (m : ℕ) → w' ≡ sets w k written → m ≡ k + length written
-        → Parsed s w w' at k 0 (λ n. string_part (cursor_at s at)) (Answer.Search next m)
-    string-parsed w' m w-is m-is = rw (w-is, m-is) (SearchOr.read next (k + length written) (record {
+        → Parsed s w w' at k 0 (λ n. string_part (cursor_at s at)) (read_as m next)
+    string-parsed w' m w-is m-is = rw (w-is, m-is) (record {
       search = one (qualified (qualifiers_of q) (take (end - start) (drop start s)));
       is = λ n h. part-is-string;
       encodes = string-encodes s w k q start (end - start) can_write.0 (stands.formed (strings-short s room.form)) (omega (arith, stands.ordered, stands.ends, stands.within)) can_write.1;
@@ -60,7 +59,7 @@ module _ (s w : List ℕ) (at k : ℕ) (room : SearchRoom s w at k) where
       within = stands.within;
       room = omega (arith, few);
       spare = λ digit. omega (arith, string-spare s at q start end next stands (stands.closed digit));
-    }))
+    })
 
 pub string-refused : (s : List ℕ) (at e p : ℕ) → qualified_string true (cursor_at s at) ≡ refused e p → SearchRefused 0 (λ n. string_part (cursor_at s at)) e p
 unfolding string_part and_then

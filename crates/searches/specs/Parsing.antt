@@ -1,27 +1,27 @@
 -- What the reader of search expressions answers and writes. Assumes nothing.
-use Rattle.std.specs.Prelude.{◌≡◌, true, List, ℕ, suc, ◌+◌, ◌-◌, ◌*◌, ◌≤◌, length, take, get_or}
-use Rattle.std.proofs.Math.Option.{Option, none, some}
+use Rattle.std.specs.Prelude.{◌≡◌, true, List, ℕ, suc, ◌+◌, ◌-◌, ◌*◌, ◌≤◌, length, take, get_or, Option, Some, None, Result}
+use Rattle.std.proofs.Math.Option.{Option as Maybe, none, some}
 use Rattle.definitions.specs.Bytes.{is_digit}
 use Rattle.definitions.specs.Table.{is_script}
 use Rattle.definitions.specs.Reader.{Cursor, Got, got, refused, and_then, skip_spaces}
 use Rattle.definitions.specs.Search.{Search, one}
 use Rattle.definitions.specs.Strings.{qualified_string, closing}
 use Rattle.matching.specs.Words.{Encodes}
-use Rattle.answers.specs.declared.Answer.{Answer}
-use Rattle.answers.specs.Answers.{PastOr, SearchOr}
+use Rattle.answers.specs.declared.Read.{Read}
+use Rattle.answers.specs.declared.Refusal.{Refusal}
+use Rattle.answers.specs.Answers.{AnswerOr, ReadOr}
 use Rattle.lexer.specs.Places.{cursor_at}
-use Rattle.searches.specs.declared.Right.{Right}
 
 -- ---- operators and brackets
 
-unfoldable pub right_of : List ℕ → Right → Option Cursor
-right_of s (Right.At next) = some (cursor_at s next)
-right_of s Right.Missing = none
+abbrev pub right_of : List ℕ → Option ℕ → Maybe Cursor
+right_of s (Some next) = some (cursor_at s next)
+right_of s None = none
 
 -- the operator takes a byte, of n bytes
-unfoldable pub RightOn : ℕ → ℕ → Right → Type 0
-RightOn at n (Right.At next) = (suc at ≤ next) × (next ≤ n)
-RightOn at n Right.Missing = Unit {0}
+abbrev pub RightOn : ℕ → ℕ → Option ℕ → Type 0
+RightOn at n (Some next) = (suc at ≤ next) × (next ≤ n)
+RightOn at n None = Unit {0}
 
 -- the closing bracket, which takes a byte, after any search
 abbrev pub ClosesAt : List ℕ → ℕ → ℕ → Type 0
@@ -30,8 +30,8 @@ ClosesAt s at next = ((se : Search) → closing se (skip_spaces (cursor_at s at)
 abbrev pub NotClosed : List ℕ → ℕ → ℕ → ℕ → Type 0
 NotClosed s at k p = (se : Search) → closing se (skip_spaces (cursor_at s at)) ≡ refused k p
 
-abbrev pub Closes : List ℕ → ℕ → Answer → Type 0
-Closes s at = PastOr (ClosesAt s at) (NotClosed s at)
+abbrev pub Closes : List ℕ → ℕ → Result ℕ Refusal → Type 0
+Closes s at = AnswerOr (ClosesAt s at) (NotClosed s at)
 
 -- ---- searches
 
@@ -63,5 +63,5 @@ abbrev pub SearchRefused : ℕ → (ℕ → Got Search) → ℕ → ℕ → Type
 SearchRefused bound x e p = (n : ℕ) → bound ≤ n → x n ≡ refused e p
 
 -- what a reader of a search at `at` answers, with the words before and after
-abbrev pub Parsed : List ℕ → List ℕ → List ℕ → ℕ → ℕ → ℕ → (ℕ → Got Search) → Answer → Type 0
-Parsed script before words at k bound x = SearchOr (SearchWritten script before words at k bound x) (SearchRefused bound x)
+abbrev pub Parsed : List ℕ → List ℕ → List ℕ → ℕ → ℕ → ℕ → (ℕ → Got Search) → Result (Read ℕ) Refusal → Type 0
+Parsed script before words at k bound x = ReadOr (λ m next. SearchWritten script before words at k bound x next m) (SearchRefused bound x)

@@ -1,35 +1,33 @@
 -- What two journals leave from places on: a line further, and at the end. Assumes nothing.
 use mathlib.Core.Path.{◌≡◌, refl, sym, ap, subst, ◌∙◌}
 use mathlib.Core.Bool.{true, false≢true}
-use mathlib.Core.List.{List, [], ◌∷◌, ◌++◌}
+use mathlib.Core.List.{List, [], ◌++◌}
 use Prim.Native.Nat.{ℕ}
-use denote.Enum.Declared.{tag_of}
-use types.Run.{OneOf, miss}
+use Rattle.std.proofs.Common.{Some, None, Ok, Err}
 use Rattle.definitions.specs.Journal.{Record, old_side, new_side}
 use Rattle.definitions.specs.Joining.{by_middle, eq_lines}
 use Rattle.theorems.specs.JoinAnswers.{lines-equal, lines_are}
 use Rattle.journal.proofs.Left.{some_is}
-use Rattle.middle.specs.Middle.{next_at}
+use Rattle.middle.specs.Middle.{Coming, next_at}
 use Rattle.middle.specs.Leaving.{leaves, At, Stand}
 use Rattle.middle.specs.declared.Places.{Places}
-use Rattle.middle.specs.declared.Texts.{Texts}
 use Rattle.middle.specs.declared.Next.{Next}
-use Rattle.middle.specs.declared.Next.TheVariants.{Line as Ahead, Differ, End}
-use Rattle.middle.specs.contracts.Next.{the_type}
 use Rattle.middle.proofs.Steps.{Told, told}
 use Rattle.seasons.specs.Joined.{Due, Further}
 
--- the numbers of the variants of what comes next that are no line
-abbrev pub no_line : List ℕ
-no_line = 1 ∷ 2 ∷ []
-
 -- what comes next, told of `n` where it is `next_at`
-pub told_is : (j k : List ℕ) (p : Places) (rs ss : List Record) → At j k p rs ss → (n : Next) → n ≡ next_at j k p → Told j k p rs ss n
+pub told_is : (j k : List ℕ) (p : Places) (rs ss : List Record) → At j k p rs ss → (n : Coming) → n ≡ next_at j k p → Told j k p rs ss n
 told_is j k p rs ss h n e = subst (Told j k p rs ss) (sym e) (told j k p rs ss h)
 
 -- the records from places on are those that they are
 pub at_same : (j k : List ℕ) (p : Places) (rs ss rs' ss' : List Record) → At j k p rs ss → At j k p rs' ss' → (rs ≡ rs') × (ss ≡ ss')
 at_same j k p rs ss rs' ss' h i = (some_is rs rs' (sym h.first ∙ i.first), some_is ss ss' (sym h.second ∙ i.second))
+
+-- no line comes next
+abbrev pub Ends : Coming → Type 0
+Ends (Ok (Some n)) = ⊥
+Ends (Ok None) = Unit {0}
+Ends (Err e) = Unit {0}
 
 module _ (j k : List ℕ) (p : Places) where
   -- one list alone is due
@@ -42,10 +40,10 @@ module _ (j k : List ℕ) (p : Places) where
   agree-true w h = ap (eq_lines (new_side h.rs)) (sym h.agree) ∙ lines-equal (new_side h.rs)
 
   -- a line comes next
-  pub due-line : (w : List Record) → Due j k p w → (line : Texts) (next : Places) → next_at j k p ≡ Ahead line next
-      → (rest : List Record) × Due j k next rest × (w ≡ leaves j k line ++ rest) × Stand j k line × Further p next
-  due-line w h line next e =
-      let s = told_is j k p h.rs h.ss h.at (Ahead line next) (sym e) in (
+  pub due-line : (w : List Record) → Due j k p w → (n : Next) → next_at j k p ≡ Ok (Some n)
+      → (rest : List Record) × Due j k n.after rest × (w ≡ leaves j k n.line ++ rest) × Stand j k n.line × Further p n.after
+  due-line w h n e =
+      let s = told_is j k p h.rs h.ss h.at (Ok (Some n)) (sym e) in (
         by_middle s.rest s.rest₂,
         record {
           rs = s.rest;
@@ -60,10 +58,10 @@ module _ (j k : List ℕ) (p : Places) where
       )
 
   -- none comes next
-  pub due-none : (w : List Record) → Due j k p w → (n : Next) → n ≡ next_at j k p → OneOf no_line (tag_of the_type n) → w ≡ []
+  pub due-none : (w : List Record) → Due j k p w → (o : Coming) → o ≡ next_at j k p → Ends o → w ≡ []
   unfolding by_middle
-  due-none w h (Ahead line next) e o = absurd (miss no_line 0 tt o)
-  due-none w h Differ e o = absurd (false≢true (sym (told_is j k p h.rs h.ss h.at Differ e) ∙ agree-true w h))
-  due-none w h End e o =
-      let s = told_is j k p h.rs h.ss h.at End e in
+  due-none w h (Ok (Some n)) e ends = absurd ends
+  due-none w h (Err x) e ends = absurd (false≢true (sym (told_is j k p h.rs h.ss h.at (Err x) e).1 ∙ agree-true w h))
+  due-none w h (Ok None) e ends =
+      let s = told_is j k p h.rs h.ss h.at (Ok None) e in
       h.joined ∙ ap (λ (z : List Record). by_middle z h.ss) s.0 ∙ s.1

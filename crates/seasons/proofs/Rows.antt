@@ -3,16 +3,17 @@ use mathlib.Core.Path.{◌≡◌, refl, sym, ap, ◌∙◌}
 use mathlib.Core.Bool.{true, false, false≢true}
 use mathlib.Core.List.{List, [], ◌∷◌, ◌++◌}
 use Prim.Native.Nat.{ℕ}
+use Rattle.std.proofs.Common.{Option, Some, None}
 use Rattle.definitions.specs.Bytes.{Line}
 use Rattle.definitions.specs.Journal.{Record, kept, changed, deleted, inserted, change}
 use Rattle.definitions.specs.Arranging.{arrange_from, arrange}
 use Rattle.theorems.specs.RecordLaws.{by-change}
 use Rattle.theorems.specs.Arranged.{IsApart, Stretch, gone_in, came_in}
 use Rattle.theorems.specs.ArrangeLaws.{BeginsApart, arrange-apart, arrange-stretch, arrange-parts}
-use Rattle.middle.specs.Leaving.{leaves}
+use Rattle.middle.specs.Leaving.{leaves_by, leaves}
+use Rattle.journal.specs.declared.records.Span.{Span}
 use Rattle.middle.specs.declared.Texts.{Texts}
-use Rattle.middle.specs.declared.Texts.TheVariants.{Both, Old, New, Neither}
-use Rattle.seasons.specs.Joined.{is_both, stretch, after_stretch, of_kind}
+use Rattle.seasons.specs.Joined.{both_there, is_both, stretch, after_stretch, of_kind}
 use Rattle.seasons.specs.declared.write.Kind.{Kind}
 use Rattle.seasons.specs.declared.write.Kind.TheVariants.{WhatLeft, WhatCame}
 
@@ -69,20 +70,28 @@ apart-ends (deleted l) w h = absurd h
 apart-ends (inserted l) w h = absurd h
 
 module _ (j k : List ℕ) (w : List Record) where
+  both-ends-by : (o n : Option Span) → both_there o n ≡ true → (stretch (leaves_by j k o n ++ w) ≡ []) × (after_stretch (leaves_by j k o n ++ w) ≡ leaves_by j k o n ++ w)
+  unfolding both_there leaves_by
+  both-ends-by (Some o) (Some n) h = apart-ends (change _ _) w (change-apart _ _)
+  both-ends-by (Some o) None h = absurd (false≢true h)
+  both-ends-by None n h = absurd (false≢true h)
+
   pub both_ends : (line : Texts) → is_both line ≡ true → (stretch (leaves j k line ++ w) ≡ []) × (after_stretch (leaves j k line ++ w) ≡ leaves j k line ++ w)
   unfolding is_both leaves
-  both_ends (Both o n) h = apart-ends (change _ _) w (change-apart _ _)
-  both_ends (Old o) h = absurd (false≢true h)
-  both_ends (New n) h = absurd (false≢true h)
-  both_ends Neither h = absurd (false≢true h)
+  both_ends line h = both-ends-by line.old line.new h
+
+  line-more-by : (o n : Option Span) → both_there o n ≡ false
+      → (stretch (leaves_by j k o n ++ w) ≡ leaves_by j k o n ++ stretch w) × (after_stretch (leaves_by j k o n ++ w) ≡ after_stretch w)
+  unfolding both_there leaves_by stretch after_stretch
+  line-more-by (Some o) (Some n) h = absurd (false≢true (sym h))
+  line-more-by (Some o) None h = (refl, refl)
+  line-more-by None (Some n) h = (refl, refl)
+  line-more-by None None h = (refl, refl)
 
   pub line-more : (line : Texts) → is_both line ≡ false
       → (stretch (leaves j k line ++ w) ≡ leaves j k line ++ stretch w) × (after_stretch (leaves j k line ++ w) ≡ after_stretch w)
-  unfolding is_both leaves stretch after_stretch
-  line-more (Both o n) h = absurd (false≢true (sym h))
-  line-more (Old o) h = (refl, refl)
-  line-more (New n) h = (refl, refl)
-  line-more Neither h = (refl, refl)
+  unfolding is_both leaves
+  line-more line h = line-more-by line.old line.new h
 
 -- ---- records of one kind
 

@@ -3,11 +3,10 @@ use mathlib.Core.Path.{◌≡◌, refl, sym, ap, subst, ◌∙◌}
 use mathlib.Core.Bool.{true, false, false≢true}
 use mathlib.Core.Logic.{◌⊎◌, inl, inr, ⊎_elim}
 use mathlib.Core.List.{List, [], ◌∷◌, ◌++◌, append-nil}
+use Rattle.std.proofs.Common.{Option, Some, None, is_some, IfSome, Ok}
 use Prim.Native.Nat.{ℕ, ◌+◌, ◌≤◌}
 use native.Mathlib.Omega.{arith}
 use lib.ListN.{length}
-use denote.Enum.Declared.{tag_of}
-use types.Run.{OneOf, miss}
 use Rattle.definitions.specs.Journal.{Record, change, record_bytes, journal_length, journal_bytes}
 use Rattle.definitions.specs.Arranging.{arrange_from, arrange}
 use Rattle.theorems.specs.JournalBytes.{record-length, journal-length, length_both}
@@ -18,21 +17,17 @@ use Rattle.text.specs.Buffer.{laid}
 use Rattle.text.proofs.Buffer.{laid_none, laid-laid}
 use Rattle.journal.specs.Views.{Puts}
 use Rattle.journal.proofs.Writing.{puts-both, puts-length}
-use Rattle.middle.specs.Middle.{next_at}
-use Rattle.middle.specs.Leaving.{text_in, leaves, Within, Stand}
+use Rattle.middle.specs.Middle.{Coming, next_at}
+use Rattle.middle.specs.Leaving.{text_in, leaves_by, leaves, Within, Stand}
 use Rattle.middle.specs.declared.Places.{Places}
-use Rattle.middle.specs.declared.Text.{Text}
 use Rattle.middle.specs.declared.Texts.{Texts}
-use Rattle.middle.specs.declared.Texts.TheVariants.{Both, Old, New, Neither}
+use Rattle.journal.specs.declared.records.Span.{Span}
 use Rattle.middle.specs.declared.Next.{Next}
-use Rattle.middle.specs.declared.Next.TheVariants.{Line as Ahead}
-use Rattle.middle.specs.contracts.Next.{the_type}
-use Rattle.middle.specs.contracts.Texts.{the_type as texts-type}
-use Rattle.seasons.specs.Joined.{Due, start, is_both, stretch, after_stretch, of_kind, Further, RowPut, Advances}
+use Rattle.seasons.specs.Joined.{Due, start, both_there, is_both, stretch, after_stretch, of_kind, Further, RowPut, Advances}
 use Rattle.seasons.specs.declared.write.Kind.{Kind}
 use Rattle.seasons.specs.declared.write.Kind.TheVariants.{WhatLeft, WhatCame}
 use Rattle.seasons.specs.declared.write.Row.{Row}
-use Rattle.seasons.proofs.Dues.{no_line, due-same, due-line, due-none}
+use Rattle.seasons.proofs.Dues.{Ends, due-same, due-line, due-none}
 use Rattle.seasons.proofs.Lengths.{places-within}
 use Rattle.seasons.proofs.Rows.{stretch-whole, stretch-arranged, arrange-row, arrange-both, both_ends, line-more, kind-none, kind-append}
 
@@ -60,11 +55,14 @@ laid_next : (a b d d' : List ℕ) (o o' : ℕ) → o + length a ≤ length d →
 laid_next a b d d' o o' h q =
     sym (laid-laid d o a h b) ∙ ap (λ (x : List ℕ). laid x (o + length a) b) (sym q.1) ∙ ap (λ (i : ℕ). laid d' i b) (sym q.0)
 
-not_line : (n : Next) → OneOf no_line (tag_of the_type n) → (line : Texts) (next : Places) → n ≡ Ahead line next → ⊥
-not_line n t line next e = miss no_line 0 tt (subst (λ (x : Next). OneOf no_line (tag_of the_type x)) e t)
+next-is : (m n : Next) → ◌≡◌ {A = Coming} (Ok (Some m)) (Ok (Some n)) → m ≡ n
+next-is m n h = some-is m n (ok-is (Some m) (Some n) h)
+  where
+    ok-is : (a b : Option Next) → ◌≡◌ {A = Coming} (Ok a) (Ok b) → a ≡ b
+    ok-is a b h = cc
 
-line-is : (l : Texts) (q : Places) (line : Texts) (next : Places) → Ahead l q ≡ Ahead line next → l ≡ line
-line-is l q line next h = cc
+    some-is : (a b : Next) → Some a ≡ Some b → a ≡ b
+    some-is a b h = cc
 
 further-on : (p q r : Places) → Further p q → Further q r → Further p r
 further-on p q r h i = omega arith
@@ -101,7 +99,7 @@ module _ (kind : Kind) (j k : List ℕ) (p : Places) (d₀ : List ℕ) (out : �
     rowing-within = places-within j k at r.due.rs r.due.ss r.due.at
 
     -- the stretch has ended
-    ended-row : stretch r.rest ≡ [] → after_stretch r.rest ≡ r.rest → ((line : Texts) (next : Places) → next_at j k at ≡ Ahead line next → is_both line ≡ false → ⊥)
+    ended-row : stretch r.rest ≡ [] → after_stretch r.rest ≡ r.rest → ((n : Next) → next_at j k at ≡ Ok (Some n) → is_both n.line ≡ false → ⊥)
         → (w : List Record) → Due j k p w → RowPut kind j k p w d₀ out d (record { end = at; out = o })
     ended-row s a stays w h =
         let u = r.whole w h in
@@ -111,26 +109,32 @@ module _ (kind : Kind) (j k : List ℕ) (p : Places) (d₀ : List ℕ) (out : �
             omega (arith, u.1, ap journal_length z ∙ none-long, journal-length (of_kind kind (stretch w))),
             sym (u.2 ∙ ap (λ (x : List Record). laid d o (journal_bytes x)) z ∙ none-laid d o),
           );
-          further = λ line next i b. ⊎_elim (λ q. absurd (stays line next (ap (next_at j k) q ∙ i) b)) (λ q. q) r.begun;
+          further = λ n i b. ⊎_elim (λ q. absurd (stays n (ap (next_at j k) q ∙ i) b)) (λ q. q) r.begun;
         }
 
     -- at the end of both journals, or where they differ
-    pub rowing-end : (n : Next) → n ≡ next_at j k at → OneOf no_line (tag_of the_type n) → (w : List Record) → Due j k p w
+    pub rowing-end : (c : Coming) → c ≡ next_at j k at → Ends c → (w : List Record) → Due j k p w
         → RowPut kind j k p w d₀ out d (record { end = at; out = o })
-    rowing-end n e t =
-        let z = due-none j k at r.rest r.due n e t in
-        ended-row (ap stretch z ∙ none-stretch.0) (ap after_stretch z ∙ none-stretch.1 ∙ sym z) (λ line next i b. not_line n t line next (e ∙ i))
+    rowing-end c e t =
+        let z = due-none j k at r.rest r.due c e t in
+        ended-row (ap stretch z ∙ none-stretch.0) (ap after_stretch z ∙ none-stretch.1 ∙ sym z) (λ n i b. subst Ends (e ∙ i) t)
 
-    module _ (line : Texts) (next : Places) (e : next_at j k at ≡ Ahead line next) where
+    module _ (n : Next) (e : next_at j k at ≡ Ok (Some n)) where
+      abbrev line : Texts
+      line = n.line
+
+      abbrev next : Places
+      next = n.after
+
       ahead : (rest : List Record) × Due j k next rest × (r.rest ≡ leaves j k line ++ rest) × Stand j k line × Further at next
-      ahead = due-line j k at r.rest r.due line next e
+      ahead = due-line j k at r.rest r.due n e
 
       -- at a line with both texts
       pub rowing-both : is_both line ≡ true → (w : List Record) → Due j k p w → RowPut kind j k p w d₀ out d (record { end = at; out = o })
       rowing-both b =
           let z = both_ends j k ahead.0 line b in
           ended-row (ap stretch ahead.2 ∙ z.0) (ap after_stretch ahead.2 ∙ z.1 ∙ sym ahead.2)
-          (λ l q i c. false≢true (sym c ∙ ap is_both (line-is l q line next (sym i ∙ e)) ∙ b))
+          (λ m i c. false≢true (sym c ∙ ap (λ (x : Next). is_both x.line) (next-is m n (sym i ∙ e)) ∙ b))
 
       pub rowing-stands : Stand j k line
       rowing-stands = ahead.3
@@ -150,7 +154,7 @@ module _ (kind : Kind) (j k : List ℕ) (p : Places) (d₀ : List ℕ) (out : �
         long : journal_length (of_kind kind (stretch r.rest)) ≡ length (journal_bytes (of_kind kind (leaves j k line))) + journal_length (of_kind kind (stretch ahead.0))
         long =
             ap journal_length records-are ∙ length_both (of_kind kind (leaves j k line)) (of_kind kind (stretch ahead.0))
-            ∙ ap (λ (n : ℕ). n + journal_length (of_kind kind (stretch ahead.0))) (sym (journal-length (of_kind kind (leaves j k line))))
+            ∙ ap (λ (z : ℕ). z + journal_length (of_kind kind (stretch ahead.0))) (sym (journal-length (of_kind kind (leaves j k line))))
 
         pub rowing-room : o + length (journal_bytes (of_kind kind (leaves j k line))) ≤ length d
         rowing-room = omega (arith, r.room, long)
@@ -195,7 +199,7 @@ module _ (j k : List ℕ) (p : Places) (w : List Record) (h : Due j k p w) (d : 
     pub came-fits : (x : List Record) × Due j k p x × (r₁.out + journal_length (of_kind WhatCame (stretch x)) ≤ length d₁)
     came-fits = (w, h, unfold of_kind in (omega (arith, both-fit, puts-left.0, journal-length (gone_in (stretch w)), puts-length (journal_bytes (gone_in (stretch w))) d d₁ out r₁.out first-room puts-left)))
 
-    module _ (d₂ : List ℕ) (r₂ : Row) (b : RowPut WhatCame j k p w d₁ r₁.out d₂ r₂) (line : Texts) (next : Places) (e : next_at j k p ≡ Ahead line next) (o : is_both line ≡ false) where
+    module _ (d₂ : List ℕ) (r₂ : Row) (b : RowPut WhatCame j k p w d₁ r₁.out d₂ r₂) (n : Next) (e : next_at j k p ≡ Ok (Some n)) (o : is_both n.line ≡ false) where
       puts-came : Puts (journal_bytes (came_in (stretch w))) d₁ r₁.out d₂ r₂.out
       puts-came = unfold of_kind in b.puts
 
@@ -207,24 +211,26 @@ module _ (j k : List ℕ) (p : Places) (w : List Record) (h : Due j k p w) (d : 
         arranged = arrange-row w;
         puts = subst (λ (x : List ℕ). Puts x d out d₂ r₂.out) (sym (journal-append (gone_in (stretch w)) (came_in (stretch w))))
             (puts-both (journal_bytes (gone_in (stretch w))) (journal_bytes (came_in (stretch w))) d d₁ d₂ out r₁.out r₂.out first-room puts-left puts-came);
-        further = b.further line next e o;
+        further = b.further n e o;
       }
 
   -- a line with both texts
-  module _ (line : Texts) (next : Places) (e : next_at j k p ≡ Ahead line next) (o n : Text) (is : line ≡ Both o n) where
-    both-ahead : (rest : List Record) × Due j k next rest × (w ≡ leaves j k line ++ rest) × Stand j k line × Further p next
-    both-ahead = due-line j k p w h line next e
+  module _ (m : Next) (e : next_at j k p ≡ Ok (Some m)) (o n : Span) (is : m.line.old ≡ Some o) (is₂ : m.line.new ≡ Some n) where
+    both-ahead : (rest : List Record) × Due j k m.after rest × (w ≡ leaves j k m.line ++ rest) × Stand j k m.line × Further p m.after
+    both-ahead = due-line j k p w h m e
 
     both_is : w ≡ change (text_in j o) (text_in k n) ∷ both-ahead.0
-    unfolding leaves
-    both_is = both-ahead.2 ∙ ap (λ (x : List Record). x ++ both-ahead.0) (ap (leaves j k) is)
+    unfolding leaves leaves_by
+    both_is =
+        both-ahead.2 ∙ ap (λ (x : Option Span). leaves_by j k x m.line.new ++ both-ahead.0) is
+        ∙ ap (λ (x : Option Span). leaves_by j k (Some o) x ++ both-ahead.0) is₂
 
     pub both-fits : Within j o × Within k n × (out + length (record_bytes (change (text_in j o) (text_in k n))) ≤ length d)
     both-fits =
-        let s : Within j o × Within k n = rw is at both-ahead.3 in
+        let s : Within j o × Within k n = (subst (λ (t : Option Span). IfSome t (Within j)) is both-ahead.3.0, subst (λ (t : Option Span). IfSome t (Within k)) is₂ both-ahead.3.1) in
         (s.0, s.1, unfold journal_length in (omega (arith, room, ap journal_length both_is, record-length (change (text_in j o) (text_in k n)))))
 
-    pub both-done : (d₁ : List ℕ) (r : ℕ) → Puts (record_bytes (change (text_in j o) (text_in k n))) d out d₁ r → Advances j k p w d out d₁ (record { end = next; out = r })
+    pub both-done : (d₁ : List ℕ) (r : ℕ) → Puts (record_bytes (change (text_in j o) (text_in k n))) d out d₁ r → Advances j k p w d out d₁ (record { end = m.after; out = r })
     both-done d₁ r q = record {
       part = change (text_in j o) (text_in k n) ∷ [];
       rest = both-ahead.0;
@@ -239,12 +245,37 @@ pub whoever : (j k : List ℕ) (p : Places) (w : List Record) → Due j k p w �
     → (v : List Record) → Due j k p v → Advances j k p v d out d' row
 whoever j k p w h d out d' row a v i = subst (λ (x : List Record). Advances j k p x d out d' row) (due-same j k p w v h i) a
 
-pub not-both : (line : Texts) → OneOf (1 ∷ 2 ∷ 3 ∷ []) (tag_of texts-type line) → is_both line ≡ false
-unfolding is_both
-not-both (Both o n) t = absurd (miss (1 ∷ 2 ∷ 3 ∷ []) 0 tt t)
-not-both (Old o) t = refl
-not-both (New n) t = refl
-not-both Neither t = refl
+-- whether a line has both texts
+pub both-is : (line : Texts) → is_some line.old ≡ true → is_some line.new ≡ is_both line
+unfolding is_both both_there
+both-is line h = go line.old line.new h
+  where
+    go : (o n : Option Span) → is_some o ≡ true → is_some n ≡ both_there o n
+    go (Some o) (Some n) h = refl
+    go (Some o) None h = refl
+    go None n h = absurd (false≢true h)
+
+pub both-not : (line : Texts) → is_some line.old ≡ false → false ≡ is_both line
+unfolding is_both both_there
+both-not line h = go line.old line.new h
+  where
+    go : (o n : Option Span) → is_some o ≡ false → false ≡ both_there o n
+    go (Some o) n h = absurd (false≢true (sym h))
+    go None n h = refl
+
+-- a line without an old text, and one without a new text
+module _ (line : Texts) where
+  pub no_old : line.old ≡ None → is_both line ≡ false
+  unfolding is_both both_there
+  no_old e = rw e
+
+  pub no_new : line.new ≡ None → is_both line ≡ false
+  unfolding is_both both_there
+  no_new e = rw e (go line.old)
+    where
+      go : (o : Option Span) → both_there o None ≡ false
+      go (Some o) = refl
+      go None = refl
 
 -- ---- all
 
@@ -270,9 +301,9 @@ module _ (j k d₀ : List ℕ) where
     pub going-within : p.first + p.second ≤ length j + length k
     going-within = places-within j k p g.due.rs g.due.ss g.due.at
 
-    pub going_end : (n : Next) → n ≡ next_at j k p → OneOf no_line (tag_of the_type n) → (w : List Record) → Due j k start w → d ≡ laid d₀ 0 (journal_bytes (arrange w))
-    going_end n e t w h =
-        sym (g.whole w h ∙ ap (λ (z : List Record). laid d out (journal_bytes (arrange z))) (due-none j k p g.rest g.due n e t) ∙ none-arranged d out)
+    pub going_end : (c : Coming) → c ≡ next_at j k p → Ends c → (w : List Record) → Due j k start w → d ≡ laid d₀ 0 (journal_bytes (arrange w))
+    going_end c e t w h =
+        sym (g.whole w h ∙ ap (λ (z : List Record). laid d out (journal_bytes (arrange z))) (due-none j k p g.rest g.due c e t) ∙ none-arranged d out)
 
     module _ (d' : List ℕ) (row : Row) (a : Advances j k p g.rest d out d' row) where
       part-long : journal_length g.rest ≡ length (journal_bytes a.part) + journal_length a.rest

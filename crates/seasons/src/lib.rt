@@ -9,26 +9,19 @@ ghost use Rattle.definitions.specs.Joining.{join_to};
 ghost use Rattle.journal.specs.Reading.{answered};
 
 use joinable::joinable;
-use journal::Reading;
-use measure::Measured;
+use journal::Refusal;
 
 // Checks 11, then 32, then 10, then writes.
-pub fn join(j: &[u8], k: &[u8], dest: &mut [u8]) -> Reading
+pub fn join(j: &[u8], k: &[u8], dest: &mut [u8]) -> Result<usize, Refusal>
     ensures { answered result dest.new ≡ join_to j.now k.now dest.old }
 {
     if !joinable(j) {
-        return Reading::Malformed;
+        return Err(Refusal::Malformed);
     }
     if !joinable(k) {
-        return Reading::Malformed;
+        return Err(Refusal::Malformed);
     }
-    let found = measure::measure(j, k, dest.len());
-    match found {
-        Measured::Fits(n) => {
-            write::write(j, k, dest);
-            Reading::Wrote(n)
-        }
-        Measured::TooLong => Reading::Short,
-        Measured::Apart => Reading::Differ,
-    }
+    let n = measure::measure(j, k, dest.len())?;
+    write::write(j, k, dest);
+    Ok(n)
 }

@@ -1,7 +1,6 @@
 -- F, BF and DF over lines: steps one after another. Assumes nothing.
-use mathlib.Core.Path.{◌≡◌, refl, ap, ◌∙◌}
-use mathlib.Core.Bool.{true, false}
-use mathlib.Core.Logic.{◌⊎◌, ⊎_elim}
+use mathlib.Core.Path.{◌≡◌, refl, sym, ap, ◌∙◌}
+use mathlib.Core.Bool.{Bool, true, false, true≢false}
 use Prim.Native.Nat.{ℕ, suc, ◌+◌, ◌-◌, ◌≤◌, ◌<◌}
 use native.Mathlib.Omega.{arith}
 use mathlib.Core.List.{List}
@@ -12,12 +11,13 @@ use Rattle.definitions.specs.StepProgram.{RunState, state, text_of, Out, on, edi
 use Rattle.definitions.specs.Edit.{Op, step}
 use Rattle.editor.specs.Shows.{lent}
 use Rattle.editor.specs.Current.{PointOut, Ready, TableOut}
+use Rattle.std.specs.Prelude.{Result, Ok, Err}
 use Rattle.editor.specs.declared.State.{State}
 use Rattle.editor.proofs.Tables.{keeps-table}
 use Rattle.editor.proofs.Points.{keeps-point}
+use Rattle.editor.specs.declared.Stopped.{Stopped}
 use Rattle.seeks.specs.declared.Looked.{Looked}
-use Rattle.seeks.specs.declared.Looked.TheVariants.{Yes, No, Stop}
-use Rattle.seeks.specs.Looks.{Looks, LooksAs, carried_of, Steps, further, steps_of}
+use Rattle.seeks.specs.Looks.{holding, Looks, LooksAs, carried_of, Steps, further, steps_of}
 use Rattle.seeks.proofs.Carrying.{LeavesOp, step-leaves}
 
 -- after `made` of at most `left` steps the search goes on in a state that the buffer shows; the same globals stand
@@ -37,13 +37,25 @@ seeking-start g op i left e c t h =
 
 -- the steps are spent
 pub seeking-spent : {g : Given} {op : ℕ → Op} {i left made : ℕ} {table : List ℕ} {c : Carried} {s₀ : RunState} {t₀ : Tape} {j : List ℕ} {s : State} → Underway g op i left made table c s₀ t₀ j s
-    → left ≤ made → made ≤ left → LooksAs j (No s) (steps_of g op i left s₀ t₀).0 × PointOut (steps_of g op i left s₀ t₀).0.0 × (made ≡ (steps_of g op i left s₀ t₀).1)
+    → left ≤ made → made ≤ left → LooksAs j (holding false s) (steps_of g op i left s₀ t₀).0 × PointOut (steps_of g op i left s₀ t₀).0.0 × (made ≡ (steps_of g op i left s₀ t₀).1)
 unfolding Looks steps_of text_of
 seeking-spent {g} {op} {i} {left} {made} {c = c} w all few =
     let z : left - made ≡ 0 = omega arith in
     let now : RunState = state w.now c in
     let x : (steps_of g op (i + made) (left - made) now w.unread) ≡ ((on false now, w.unread), 0) = rw z in
-    (rw (w.comes, x) w.ready.shows, rw (w.comes, x) w.ready.point, rw (w.count, x) (omega arith))
+    ((rw (w.comes, x) (refl, w.ready.shows)), rw (w.comes, x) w.ready.point, rw (w.count, x) (omega arith))
+
+-- a line is found, or the run stops
+abbrev pub Ending : Result Looked Stopped → Type 0
+Ending (Ok x) = x.held ≡ true
+Ending (Err s) = Unit {0}
+
+pub ends-stopped : (r : Result Looked Stopped) (s : Stopped) → r ≡ Err s → Ending r
+ends-stopped r s is = rw is tt
+
+-- the search goes on
+pub goes-not : (r : Result Looked Stopped) (x : Looked) → r ≡ Ok x → x.held ≡ false → r ≡ holding false x.st
+goes-not r x is held = is ∙ ap (λ (b : Bool). holding b x.st) held
 
 -- what a step's answer says of its outcome
 module _ (k : List ℕ) (f : RunState → Tape → Steps) where
@@ -53,24 +65,23 @@ module _ (k : List ℕ) (f : RunState → Tape → Steps) where
     ready : Ready table k s text t
     is : further f out t ≡ ((f (state text c) t).0, suc (f (state text c) t).1)
 
-  went_on : (table : List ℕ) (c : Carried) (s : State) (out : Out) (t : Tape) → Looks k (No s) out t → PointOut out → TableOut table out t → carried_of out ≡ c → WentOn table c s out t
+  went_on : (table : List ℕ) (c : Carried) (s : State) (out : Out) (t : Tape) → Looks k (holding false s) out t → PointOut out → TableOut table out t → carried_of out ≡ c → WentOn table c s out t
   unfolding Looks further text_of carried_of
-  went_on table c s (on true (state e d)) t w p o q = absurd w
-  went_on table c s (on false (state e d)) t w p o q = record { text = e; ready = record { shows = w; point = p; old = o }; is = rw q refl }
-  went_on table c s (edited (state e d)) t w p o q = absurd w
+  went_on table c s (on true (state e d)) t w p o q = absurd (true≢false (sym w.0))
+  went_on table c s (on false (state e d)) t w p o q = record { text = e; ready = record { shows = w.1; point = p; old = o }; is = rw q refl }
+  went_on table c s (edited (state e d)) t w p o q = absurd (true≢false (sym w.0))
   went_on table c s (halt n (state e d)) t w p o q = absurd w
 
   -- where it ends
-  ended_by : (x : Looked) (out : Out) (t : Tape) → ((s : State) → x ≡ No s → ⊥) → Looks k x out t → further f out t ≡ ((out, t), 1)
+  ended_by : (x : Result Looked Stopped) (out : Out) (t : Tape) → Ending x → Looks k x out t → further f out t ≡ ((out, t), 1)
   unfolding Looks further
-  ended_by (Yes s) (on true (state e c)) t never w = refl
-  ended_by (Yes s) (on false (state e c)) t never w = absurd w
-  ended_by (Yes s) (edited (state e c)) t never w = refl
-  ended_by (Yes s) (halt n (state e c)) t never w = absurd w
-  ended_by (No s) out t never w = absurd (never s refl)
-  ended_by (Stop m s) (on b (state e c)) t never w = absurd w
-  ended_by (Stop m s) (edited (state e c)) t never w = absurd w
-  ended_by (Stop m s) (halt n (state e c)) t never w = refl
+  ended_by (Ok x) (on true (state e c)) t held w = refl
+  ended_by (Ok x) (on false (state e c)) t held w = absurd (true≢false (sym held ∙ w.0))
+  ended_by (Ok x) (edited (state e c)) t held w = refl
+  ended_by (Ok x) (halt n (state e c)) t held w = absurd w
+  ended_by (Err y) (on b (state e c)) t held w = absurd w
+  ended_by (Err y) (edited (state e c)) t held w = absurd w
+  ended_by (Err y) (halt n (state e c)) t held w = refl
 
 -- one step more
 steps-more : (g : Given) (op : ℕ → Op) (i k n m : ℕ) (s : RunState) (t : Tape) → n ≡ suc m → k ≡ suc i
@@ -97,15 +108,15 @@ module _ (j₀ : List ℕ) {op : ℕ → Op} (leaves : (n : ℕ) → LeavesOp (o
   points = keeps-point (lent j₀) (op (i + made)) w.now c w.unread w.ready.shows.grounded w.ready.point
 
   -- the line is found, or the run stops
-  pub seeking-ends : (k : List ℕ) (g : Given) → g ≡ lent j₀ → (x : Looked) → ((u : State) → x ≡ No u → ⊥) → LooksAs k x (step g (op (i + made)) at_now w.unread)
+  pub seeking-ends : (k : List ℕ) (g : Given) → g ≡ lent j₀ → (x : Result Looked Stopped) → Ending x → LooksAs k x (step g (op (i + made)) at_now w.unread)
       → LooksAs k x (steps_of (lent j₀) op i left s₀ t₀).0 × PointOut (steps_of (lent j₀) op i left s₀ t₀).0.0 × (made + 1 ≡ (steps_of (lent j₀) op i left s₀ t₀).1)
-  seeking-ends k g same x never z =
+  seeking-ends k g same x ends z =
       let y : LooksAs k x made_by = rw same at z in
-      let q = next ∙ ended_by k rest x made_by.0 made_by.1 never y in
+      let q = next ∙ ended_by k rest x made_by.0 made_by.1 ends y in
       (rw (w.comes, q) y, rw (w.comes, q) points, rw (w.count, q) refl)
 
   -- the search goes on
-  pub seeking-on : (k : List ℕ) (g : Given) → g ≡ lent j₀ → (u : State) (x : Looked) → x ≡ No u → LooksAs k x (step g (op (i + made)) at_now w.unread)
+  pub seeking-on : (k : List ℕ) (g : Given) → g ≡ lent j₀ → (u : State) (x : Result Looked Stopped) → x ≡ holding false u → LooksAs k x (step g (op (i + made)) at_now w.unread)
       → Underway (lent j₀) op i left (made + 1) table c s₀ t₀ k u
   unfolding text_of
   seeking-on k g same u x is y =
@@ -120,7 +131,3 @@ module _ (j₀ : List ℕ) {op : ℕ → Op} (leaves : (n : ℕ) → LeavesOp (o
         comes = w.comes ∙ ap (λ (y : Steps). y.0) (next ∙ z.is);
         count = omega (arith, w.count, ap (λ (y : Steps). y.1) (next ∙ z.is));
       }
-
--- the place of No among the answers is neither of the others
-pub neither : (◌≡◌ {A = ℕ} 1 0) ⊎ (◌≡◌ {A = ℕ} 1 2) → ⊥
-neither = ⊎_elim (λ z. omega arith) (λ z. omega arith)

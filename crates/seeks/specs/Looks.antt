@@ -1,5 +1,5 @@
 -- What a test and a line's search answer, and a search's steps one after another. Assumes nothing.
-use Rattle.std.specs.Prelude.{◌≡◌, Bool, true, false, List, [], ◌∷◌, ℕ, zero, suc}
+use Rattle.std.specs.Prelude.{◌≡◌, Bool, true, false, List, [], ◌∷◌, ℕ, zero, suc, Result, Ok, Err}
 use Rattle.definitions.specs.Tape.{Tape}
 use Rattle.definitions.specs.Search.{Search}
 use Rattle.definitions.specs.Given.{Given, Carried, words_of}
@@ -11,42 +11,42 @@ use Rattle.matching.specs.Words.{Encodes}
 use Rattle.editor.specs.Shows.{Shows, lent}
 use Rattle.editor.specs.Current.{PointOut, Ready}
 use Rattle.editor.specs.declared.State.{State}
+use Rattle.editor.specs.declared.Stopped.{Stopped}
+use Rattle.editor.specs.Stops.{numbered}
 use Rattle.globals.specs.Standing.{Standing}
 use Rattle.seeks.specs.declared.Way.{Way}
 use Rattle.seeks.specs.declared.Way.TheVariants.{Forward, Backward, Deleting}
 use Rattle.seeks.specs.declared.Looked.{Looked}
-use Rattle.seeks.specs.declared.Looked.TheVariants.{Yes, No, Stop}
 use Rattle.seeks.specs.declared.Sought.{Sought}
 
 -- ---- one step
 
 -- what a function answers, and what the step comes to: the run goes on after `edited` as after `on true`
-unfoldable pub Looks : List ℕ → Looked → Out → Tape → Type 0
-Looks j (Yes s) (on true (state e c)) t = Shows j s e t
-Looks j (Yes s) (on false (state e c)) t = ⊥
-Looks j (Yes s) (edited (state e c)) t = Shows j s e t
-Looks j (Yes s) (halt n (state e c)) t = ⊥
-Looks j (No s) (on true (state e c)) t = ⊥
-Looks j (No s) (on false (state e c)) t = Shows j s e t
-Looks j (No s) (edited (state e c)) t = ⊥
-Looks j (No s) (halt n (state e c)) t = ⊥
-Looks j (Stop m s) (on b (state e c)) t = ⊥
-Looks j (Stop m s) (edited (state e c)) t = ⊥
-Looks j (Stop m s) (halt n (state e c)) t = (m ≡ n) × Shows j s e t
+unfoldable pub Looks : List ℕ → Result Looked Stopped → Out → Tape → Type 0
+Looks j (Ok x) (on b (state e c)) t = (x.held ≡ b) × Shows j x.st e t
+Looks j (Ok x) (edited (state e c)) t = (x.held ≡ true) × Shows j x.st e t
+Looks j (Ok x) (halt n (state e c)) t = ⊥
+Looks j (Err s) (on b (state e c)) t = ⊥
+Looks j (Err s) (edited (state e c)) t = ⊥
+Looks j (Err s) (halt n (state e c)) t = (numbered s.stop ≡ n) × Shows j s.st e t
 
-abbrev pub LooksAs : List ℕ → Looked → Out × Tape → Type 0
+-- the answer that it holds, or does not
+abbrev pub holding : Bool → State → Result Looked Stopped
+holding v s = Ok (record { held = v; st = s })
+
+abbrev pub LooksAs : List ℕ → Result Looked Stopped → Out × Tape → Type 0
 LooksAs j r x = Looks j r x.0 x.1
 
 -- with the buffer j and its numbers st before, and the buffer k after, the function that answered r did the end m of a step
-abbrev pub LooksBy : List ℕ → State → Program Did → List ℕ → Looked → Type 0
+abbrev pub LooksBy : List ℕ → State → Program Did → List ℕ → Result Looked Stopped → Type 0
 LooksBy j st m k r = (e : Ed) (c : Carried) (t : Tape) → Shows j st e t → LooksAs k r (perform (lent j) m (state e c) t)
 
 -- the same of one that is told what is carried: script and work area hold it (document 02, wishes 2 and 8)
-abbrev pub LooksCarrying : List ℕ → List ℕ → List ℕ → State → Program Did → List ℕ → Looked → Type 0
+abbrev pub LooksCarrying : List ℕ → List ℕ → List ℕ → State → Program Did → List ℕ → Result Looked Stopped → Type 0
 LooksCarrying s w j st m k r = (e : Ed) (c : Carried) (t : Tape) → Standing s w c → Shows j st e t → LooksAs k r (perform (lent j) m (state e c) t)
 
 -- as `LooksBy`, of a whole step
-abbrev pub LooksOnce : List ℕ → State → Op → List ℕ → Looked → Type 0
+abbrev pub LooksOnce : List ℕ → State → Op → List ℕ → Result Looked Stopped → Type 0
 LooksOnce j st op k r = (e : Ed) (c : Carried) (t : Tape) → Shows j st e t → LooksAs k r (step (lent j) op (state e c) t)
 
 -- what is carried after a step
@@ -67,7 +67,7 @@ module _ (script words : List ℕ) (k m : ℕ) (table j : List ℕ) (st : State)
   Tells v = (se : Search) (e : Ed) (c : Carried) (t : Tape) → Encodes script words k m se → Standing script words c → Ready table j st e t → v ≡ search_holds (words_of c) se e
 
   -- what a function answers that made the step `op` with it, the buffer being i then
-  abbrev pub LooksForCarrying : (Search → Op) → List ℕ → Looked → Type 0
+  abbrev pub LooksForCarrying : (Search → Op) → List ℕ → Result Looked Stopped → Type 0
   LooksForCarrying op i r =
       (se : Search) (e : Ed) (c : Carried) (t : Tape) → Encodes script words k m se → Standing script words c → Ready table j st e t
       → LooksAs i r (step (lent j) (op se) (state e c) t)

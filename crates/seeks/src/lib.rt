@@ -1,29 +1,29 @@
 // Tests and searches on the journal buffer: IF, WH, UL, UT, IFEOF, F, BF and DF.
 #![tactic(auto)]
 
-ghost use Rattle.std.specs.Prelude.{◌≡◌, ◌+◌, ◌≤◌, ◌<◌, length};
+ghost use Rattle.std.specs.Prelude.{◌≡◌, true, ◌+◌, ◌≤◌, ◌<◌, length, Ok};
 ghost use Rattle.definitions.specs.Editor.{stop_number};
 ghost use Rattle.definitions.specs.Edit.{Op, Test, look_on, look_back};
 ghost use Rattle.definitions.specs.Control.{look_op};
 ghost use Rattle.editor.specs.Shows.{ShowsText};
+ghost use Rattle.editor.specs.Stops.{numbered};
 ghost use Rattle.reading.specs.Carrying.{SomeStand};
 ghost use Rattle.seeks.specs.Looks.{LooksBy, LooksCarrying, LooksOnce, Searchable, Tells, LooksForCarrying};
-ghost use Rattle.seeks.specs.Looks.{test_of, seek_of, eof_stop, where_found, where_not, SeeksFor};
+ghost use Rattle.seeks.specs.Looks.{test_of, seek_of, eof_stop, where_found, where_not, holding, SeeksFor};
 
-use editor::{Moved, State};
+use editor::{State, Stop, Stopped};
 
-// What a test comes to, or a search on one line: it holds, it does not, or the run stops with a number.
+// What a test comes to, or a search on one line: whether it holds, and the numbers then.
 #[derive(Clone, Copy)]
-pub enum Looked {
-    Yes(State),
-    No(State),
-    Stop(usize, State),
+pub struct Looked {
+    pub held: bool,
+    pub st: State,
 }
 
-// What a search over lines comes to, and how many steps it made.
+// What a search over lines comes to, and how many steps it made: those before a stop too.
 #[derive(Clone, Copy)]
 pub struct Sought {
-    pub looked: Looked,
+    pub looked: Result<Looked, Stopped>,
     pub made: usize,
 }
 
@@ -68,56 +68,55 @@ pub fn test<'a>(
     holds: bool,
 ) -> Looked
     requires { SomeStand script.now words.now × Searchable script.now words.now k m table.now j.now st }
-    ensures { LooksForCarrying script.now words.now k m table.now j.now st (λ se. Op.test (test_of holds se)) j.now result }
+    ensures { LooksForCarrying script.now words.now k m table.now j.now st (λ se. Op.test (test_of holds se)) j.now (Ok result) }
 {
-    if holds_here(script, words, k, m, table, j, st) == holds {
-        return Looked::Yes(st);
+    Looked {
+        held: holds_here(script, words, k, m, table, j, st) == holds,
+        st,
     }
-    Looked::No(st)
 }
 
 // IFEOF.
 pub fn test_eof(j: &[u8], st: State) -> Looked
     requires { ShowsText j.now st }
-    ensures { LooksOnce j.now st (Op.test Test.is_eof) j.now result }
+    ensures { LooksOnce j.now st (Op.test Test.is_eof) j.now (Ok result) }
 {
-    let at = st.back;
-    if at >= j.len() {
-        return Looked::Yes(st);
+    Looked {
+        held: st.back >= j.len(),
+        st,
     }
-    Looked::No(st)
 }
 
 // F and DF begin: not at EOF.
-pub fn begin(j: &[u8], st: State) -> Looked
+pub fn begin(j: &[u8], st: State) -> Result<Looked, Stopped>
     requires { ShowsText j.now st }
     ensures { LooksOnce j.now st Op.begin j.now result }
 {
     let at = st.back;
     if at >= j.len() {
-        return Looked::Stop(21, st);
+        return Err(Stopped {
+            stop: Stop::MetEof,
+            st,
+        });
     }
-    Looked::Yes(st)
+    Ok(Looked { held: true, st })
 }
 
 // BF begins: at EOF, from the last live line.
-pub fn begin_back(j: &mut [u8], st: State) -> Looked
+pub fn begin_back(j: &mut [u8], st: State) -> Result<Looked, Stopped>
     requires { ShowsText j.old st }
     ensures { LooksOnce j.old st Op.begin_back j.new result }
 {
     let at = st.back;
     if at < j.len() {
-        return Looked::Yes(st);
+        return Ok(Looked { held: true, st });
     }
-    let r = editor::moves::go_back(j, st);
-    match r {
-        Moved::On(s) => Looked::Yes(s),
-        Moved::Stop(n, s) => Looked::Stop(n, s),
-    }
+    let s = editor::moves::go_back(j, st)?;
+    Ok(Looked { held: true, st: s })
 }
 
 // F and DF: on to the next live line, which is read through the globals that stand. EOF stops them.
-fn look_on(script: &[u8], words: &[u32], j: &mut [u8], st: State) -> Looked
+fn look_on(script: &[u8], words: &[u32], j: &mut [u8], st: State) -> Result<Looked, Stopped>
     requires { SomeStand script.now words.now × ShowsText j.old st × (st.back < length j.old) }
     ensures { LooksCarrying script.now words.now j.old st look_on j.new result }
 {
@@ -126,32 +125,34 @@ fn look_on(script: &[u8], words: &[u32], j: &mut [u8], st: State) -> Looked
     } else {
         spans::ahead::go_ahead(script, words, j, st)
     };
-    match r {
-        Moved::On(s) => {
-            let at = s.back;
-            if at >= j.len() {
-                return Looked::Stop(21, s);
-            }
-            Looked::No(s)
-        }
-        Moved::Stop(n, s) => Looked::Stop(n, s),
+    let s = r?;
+    let at = s.back;
+    if at >= j.len() {
+        return Err(Stopped {
+            stop: Stop::MetEof,
+            st: s,
+        });
     }
+    Ok(Looked { held: false, st: s })
 }
 
 // BF: back to the previous live line.
-fn look_back(j: &mut [u8], st: State) -> Looked
+fn look_back(j: &mut [u8], st: State) -> Result<Looked, Stopped>
     requires { ShowsText j.old st }
     ensures { LooksBy j.old st look_back j.new result }
 {
-    let r = editor::moves::go_back(j, st);
-    match r {
-        Moved::On(s) => Looked::No(s),
-        Moved::Stop(n, s) => Looked::Stop(n, s),
-    }
+    let s = editor::moves::go_back(j, st)?;
+    Ok(Looked { held: false, st: s })
 }
 
 // The current line does not match: on to the next one.
-fn look_further(script: &[u8], words: &[u32], j: &mut [u8], st: State, way: Way) -> Looked
+fn look_further(
+    script: &[u8],
+    words: &[u32],
+    j: &mut [u8],
+    st: State,
+    way: Way,
+) -> Result<Looked, Stopped>
     requires { SomeStand script.now words.now × ShowsText j.old st × (st.back < length j.old) }
     ensures { LooksCarrying script.now words.now j.old st (where_not (seek_of way)) j.new result }
 {
@@ -163,25 +164,25 @@ fn look_further(script: &[u8], words: &[u32], j: &mut [u8], st: State, way: Way)
 }
 
 // The current line matches: DF deletes the lines that it has passed.
-fn found(j: &mut [u8], st: State, way: Way, lines: usize) -> Looked
+fn found(j: &mut [u8], st: State, way: Way, lines: usize) -> State
     requires { ShowsText j.old st }
-    ensures { LooksBy j.old st (where_found (seek_of way) lines) j.new result }
+    ensures { LooksBy j.old st (where_found (seek_of way) lines) j.new (holding true result) }
 {
     match way {
-        Way::Forward => Looked::Yes(st),
-        Way::Backward => Looked::Yes(st),
-        Way::Deleting => Looked::Yes(spans::striking::strike_back(j, st, lines)),
+        Way::Forward => st,
+        Way::Backward => st,
+        Way::Deleting => spans::striking::strike_back(j, st, lines),
     }
 }
 
-// The number with which a search stops at EOF.
-fn eof_number(way: Way) -> usize
-    ensures { result ≡ stop_number (eof_stop (seek_of way)) }
+// How a search stops at EOF.
+fn stop_at_eof(way: Way) -> Stop
+    ensures { numbered result ≡ stop_number (eof_stop (seek_of way)) }
 {
     match way {
-        Way::Forward => 21,
-        Way::Backward => 22,
-        Way::Deleting => 21,
+        Way::Forward => Stop::MetEof,
+        Way::Backward => Stop::NoPrevious,
+        Way::Deleting => Stop::MetEof,
     }
 }
 
@@ -196,16 +197,22 @@ fn look(
     st: State,
     way: Way,
     lines: usize,
-) -> Looked
+) -> Result<Looked, Stopped>
     requires { SomeStand script.now words.now × Searchable script.now words.now k m table.now j.old st }
     ensures { LooksForCarrying script.now words.now k m table.now j.old st (λ se. look_op (seek_of way) se lines) j.new result }
 {
     let at = st.back;
     if at >= j.len() {
-        return Looked::Stop(eof_number(way), st);
+        return Err(Stopped {
+            stop: stop_at_eof(way),
+            st,
+        });
     }
     if holds_here(script, words, k, m, table, j, st) {
-        return found(j, st, way, lines);
+        return Ok(Looked {
+            held: true,
+            st: found(j, st, way, lines),
+        });
     }
     look_further(script, words, j, st, way)
 }
@@ -230,15 +237,18 @@ pub fn seek(
     let mut made: usize = 0;
     let looked = loop {
         if made >= left {
-            break Looked::No(s);
+            break Ok(Looked { held: false, st: s });
         }
         let passed = lines + made;
         made += 1;
-        let r = look(script, words, k, m, table, j, s, way, passed);
-        let Looked::No(next) = r else {
-            break r;
+        let looked = look(script, words, k, m, table, j, s, way, passed);
+        let Ok(here) = looked else {
+            break looked;
         };
-        s = next;
+        if here.held {
+            break looked;
+        }
+        s = here.st;
     };
     Sought { looked, made }
 }

@@ -25,13 +25,15 @@ use Rattle.theorems.specs.Programs.{runs_on, runs-pass, runs-halt}
 use Rattle.theorems.specs.ReadLines.{read_next, seen_all, read-line, read-eof}
 use Rattle.editor.specs.Records.{enc_all}
 use Rattle.editor.specs.Shows.{Shows, rest_of, CameTo, raised}
+use Rattle.std.specs.Prelude.{Ok}
+use Rattle.editor.specs.Stops.{numbered, stopping}
+use Rattle.editor.specs.declared.Stop.{Stop}
+use Rattle.editor.specs.declared.Stop.TheVariants.{AtEof, MetEof, LineDeleted, LineBefore}
 use Rattle.editor.specs.declared.State.{State}
 use Rattle.editor.proofs.Records.{both}
 use Rattle.editor.proofs.Reading.{next-rest, line_read, reads-line, reads-eof}
 use Rattle.editor.proofs.Parts.{shown-record, line_on, line-stop}
-use Rattle.spans.specs.Spans.{through_of, reach_here, EndsAt, FoundBy, SourceAt}
-use Rattle.spans.specs.declared.Found.{Found}
-use Rattle.spans.specs.declared.Found.TheVariants.{To, Stop}
+use Rattle.spans.specs.Spans.{through_of, reach_here, EndsAt, Found, FoundBy, SourceAt}
 use Rattle.spans.proofs.Counting.{dead-at, live_at, after-at, count_none, count-append, count-within}
 use Rattle.spans.proofs.Standing.{stands-held, stands-length, stands-mark, stands_on}
 
@@ -61,19 +63,19 @@ through-number b good =
 abbrev FoundAt : List ℕ → Found → Ran ℕ × Tape → Type 0
 FoundAt j r x = FoundBy j r x.0 x.1
 
-found-to : {j : List ℕ} {end : ℕ} {s : State} {x : Ran ℕ × Tape} {n : ℕ} {e : Ed} {t : Tape} → x ≡ (gave n e, t) → Shows j s e t → EndsAt j end n e t → FoundAt j (To end s) x
+found-to : {j : List ℕ} {end : ℕ} {s : State} {x : Ran ℕ × Tape} {n : ℕ} {e : Ed} {t : Tape} → x ≡ (gave n e, t) → Shows j s e t → EndsAt j end n e t → FoundAt j (Ok (end, s)) x
 unfolding FoundBy
 found-to q h w = rw q (h, w)
 
-found-stop : {j : List ℕ} {m : ℕ} {s : State} {x : Ran ℕ × Tape} {n : StopNumber} {e : Ed} {t : Tape} → x ≡ (stopped n e, t) → m ≡ stop_number n → Shows j s e t → FoundAt j (Stop m s) x
+found-stop : {j : List ℕ} (m : Stop) {s : State} {x : Ran ℕ × Tape} {n : StopNumber} {e : Ed} {t : Tape} → x ≡ (stopped n e, t) → numbered m ≡ stop_number n → Shows j s e t → FoundAt j (stopping m s) x
 unfolding FoundBy
-found-stop q m h = rw q (m, h)
+found-stop m q same h = rw q (same, h)
 
 module _ {j : List ℕ} {st : State} (g : Given) (e : Ed) (t : Tape) (h : Shows j st e t) where
   -- EOF is current
-  pub finds-20 : (b : Through) → length j ≤ st.back → FoundAt j (Stop 20 st) (runs g no_globals (reach_here b) e t)
+  pub finds-20 : (b : Through) → length j ≤ st.back → FoundAt j (stopping AtEof st) (runs g no_globals (reach_here b) e t)
   unfolding reach_here ◌>>◌ stop_number
-  finds-20 b end = found-stop (line-stop g no_globals n20 (λ x. reach b) e t h end) refl h
+  finds-20 b end = found-stop AtEof (line-stop g no_globals n20 (λ x. reach b) e t h end) refl h
 
   module _ (more : st.back < length j) where
     -- a line is: how far by its number
@@ -96,7 +98,7 @@ alone-ends (ed b (r ∷ a) p) t h more end is = record {
 }
 
 pub finds-alone : {j : List ℕ} {st : State} (g : Given) (e : Ed) (t : Tape) → Shows j st e t → st.back < length j → (n : ℕ) → n ≡ 0
-    → (end : ℕ) → end ≡ st.back + line_length (drop st.back j) → FoundAt j (To end st) (runs g no_globals (reach_here (through_of n)) e t)
+    → (end : ℕ) → end ≡ st.back + line_length (drop st.back j) → FoundAt j (Ok (end, st)) (runs g no_globals (reach_here (through_of n)) e t)
 finds-alone g e t h more n z end is = found-to (here-is g e t h more n (through-alone n z) ∙ alone-runs g e t) h (alone-ends e t h more end is)
 
 -- ---- all lines
@@ -114,7 +116,7 @@ all-ends e = record {
 }
 
 pub finds-all : {j : List ℕ} {st s : State} (g : Given) (e : Ed) (t : Tape) → Shows j st e t → st.back < length j → (n : ℕ) → n ≡ 65536
-    → s ≡ raised st (st.lines + 1) → FoundAt j (To (length j) s) (runs g no_globals (reach_here (through_of n)) e t)
+    → s ≡ raised st (st.lines + 1) → FoundAt j (Ok ((length j), s)) (runs g no_globals (reach_here (through_of n)) e t)
 unfolding CameTo
 finds-all g e t h more n z is =
     found-to (here-is g e t h more n (through-all n z) ∙ all_runs g e t) (rw is (rw (read-eof g e t) at (reads-eof g e t h))) (all-ends (seen_all (rest_lines t) e))
@@ -137,10 +139,10 @@ past_is : {j : List ℕ} {st : State} (e : Ed) (t : Tape) → Shows j st e t →
 past_is e t h = h.holds.past
 
 pub finds-28 : {j : List ℕ} {st : State} (g : Given) (e : Ed) (t : Tape) → Shows j st e t → st.back < length j → (n : ℕ) → (n ≡ 0 → ⊥) → (n ≡ 65536 → ⊥)
-    → n ≤ st.past → FoundAt j (Stop 28 st) (runs g no_globals (reach_here (through_of n)) e t)
+    → n ≤ st.past → FoundAt j (stopping LineBefore st) (runs g no_globals (reach_here (through_of n)) e t)
 unfolding stop_number
 finds-28 g e t h more n one all low =
-    found-stop (here-is g e t h more n (through-line n one all) ∙ reach-is g no_globals n e t ∙ runs-halt g no_globals n28 (leb n (sources (before_of e))) (through_line n (sources (before_of e))) e t (le-leb n (sources (before_of e)) (omega (arith, past_is e t h)))) refl h
+    found-stop LineBefore (here-is g e t h more n (through-line n one all) ∙ reach-is g no_globals n e t ∙ runs-halt g no_globals n28 (leb n (sources (before_of e))) (through_line n (sources (before_of e))) e t (le-leb n (sources (before_of e)) (omega (arith, past_is e t h)))) refl h
 
 module _ {j : List ℕ} {st s : State} (g : Given) (m : ℕ) (b a : List Record) (p : ℕ) (t : Tape) (h : Shows j st (ed b a p) t) (is : s ≡ raised st m) (past : sources b < m) where
   abbrev x : List Line × Tape
@@ -178,21 +180,21 @@ module _ {j : List ℕ} {st s : State} (g : Given) (m : ℕ) (b a : List Record)
       by (inl l) = sym (count-append 0 K A U (omega (arith, sources-reverse b A))) ∙ ap (count_through 0 K) (next-rest (m - sources (records (ed b a p))) a t)
       by (inr q) = ap (count_through 0 K) (sym (append-nil A) ∙ ap (λ (z : List Record). A ++ z) (sym q) ∙ next-rest (m - sources (records (ed b a p))) a t)
 
-  line-stops : (i : ℕ) (n : StopNumber) → i ≡ stop_number n → count_through 0 K (a ++ map kept (rest_lines t)) ≡ stops n → FoundAt j (Stop i s) (runs g no_globals (reach (Through.up_to m)) (ed b a p) t)
+  line-stops : (i : Stop) (n : StopNumber) → numbered i ≡ stop_number n → count_through 0 K (a ++ map kept (rest_lines t)) ≡ stops n → FoundAt j (stopping i s) (runs g no_globals (reach (Through.up_to m)) (ed b a p) t)
   unfolding runs
-  line-stops i n number q = found-stop (through-runs ∙ ap (λ (z : Program ℕ). runs g no_globals z E x.1) (count-whole ∙ q)) number read-shows
+  line-stops i n number q = found-stop i (through-runs ∙ ap (λ (z : Program ℕ). runs g no_globals z E x.1) (count-whole ∙ q)) number read-shows
 
-  line-21 : st.lines < m → FoundAt j (Stop 21 s) (runs g no_globals (reach (Through.up_to m)) (ed b a p) t)
+  line-21 : st.lines < m → FoundAt j (stopping MetEof s) (runs g no_globals (reach (Through.up_to m)) (ed b a p) t)
   unfolding stop_number before_of after_of
-  line-21 fewer = line-stops 21 n21 refl (count_none 0 K (a ++ map kept (rest_lines t)) (omega (arith, h.holds.lines)))
+  line-21 fewer = line-stops MetEof n21 refl (count_none 0 K (a ++ map kept (rest_lines t)) (omega (arith, h.holds.lines)))
 
   module _ (last : ℕ) (w : SourceAt j last K (a ++ map kept (rest_lines t))) where
-    line-23 : get_or j last 0 ≡ 45 → FoundAt j (Stop 23 s) (runs g no_globals (reach (Through.up_to m)) (ed b a p) t)
+    line-23 : get_or j last 0 ≡ 45 → FoundAt j (stopping LineDeleted s) (runs g no_globals (reach (Through.up_to m)) (ed b a p) t)
     unfolding stop_number
     line-23 dead =
-        line-stops 23 n23 refl (ap (count_through 0 K) (sym w.same) ∙ dead-at K w.passed w.this w.after w.count (sym (stands-mark w.stands) ∙ dead))
+        line-stops LineDeleted n23 refl (ap (count_through 0 K) (sym w.same) ∙ dead-at K w.passed w.this w.after w.count (sym (stands-mark w.stands) ∙ dead))
 
-    line-ends : (get_or j last 0 ≡ 45 → ⊥) → (end : ℕ) → end ≡ last + line_length (drop last j) → FoundAt j (To end s) (runs g no_globals (reach (Through.up_to m)) (ed b a p) t)
+    line-ends : (get_or j last 0 ≡ 45 → ⊥) → (end : ℕ) → end ≡ last + line_length (drop last j) → FoundAt j (Ok (end, s)) (runs g no_globals (reach (Through.up_to m)) (ed b a p) t)
     unfolding runs after_of
     line-ends live end to =
         let v : ℕ = suc (length w.passed) in
@@ -214,24 +216,24 @@ module _ {j : List ℕ} {st s : State} (g : Given) (e : Ed) (t : Tape) (h : Show
   by-line : (r : Found) → FoundAt j r (runs g no_globals (reach (Through.up_to n)) e t) → FoundAt j r (runs g no_globals (reach_here (through_of n)) e t)
   by-line r w = rw (here-is g e t h more n (through-line n one all)) w
 
-  pub finds-21 : st.lines < n → FoundAt j (Stop 21 s) (runs g no_globals (reach_here (through_of n)) e t)
+  pub finds-21 : st.lines < n → FoundAt j (stopping MetEof s) (runs g no_globals (reach_here (through_of n)) e t)
   unfolding before_of
-  finds-21 fewer = by-line (Stop 21 s) (at e h)
+  finds-21 fewer = by-line (stopping MetEof s) (at e h)
     where
-      at : (e : Ed) → Shows j st e t → FoundAt j (Stop 21 s) (runs g no_globals (reach (Through.up_to n)) e t)
+      at : (e : Ed) → Shows j st e t → FoundAt j (stopping MetEof s) (runs g no_globals (reach (Through.up_to n)) e t)
       at (ed b a p) h = line-21 g n b a p t h is (omega (arith, h.holds.past)) fewer
 
   module _ (last : ℕ) (w : SourceAt j last (n - suc (sources (before_of e))) (rest_of e t)) where
-    pub finds-23 : get_or j last 0 ≡ 45 → FoundAt j (Stop 23 s) (runs g no_globals (reach_here (through_of n)) e t)
+    pub finds-23 : get_or j last 0 ≡ 45 → FoundAt j (stopping LineDeleted s) (runs g no_globals (reach_here (through_of n)) e t)
     unfolding before_of after_of
-    finds-23 dead = by-line (Stop 23 s) (at e h w)
+    finds-23 dead = by-line (stopping LineDeleted s) (at e h w)
       where
-        at : (e : Ed) → Shows j st e t → SourceAt j last (n - suc (sources (before_of e))) (rest_of e t) → FoundAt j (Stop 23 s) (runs g no_globals (reach (Through.up_to n)) e t)
+        at : (e : Ed) → Shows j st e t → SourceAt j last (n - suc (sources (before_of e))) (rest_of e t) → FoundAt j (stopping LineDeleted s) (runs g no_globals (reach (Through.up_to n)) e t)
         at (ed b a p) h w = line-23 g n b a p t h is (omega (arith, h.holds.past)) last w dead
 
-    pub finds-through : (get_or j last 0 ≡ 45 → ⊥) → (end : ℕ) → end ≡ last + line_length (drop last j) → FoundAt j (To end s) (runs g no_globals (reach_here (through_of n)) e t)
+    pub finds-through : (get_or j last 0 ≡ 45 → ⊥) → (end : ℕ) → end ≡ last + line_length (drop last j) → FoundAt j (Ok (end, s)) (runs g no_globals (reach_here (through_of n)) e t)
     unfolding before_of after_of
-    finds-through live end to = by-line (To end s) (at e h w)
+    finds-through live end to = by-line (Ok (end, s)) (at e h w)
       where
-        at : (e : Ed) → Shows j st e t → SourceAt j last (n - suc (sources (before_of e))) (rest_of e t) → FoundAt j (To end s) (runs g no_globals (reach (Through.up_to n)) e t)
+        at : (e : Ed) → Shows j st e t → SourceAt j last (n - suc (sources (before_of e))) (rest_of e t) → FoundAt j (Ok (end, s)) (runs g no_globals (reach (Through.up_to n)) e t)
         at (ed b a p) h w = line-ends g n b a p t h is (omega (arith, h.holds.past)) last w live end to

@@ -11,8 +11,8 @@ use Rattle.definitions.specs.Reading.{Ran, gave, stopped, once_read, has_room, r
 use Rattle.definitions.specs.StepProgram.{Program, gives, stops, looks, reads, moves, ◌>>=◌, once_moved, runs, state, Did, answers, changes, quits, adds, cancels, names, Out, on, edited, halt, within, finish, perform}
 use Rattle.theorems.specs.Words.{carrying}
 use Rattle.editor.specs.Shows.{Answers, Answered}
-use Rattle.editor.specs.declared.Moved.{Moved}
-use Rattle.editor.specs.declared.Moved.TheVariants.{On, Stop}
+use Rattle.std.specs.Prelude.{Ok, Err}
+use Rattle.editor.specs.Stops.{Moved}
 
 -- a program that ends a step neither with one global more nor with none, nor with another word set
 unfoldable pub Calm : Program Did → Type 0
@@ -84,13 +84,13 @@ perform-first g c m calm e t x u q =
 
 pub answers-carrying : (c : Carried) (k : List ℕ) (r : Moved) (o : Out) (t : Tape) → Answers k r o t → Answers k r (carrying c o) t
 unfolding Answers carrying
-answers-carrying c k (On s) (on true (state e c')) t h = h
-answers-carrying c k (On s) (on false (state e c')) t h = h
-answers-carrying c k (On s) (edited (state e c')) t h = h
-answers-carrying c k (On s) (halt n (state e c')) t h = h
-answers-carrying c k (Stop m s) (on b (state e c')) t h = h
-answers-carrying c k (Stop m s) (edited (state e c')) t h = h
-answers-carrying c k (Stop m s) (halt n (state e c')) t h = h
+answers-carrying c k (Ok s) (on true (state e c')) t h = h
+answers-carrying c k (Ok s) (on false (state e c')) t h = h
+answers-carrying c k (Ok s) (edited (state e c')) t h = h
+answers-carrying c k (Ok s) (halt n (state e c')) t h = h
+answers-carrying c k (Err s) (on b (state e c')) t h = h
+answers-carrying c k (Err s) (edited (state e c')) t h = h
+answers-carrying c k (Err s) (halt n (state e c')) t h = h
 
 -- so what a function answers that did it where none stands, it answers of the step itself
 pub answers-first : (g : Given) (c : Carried) (m : Program Did) → Calm m → (e : Ed) (t : Tape) (x : Ed) (u : Tape) (k : List ℕ) (r : Moved) → runs g c m e t ≡ runs g no_globals m x u

@@ -22,13 +22,12 @@ use Rattle.theorems.specs.Programs.{runs_on, runs-stop, runs-pass, runs-halt, ru
 use Rattle.theorems.specs.ReadLines.{read_next, lacking, seen_all, seen_none, read_past_lem, runs-read}
 use Rattle.editor.specs.Shows.{Shows, ShowsText, lent, Came, target_numbered}
 use Rattle.editor.specs.declared.State.{State}
-use Rattle.editor.specs.declared.Moved.{Moved}
-use Rattle.editor.specs.declared.Moved.TheVariants.{On, Stop}
+use Rattle.std.specs.Prelude.{Ok, Err}
+use Rattle.editor.specs.Stops.{Moved, stopping}
+use Rattle.editor.specs.declared.Stop.TheVariants.{AtEof, LineBefore}
+use Rattle.editor.specs.declared.Stop.{Stop}
 use Rattle.editor.proofs.Parts.{lent_same, Went, went, Halted, halted, came-on, came-stop, then-on, then-stop, shown-record, shown-eof, line_on, line-stop}
-use Rattle.spans.specs.Spans.{through_of, reach_here, span_here, read_through, read_here, EndsAt, Spanned, FoundBy}
-use Rattle.spans.specs.declared.Found.{Found}
-use Rattle.spans.specs.declared.Found.TheVariants.{To}
-use Rattle.spans.specs.declared.Found.TheVariants.{Stop as FoundStop}
+use Rattle.spans.specs.Spans.{through_of, reach_here, span_here, read_through, read_here, EndsAt, Spanned, Found, FoundBy}
 use Rattle.spans.specs.declared.Next.{Next}
 use Rattle.spans.proofs.Ends.{through-alone, through-all, through-line, through_line, reach-is}
 use Rattle.spans.proofs.Nexts.{NextRead}
@@ -106,17 +105,17 @@ back-less {j} {st} (ed b (r ∷ a) p) t h has = by (leb (length j) st.back) refl
 
 module _ {j : List ℕ} {st : State} (c : Carried) (e : Ed) (t : Tape) (h : Shows j st e t) (more : st.back < length j) (i : List ℕ) {m : Moved} {s : State} where
   -- it is once the next live line is read
-  pub ahead-there : m ≡ On s → Came i m (runs (lent j) c (read_past 1) e t) → ShowsText i s × (s.back < length i)
+  pub ahead-there : m ≡ Ok s → Came i m (runs (lent j) c (read_past 1) e t) → ShowsText i s × (s.back < length i)
   ahead-there q w = by (went (runs (lent j) c (read_past 1) e t) (rw q at w))
     where
       by : Went i s (runs (lent j) c (read_past 1) e t) → ShowsText i s × (s.back < length i)
       by v = ((v.text, v.tape, v.shows), back-less v.text v.tape v.shows (line_stays (past-added (lent j) c 1 e t v.is) (line-here e t h more)))
 
-  pub ahead-stop : {n : ℕ} → m ≡ Stop n s → Came i m (runs (lent j) c (read_past 1) e t) → Came i m (runs (lent j) c go_ahead e t)
+  pub ahead-stop : {n : Stop} → m ≡ stopping n s → Came i m (runs (lent j) c (read_past 1) e t) → Came i m (runs (lent j) c go_ahead e t)
   unfolding go_ahead ◌>>◌
   ahead-stop {n} q w = rw q (then-stop (lent j) c (read_past 1) (λ u. go ahead) e t i n s (rw q at w))
 
-  pub ahead-on : (k : List ℕ) (r : Moved) → m ≡ On s → Came i m (runs (lent j) c (read_past 1) e t) → length i ≡ length j
+  pub ahead-on : (k : List ℕ) (r : Moved) → m ≡ Ok s → Came i m (runs (lent j) c (read_past 1) e t) → length i ≡ length j
       → ((x : Ed) (u : Tape) → Shows i s x u → Came k r (runs (lent i) no_globals go_ahead x u)) → Came k r (runs (lent j) c go_ahead e t)
   unfolding go_ahead ◌>>◌
   ahead-on k r q w long plain = by (went (runs (lent j) c (read_past 1) e t) (rw q at w))
@@ -142,7 +141,7 @@ eof-is {j} {st} g c (ed b a p) t h =
 
 module _ (g : Given) (c : Carried) (e : Ed) (t : Tape) (k : List ℕ) (r : Moved) where
   -- `.` is read
-  pub target-here : {st : State} (n : ℕ) → n ≡ 0 → r ≡ On st → Shows k st e t → Came k r (runs g c (read_up_to (target_numbered n)) e t)
+  pub target-here : {st : State} (n : ℕ) → n ≡ 0 → r ≡ Ok st → Shows k st e t → Came k r (runs g c (read_up_to (target_numbered n)) e t)
   unfolding target_numbered
   target-here n z q h = rw (q, z) (came-on (runs-read g c Target.here e t ∙ read-nothing g c Target.here e t tt) h)
 
@@ -157,11 +156,11 @@ module _ (g : Given) (c : Carried) (e : Ed) (t : Tape) (k : List ℕ) (r : Moved
 
 -- it is read, and then moved to
 module _ (j : List ℕ) (c : Carried) (a : Target) (e : Ed) (t : Tape) where
-  pub target-stop : (i : List ℕ) {m : Moved} {n : ℕ} {s : State} → m ≡ Stop n s → Came i m (runs (lent j) c (read_up_to a) e t) → Came i m (runs (lent j) c (go_to a) e t)
+  pub target-stop : (i : List ℕ) {m : Moved} {n : Stop} {s : State} → m ≡ stopping n s → Came i m (runs (lent j) c (read_up_to a) e t) → Came i m (runs (lent j) c (go_to a) e t)
   unfolding go_to ◌>>◌
   target-stop i {m} {n} {s} q h = rw q (then-stop (lent j) c (read_up_to a) (λ u. go (to a)) e t i n s (rw q at h))
 
-  pub target-on : {i : List ℕ} {m : Moved} {s : State} (k : List ℕ) (r : Moved) → m ≡ On s → Came i m (runs (lent j) c (read_up_to a) e t) → length i ≡ length j
+  pub target-on : {i : List ℕ} {m : Moved} {s : State} (k : List ℕ) (r : Moved) → m ≡ Ok s → Came i m (runs (lent j) c (read_up_to a) e t) → length i ≡ length j
       → ((x : Ed) (u : Tape) → Shows i s x u → Came k r (runs (lent i) no_globals (go_to a) x u)) → Came k r (runs (lent j) c (go_to a) e t)
   target-on {i} {m} {s} k r q h long plain = by (went (runs (lent j) c (read_up_to a) e t) (rw q at h))
     where
@@ -172,16 +171,16 @@ module _ (j : List ℕ) (c : Carried) (a : Target) (e : Ed) (t : Tape) where
 
 module _ {j : List ℕ} {st : State} (g : Given) (c : Carried) (e : Ed) (t : Tape) (h : Shows j st e t) where
   -- EOF is current
-  pub through-20 : (b : Through) → length j ≤ st.back → Came j (Stop 20 st) (runs g c (read_here b) e t)
+  pub through-20 : (b : Through) → length j ≤ st.back → Came j (stopping AtEof st) (runs g c (read_here b) e t)
   unfolding read_here ◌>>◌ stop_number
-  through-20 b end = came-stop (line-stop g c n20 (λ x. read_through b) e t h end) refl h
+  through-20 b end = came-stop AtEof (line-stop g c n20 (λ x. read_through b) e t h end) refl h
 
   module _ (more : st.back < length j) where
     here-is : (n : ℕ) {b : Through} → through_of n ≡ b → runs g c (read_here (through_of n)) e t ≡ runs g c (read_through b) e t
     unfolding read_here ◌>>◌
     here-is n {b} q = rw q (line_on g c n20 (λ x. read_through b) e t h more)
 
-    pub through-one : (n : ℕ) → n ≡ 0 → Came j (On st) (runs g c (read_here (through_of n)) e t)
+    pub through-one : (n : ℕ) → n ≡ 0 → Came j (Ok st) (runs g c (read_here (through_of n)) e t)
     unfolding read_through runs
     through-one n z = came-on (here-is n (through-alone n z)) h
 
@@ -195,9 +194,9 @@ module _ {j : List ℕ} {st : State} (g : Given) (c : Carried) (e : Ed) (t : Tap
       unfolding read_through see ◌>>◌ ◌>>=◌ runs
       line-is = here-is n (through-line n one all)
 
-      pub through-28 : n ≤ st.past → Came j (Stop 28 st) (runs g c (read_here (through_of n)) e t)
+      pub through-28 : n ≤ st.past → Came j (stopping LineBefore st) (runs g c (read_here (through_of n)) e t)
       unfolding stop_number
-      through-28 low = came-stop (line-is ∙ runs-halt g c n28 (leb n (sources (before_of e))) (read_up_to (Target.line n)) e t (le-leb n (sources (before_of e)) (omega (arith, h.holds.past)))) refl h
+      through-28 low = came-stop LineBefore (line-is ∙ runs-halt g c n28 (leb n (sources (before_of e))) (read_up_to (Target.line n)) e t (le-leb n (sources (before_of e)) (omega (arith, h.holds.past)))) refl h
 
       pub through-up_to : st.past < n → (k : List ℕ) (r : Moved) → Came k r (runs g c (read_up_to (Target.line n)) e t) → Came k r (runs g c (read_here (through_of n)) e t)
       through-up_to past k r w = rw (line-is, runs-pass g c n28 (leb n (sources (before_of e))) (read_up_to (Target.line n)) e t (lt-leb n (sources (before_of e)) (omega (arith, h.holds.past)))) w
@@ -310,36 +309,36 @@ reach-halts g c b (ed before (r ∷ a) p) t x u q =
 
 -- the number is given once the next live line is read
 gives_after : {A : Type 0} (g : Given) (c : Carried) (m : Program A) (n : ℕ) (e : Ed) (t : Tape) (k : List ℕ) (r : Moved) → Came k r (runs g c m e t) → Came k r (runs g c (◌>>=◌ m (λ v. gives n)) e t)
-gives_after g c m n e t k (On s) h = then-on g c m (λ v. gives n) e t k (On s) h (λ a x u w. came-on (value x u) w)
+gives_after g c m n e t k (Ok s) h = then-on g c m (λ v. gives n) e t k (Ok s) h (λ a x u w. came-on (value x u) w)
   where
     value : (x : Ed) (u : Tape) → runs g c (gives n) x u ≡ (gave n x, u)
     value x u = unfold runs in refl
-gives_after g c m n e t k (Stop i s) h = then-stop g c m (λ v. gives n) e t k i s h
+gives_after g c m n e t k (Err s) h = then-stop g c m (λ v. gives n) e t k s.stop s.st h
 
 module _ (j : List ℕ) (c : Carried) (b : Through) (e : Ed) (t : Tape) where
   -- reading stopped, 20 or 28
-  pub span-unread : (i : List ℕ) {m : Moved} {n : ℕ} {s : State} → m ≡ Stop n s → Came i m (runs (lent j) c (read_here b) e t) → Came i m (runs (lent j) c (span_here b) e t)
+  pub span-unread : (i : List ℕ) {m : Moved} {n : Stop} {s : State} → m ≡ stopping n s → Came i m (runs (lent j) c (read_here b) e t) → Came i m (runs (lent j) c (span_here b) e t)
   span-unread i {m} {n} {s} q h = rw q (by (halted (runs (lent j) c (read_here b) e t) (rw q at h)))
     where
-      by : Halted i n s (runs (lent j) c (read_here b) e t) → Came i (Stop n s) (runs (lent j) c (span_here b) e t)
-      by w = came-stop (span-stop (lent j) c b e t (reach-halts (lent j) c b e t w.text w.tape w.is)) w.same w.shows
+      by : Halted i n s (runs (lent j) c (read_here b) e t) → Came i (stopping n s) (runs (lent j) c (span_here b) e t)
+      by w = came-stop n (span-stop (lent j) c b e t (reach-halts (lent j) c b e t w.text w.tape w.is)) w.same w.shows
 
-  module _ {i : List ℕ} {m : Moved} {s : State} (q : m ≡ On s) (h : Came i m (runs (lent j) c (read_here b) e t)) (long : length i ≡ length j) {f : Found}
+  module _ {i : List ℕ} {m : Moved} {s : State} (q : m ≡ Ok s) (h : Came i m (runs (lent j) c (read_here b) e t)) (long : length i ≡ length j) {f : Found}
       (found : (x : Ed) (u : Tape) → Shows i s x u → let y = runs (lent i) no_globals (reach_here b) x u in FoundBy i f y.0 y.1) where
     -- 21 or 23
-    pub span-unfound : {n : ℕ} {s' : State} → f ≡ FoundStop n s' → Came i (Stop n s') (runs (lent j) c (span_here b) e t)
+    pub span-unfound : {n : Stop} {s' : State} → f ≡ stopping n s' → Came i (stopping n s') (runs (lent j) c (span_here b) e t)
     span-unfound {n} {s'} z = by (went (runs (lent j) c (read_here b) e t) (rw q at h))
       where
         stops : (x : Ed) (u : Tape) → Shows i s x u → Halted i n s' (runs (lent j) no_globals (reach_here b) x u)
         stops x u w = reached-stop (runs (lent j) no_globals (reach_here b) x u) z (rw (lent_same j i long) at (found x u w))
 
-        by : Went i s (runs (lent j) c (read_here b) e t) → Came i (Stop n s') (runs (lent j) c (span_here b) e t)
+        by : Went i s (runs (lent j) c (read_here b) e t) → Came i (stopping n s') (runs (lent j) c (span_here b) e t)
         by w =
             let v : Halted i n s' (runs (lent j) no_globals (reach_here b) w.text w.tape) = stops w.text w.tape w.shows in
-            came-stop (span-stop (lent j) c b e t (reach-first (lent j) c b e t w.text w.tape w.is ∙ v.is)) v.same v.shows
+            came-stop n (span-stop (lent j) c b e t (reach-first (lent j) c b e t w.text w.tape w.is ∙ v.is)) v.same v.shows
 
     -- they end there: the next live line is read
-    module _ {end : ℕ} {s' : State} (z : f ≡ To end s') where
+    module _ {end : ℕ} {s' : State} (z : f ≡ Ok (end, s')) where
       reaches : (x : Ed) (u : Tape) → Shows i s x u → Reached i end s' (runs (lent j) no_globals (reach_here b) x u)
       reaches x u w = reached (runs (lent j) no_globals (reach_here b) x u) z (rw (lent_same j i long) at (found x u w))
 

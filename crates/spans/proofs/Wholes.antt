@@ -13,14 +13,12 @@ use Rattle.definitions.specs.Edit.{read_past, go_to, line_or, reach, span, Op, p
 use Rattle.theorems.specs.Programs.{runs-assoc, runs_on, runs-stop}
 use Rattle.editor.specs.Shows.{Shows, lent, Came, Answered}
 use Rattle.editor.specs.declared.State.{State}
-use Rattle.editor.specs.declared.Moved.{Moved}
-use Rattle.editor.specs.declared.Moved.TheVariants.{On, Stop}
+use Rattle.std.specs.Prelude.{Ok}
+use Rattle.editor.specs.Stops.{Moved, stopping}
+use Rattle.editor.specs.declared.Stop.{Stop}
 use Rattle.editor.proofs.Parts.{lent_same, Halted, came-stop, perform-as, perform-then, perform-halt}
 use Rattle.editor.proofs.Changing.{changes-on}
-use Rattle.spans.specs.Spans.{reach_here, span_here, change_here, EndsAt, Spanned, FoundBy, StruckBy, StrikesSpan}
-use Rattle.spans.specs.declared.Found.{Found}
-use Rattle.spans.specs.declared.Found.TheVariants.{To}
-use Rattle.spans.specs.declared.Found.TheVariants.{Stop as FoundStop}
+use Rattle.spans.specs.Spans.{reach_here, span_here, change_here, EndsAt, Spanned, Found, FoundBy, StruckBy, StrikesSpan}
 
 -- ---- what `span_end` found
 
@@ -33,12 +31,12 @@ pub record Reached (j : List ℕ) (end : ℕ) (s : State) (x : Ran ℕ × Tape) 
   pub shows : Shows j s text tape
   pub ends : EndsAt j end many text tape
 
-pub reached : {j : List ℕ} {end : ℕ} {s : State} {r : Found} (x : Ran ℕ × Tape) → r ≡ To end s → FoundBy j r x.0 x.1 → Reached j end s x
+pub reached : {j : List ℕ} {end : ℕ} {s : State} {r : Found} (x : Ran ℕ × Tape) → r ≡ Ok (end, s) → FoundBy j r x.0 x.1 → Reached j end s x
 unfolding FoundBy
 reached (gave n e, t) q h = let y = rw q at h in record { many = n; text = e; tape = t; is = refl; shows = y.0; ends = y.1 }
 reached (stopped n e, t) q h = absurd (rw q at h)
 
-pub reached-stop : {j : List ℕ} {m : ℕ} {s : State} {r : Found} (x : Ran ℕ × Tape) → r ≡ FoundStop m s → FoundBy j r x.0 x.1 → Halted j m s x
+pub reached-stop : {j : List ℕ} {m : Stop} {s : State} {r : Found} (x : Ran ℕ × Tape) → r ≡ stopping m s → FoundBy j r x.0 x.1 → Halted j m s x
 unfolding FoundBy
 reached-stop (gave n e, t) q h = absurd (rw q at h)
 reached-stop (stopped n e, t) q h = let y = rw q at h in record { number = n; text = e; tape = t; is = refl; same = y.0; shows = y.1 }
@@ -72,12 +70,12 @@ module _ (c : Carried) (f : ℕ → List Editing) (b : Through) (e : Ed) (t : Ta
       rw (perform-as (lent j) c (◌>>=◌ (span_here b) (λ n. gives (changes (f n)))) (gives (changes (f n))) e y t v (runs_on (lent j) c (λ n. gives (changes (f n))) (span_here b) e t (span-on (lent j) c b e t n x y u v q w))) h
 
   -- they are not found
-  pub here-stop : {m : ℕ} {s : State} {r : Found} → r ≡ FoundStop m s → (let x = runs (lent j) c (reach_here b) e t in FoundBy j r x.0 x.1)
-      → Answered j (Stop m s) (perform (lent j) (change_here f b) (state e c) t)
+  pub here-stop : {m : Stop} {s : State} {r : Found} → r ≡ stopping m s → (let x = runs (lent j) c (reach_here b) e t in FoundBy j r x.0 x.1)
+      → Answered j (stopping m s) (perform (lent j) (change_here f b) (state e c) t)
   unfolding change_here
   here-stop {m} {s} q h =
       let w : Halted j m s (runs (lent j) c (reach_here b) e t) = reached-stop (runs (lent j) c (reach_here b) e t) q h in
-      perform-halt (lent j) c (span_here b) (λ n. gives (changes (f n))) e t j m s (came-stop (span-stop (lent j) c b e t w.is) w.same w.shows)
+      perform-halt (lent j) c (span_here b) (λ n. gives (changes (f n))) e t j m s (came-stop m (span-stop (lent j) c b e t w.is) w.same w.shows)
 
 -- ---- D
 
@@ -89,12 +87,12 @@ struck-text n (stopped m e, t) h = absurd h
 
 pub delete-on : {j : List ℕ} {end : ℕ} {s : State} (k : List ℕ) (r : State) (b : Through) (e : Ed) (t : Tape) → length k ≡ length j → Reached j end s (runs (lent j) no_globals (reach_here b) e t)
     → StrikesSpan end j s k r
-    → Answered k (On r) (perform (lent j) (change_here (λ n. strike n ∷ []) b) (state e no_globals) t)
+    → Answered k (Ok r) (perform (lent j) (change_here (λ n. strike n ∷ []) b) (state e no_globals) t)
 unfolding edits
 delete-on {j} {end} {s} k r b e t long w strikes =
     let z : (y : Ed) × (v : Tape) × (runs (lent j) no_globals (read_past w.many) w.text w.tape ≡ (gave tt y, v)) × Shows k r (edit (strike w.many) y) v =
     struck-text w.many (runs (lent j) no_globals (read_past w.many) w.text w.tape) (strikes w.text w.tape w.many w.shows w.ends) in
-    here-by no_globals (λ n. strike n ∷ []) b e t j k (On r) w.many w.text z.0 w.tape z.1 w.is z.2
+    here-by no_globals (λ n. strike n ∷ []) b e t j k (Ok r) w.many w.text z.0 w.tape z.1 w.is z.2
     (changes-on no_globals (strike w.many ∷ []) z.0 z.1 j k r long z.3)
 
 -- ---- from what M names
@@ -107,15 +105,15 @@ module _ (c : Carried) (f : ℕ → List Editing) (a : Target) (b : Through) (e 
       perform-as (lent j) c (◌>>=◌ (span a b) (λ n. gives (changes (f n)))) (◌>>=◌ (go_to a) (λ u. change_here f b)) e e t t
       (runs-assoc (lent j) c (λ u. span_here b) (λ n. gives (changes (f n))) (go_to a) e t)
 
-  pub from_on : {i : List ℕ} {s : State} {m : Moved} (k : List ℕ) (r : Moved) → m ≡ On s → Came i m (runs (lent j) c (go_to a) e t) → length i ≡ length j
+  pub from_on : {i : List ℕ} {s : State} {m : Moved} (k : List ℕ) (r : Moved) → m ≡ Ok s → Came i m (runs (lent j) c (go_to a) e t) → length i ≡ length j
       → ((x : Ed) (u : Tape) → Shows i s x u → Answered k r (perform (lent i) (change_here f b) (state x c) u))
       → Answered k r (perform (lent j) (◌>>=◌ (span a b) (λ n. gives (changes (f n)))) (state e c) t)
   from_on {i} k r q h long rest =
       rw from_then
       (perform-then (lent j) c (go_to a) (λ u. change_here f b) e t k r (rw q at h) (λ v x u w. rw (lent_same j i long) at (rest x u w)))
 
-  pub from-stop : (i : List ℕ) {n : ℕ} {s : State} {m : Moved} → m ≡ Stop n s → Came i m (runs (lent j) c (go_to a) e t)
-      → Answered i (Stop n s) (perform (lent j) (◌>>=◌ (span a b) (λ n. gives (changes (f n)))) (state e c) t)
+  pub from-stop : (i : List ℕ) {n : Stop} {s : State} {m : Moved} → m ≡ stopping n s → Came i m (runs (lent j) c (go_to a) e t)
+      → Answered i (stopping n s) (perform (lent j) (◌>>=◌ (span a b) (λ n. gives (changes (f n)))) (state e c) t)
   from-stop i {n} {s} q h = rw from_then (perform-halt (lent j) c (go_to a) (λ u. change_here f b) e t i n s (rw q at h))
 
 pub delete-is : (g : Given) (a : Target) (b : Through) (e : Ed) (c : Carried) (t : Tape)

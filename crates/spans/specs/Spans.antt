@@ -1,5 +1,5 @@
 -- Several records at once: how far D and R go, where the records that they take end, and what is left of these. Assumes nothing.
-use Rattle.std.specs.Prelude.{◌≡◌, false, cond, ℕ, zero, suc, ◌+◌, ◌-◌, ◌≤◌, length, take, drop, eqb, leb}
+use Rattle.std.specs.Prelude.{◌≡◌, false, cond, ℕ, zero, suc, ◌+◌, ◌-◌, ◌≤◌, length, take, drop, eqb, leb, Result, Ok, Err}
 use mathlib.Core.List.{List, [], ◌∷◌, ◌++◌, map, reverse_aux}
 use Rattle.definitions.specs.Journal.{Record, kept, changed, deleted, inserted, erase}
 use Rattle.definitions.specs.Tape.{Tape, rest_lines}
@@ -13,10 +13,9 @@ use Rattle.gap.specs.Gap.{moved_up, cleared}
 use Rattle.editor.specs.Records.{enc_all, Goods, mark}
 use Rattle.editor.specs.Shows.{Holds, Stays, Shows, rest_of, GroundedAt, lent, Came}
 use Rattle.editor.specs.declared.State.{State}
-use Rattle.editor.specs.declared.Moved.{Moved}
+use Rattle.editor.specs.declared.Stopped.{Stopped}
+use Rattle.editor.specs.Stops.{Moved, numbered}
 use Rattle.globals.specs.Standing.{Standing}
-use Rattle.spans.specs.declared.Found.{Found}
-use Rattle.spans.specs.declared.Found.TheVariants.{To, Stop}
 use Rattle.spans.specs.declared.finding.Live.{Live}
 use Rattle.spans.specs.declared.Next.{Next}
 
@@ -74,12 +73,16 @@ pub record EndsAt (j : List ℕ) (end n : ℕ) (e : Ed) (t : Tape) : Type 0 wher
 abbrev pub Spanned : List ℕ → State → ℕ → Type 0
 Spanned j st end = (e : Ed) × (t : Tape) × (n : ℕ) × Shows j st e t × EndsAt j end n e t
 
+-- where the records end that are taken, and the buffer's numbers; or the stop
+abbrev pub Found : Type 0
+Found = Result (ℕ × State) Stopped
+
 -- what `span_end` answers, and what `reach_here` comes to
 unfoldable pub FoundBy : List ℕ → Found → Ran ℕ → Tape → Type 0
-FoundBy j (To end s) (gave n e) t = Shows j s e t × EndsAt j end n e t
-FoundBy j (To end s) (stopped n e) t = ⊥
-FoundBy j (Stop m s) (gave n e) t = ⊥
-FoundBy j (Stop m s) (stopped n e) t = (m ≡ stop_number n) × Shows j s e t
+FoundBy j (Ok x) (gave n e) t = Shows j x.1 e t × EndsAt j x.0 n e t
+FoundBy j (Ok x) (stopped n e) t = ⊥
+FoundBy j (Err s) (gave n e) t = ⊥
+FoundBy j (Err s) (stopped n e) t = (numbered s.stop ≡ stop_number n) × Shows j s.st e t
 
 abbrev pub Finds : List ℕ → State → Through → Found → Type 0
 Finds j st b r =

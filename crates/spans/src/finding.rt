@@ -5,8 +5,8 @@ ghost use Rattle.definitions.specs.Editor.{sources};
 ghost use Rattle.editor.specs.Shows.{Holds, ShowsText};
 ghost use Rattle.spans.specs.Spans.{through_of, Finds, SourceAt, Stands, LiveAt, Until, Counts, CountedTo, ReadsFrom, ReadsNext};
 
-use crate::{Found, Next};
-use editor::State;
+use crate::Next;
+use editor::{State, Stop, Stopped};
 
 // Where the record of source line b starts, which stands from the current record on.
 fn source_at(j: &[u8], st: State, b: usize) -> usize
@@ -26,36 +26,48 @@ fn source_at(j: &[u8], st: State, b: usize) -> usize
     }
 }
 
-// Where the records end that D and R take from the current line on. They are read.
+// Where the records end that D and R take from the current line on, and the numbers once they are read.
 // `through` is 0 for the one line, 65,536 for `*`, else a source line.
-pub fn span_end(j: &[u8], st: State, through: usize) -> Found
+pub fn span_end(j: &[u8], st: State, through: usize) -> Result<(usize, State), Stopped>
     requires { ShowsText j.now st }
     ensures { Finds j.now st (through_of through) result }
 {
     let at = st.back;
     let end = j.len();
     if at >= end {
-        return Found::Stop(20, st);
+        return Err(Stopped {
+            stop: Stop::AtEof,
+            st,
+        });
     }
     if through == 0 {
-        return Found::To(editor::walk::record_end(j, at), st);
+        return Ok((editor::walk::record_end(j, at), st));
     }
     if through == 65536 {
-        return Found::To(end, editor::walk::read_to(st, st.lines + 1));
+        return Ok((end, editor::walk::read_to(st, st.lines + 1)));
     }
     if through <= st.past {
-        return Found::Stop(28, st);
+        return Err(Stopped {
+            stop: Stop::LineBefore,
+            st,
+        });
     }
     let s = editor::walk::read_to(st, through);
     // A line that is not there is not deleted: of 21 and 23 at most one can be.
     if st.lines < through {
-        return Found::Stop(21, s);
+        return Err(Stopped {
+            stop: Stop::MetEof,
+            st: s,
+        });
     }
     let last = source_at(j, st, through);
     if j[last] == 45 {
-        return Found::Stop(23, s);
+        return Err(Stopped {
+            stop: Stop::LineDeleted,
+            st: s,
+        });
     }
-    Found::To(editor::walk::record_end(j, last), s)
+    Ok((editor::walk::record_end(j, last), s))
 }
 
 // Where a live record stands behind the gap, or the buffer's end where there is none; and how many source lines stand before it.

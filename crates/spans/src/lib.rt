@@ -8,13 +8,6 @@ pub mod deleting;
 pub mod finding;
 pub mod striking;
 
-// How far D or R goes: up to a place of the buffer, with the lines read that it takes; or the run stops with a number.
-#[derive(Clone, Copy)]
-pub enum Found {
-    To(usize, State),
-    Stop(usize, State),
-}
-
 // Where the record of the next live line stands, or the buffer's end where there is none; and the numbers once that line, or EOF, is read.
 #[derive(Clone, Copy)]
 pub struct Next {

@@ -16,7 +16,9 @@ use Rattle.theorems.specs.GoodLines.{taken-line, dropped_line}
 use Rattle.editor.specs.Records.{LineIn}
 use Rattle.editor.specs.Shows.{Holds, ShowsText, Completes, Puts}
 use Rattle.editor.specs.declared.State.{State}
-use Rattle.editor.specs.declared.Moved.TheVariants.{On, Stop}
+use Rattle.std.specs.Prelude.{Ok}
+use Rattle.editor.specs.Stops.{stopping}
+use Rattle.editor.specs.declared.Stop.TheVariants.{JournalFull}
 use Rattle.editor.proofs.Inserting.{put-length}
 use Rattle.editor.proofs.Reading.{journal-is}
 use Rattle.editor.proofs.Parts.{shown-record}
@@ -50,7 +52,7 @@ module _ {j : List ℕ} {st : State} (l : Line) (n : ℕ) (inside : n ≤ length
   rest-fine = dropped_line n l fine
 
   -- what `cut_line` does: there is no room for both records
-  pub cut-full : c.end < st.front + (c.n + (n + 3)) → (x : Carried) → Completes x j st (cut_after l n) j (Stop 26 st)
+  pub cut-full : c.end < st.front + (c.n + (n + 3)) → (x : Carried) → Completes x j st (cut_after l n) j (stopping JournalFull st)
   unfolding cut_after edits edit put_before before_of after_of
   cut-full few x (ed b [] p) t h = absurd (shown-record b p t h more)
   cut-full few x (ed b (r ∷ a) p) t h =
@@ -77,7 +79,7 @@ module _ {j : List ℕ} {st : State} (l : Line) (n : ℕ) (inside : n ≤ length
         ((w.0, w.3 ∷ w.2, x.holds), (omega arith, taken-line n l fine), omega (arith, x.front, x.back))
 
     -- both records are written
-    pub cut_on : (k' : List ℕ) (s' : State) → length k' ≡ length j → Puts (take n l ∷ []) k s k' s' → (x : Carried) → Completes x j st (cut_after l n) k' (On s')
+    pub cut_on : (k' : List ℕ) (s' : State) → length k' ≡ length j → Puts (take n l ∷ []) k s k' s' → (x : Carried) → Completes x j st (cut_after l n) k' (Ok s')
     unfolding cut_after edits
     cut_on k' s' same left x e t h =
         changes-on x (put (take n l ∷ []) ∷ retext (drop n l) 0 ∷ []) e t j k' s' same

@@ -14,12 +14,11 @@ use Rattle.editor.specs.Records.{LineIn}
 use Rattle.editor.specs.Shows.{Completes}
 use Rattle.editor.specs.Current.{CopiesLine, IsReady}
 use Rattle.editor.specs.declared.State.{State}
-use Rattle.editor.specs.declared.Moved.{Moved}
-use Rattle.editor.specs.declared.Moved.TheVariants.{Stop}
+use Rattle.editor.specs.Stops.{Moved}
+use Rattle.editor.specs.declared.Stopped.{Stopped}
+use Rattle.std.specs.Prelude.{Result, Ok, Err}
 use Rattle.editor.proofs.CurrentText.{copied-text, copied-good}
 use Rattle.changes.specs.Current.{HasLine, CompletesAt, Finds, PerformsTold}
-use Rattle.changes.specs.declared.look.Matched.{Matched}
-use Rattle.changes.specs.declared.look.Matched.TheVariants.{At, Nowhere}
 use Rattle.changes.proofs.Commands.{at_less, has-less, told, match-stops, match-goes, at-match, has-match}
 
 -- ---- the current line as it reads
@@ -48,12 +47,12 @@ by-inside false i n = omega arith
 splitting : Bool → Line × ℕ → Match → Program Did
 splitting after x m = cut_after x.0 (point_by after m.place m.width)
 
-module _ (isWord : ℕ → Bool) {table j : List ℕ} {st : State} (q : Qualified) (o : Matched) (finds : Finds isWord table j st q o) (after : Bool) where
-  pub split-stop : (m : ℕ) → o ≡ Nowhere m → PerformsTold isWord table j st (Op.split after q) j (Stop m st)
+module _ (isWord : ℕ → Bool) {table j : List ℕ} {st : State} (q : Qualified) (o : Result (ℕ × ℕ) Stopped) (finds : Finds isWord table j st q o) (after : Bool) where
+  pub split-stop : (m : Stopped) → o ≡ Err m → PerformsTold isWord table j st (Op.split after q) j (Err m)
   unfolding program splitting
-  split-stop m is e c t same w = told isWord j (Op.split after q) j (Stop m st) e c t same (match-stops isWord q o finds m is (splitting after) e c t w)
+  split-stop m is e c t same w = told isWord j (Op.split after q) j (Err m) e c t same (match-stops isWord q o finds m is (splitting after) e c t w)
 
-  module _ (i n : ℕ) (is : o ≡ At i n) (k : ℕ) (z : k ≡ point_by after i n) where
+  module _ (i n : ℕ) (is : o ≡ Ok (i, n)) (k : ℕ) (z : k ≡ point_by after i n) where
     pub has-cut : IsReady table j st → HasLine table j st k
     has-cut h = has-less k (omega (arith, z, by-inside after i n)) (has-match isWord q o finds i n is h)
 

@@ -12,13 +12,13 @@ ghost use Rattle.matching.specs.Quals.{Formed};
 ghost use Rattle.editor.specs.Current.{IsReady};
 ghost use Rattle.changes.specs.Current.{sought, PerformsTold, HasLine, CompletesAt};
 
-use changes::look::Matched;
-use editor::{Moved, State};
+use editor::{State, Stop, Stopped};
 use matching::Quals;
+use wordset::WordSet;
 
 // The current line, which reads `line`, is cut after k bytes: these are inserted before it, the rest is its text, and p is 0. The room is tested
 // for both records before one of them is written.
-fn cut_line(j: &mut [u8], st: State, line: &[u8], k: usize) -> Moved
+fn cut_line(j: &mut [u8], st: State, line: &[u8], k: usize) -> Result<State, Stopped>
     requires { ShowsText j.old st × (st.back < length j.old) × (k ≤ length line.now) × (is_line line.now ≡ true) }
     ensures { (c : Carried) → Completes c j.old st (cut_after line.now k) j.new result }
 {
@@ -29,14 +29,17 @@ fn cut_line(j: &mut [u8], st: State, line: &[u8], k: usize) -> Moved
     let size = c.n;
     let front = st.front;
     if end - front < size + (k + 3) {
-        return Moved::Stop(26, st);
+        return Err(Stopped {
+            stop: Stop::JournalFull,
+            st,
+        });
     }
     let s = changes::rewrite::put_record(j, st, end, &rec, size, 0);
-    Moved::On(editor::edits::put_line(j, s, line, 0, k))
+    Ok(editor::edits::put_line(j, s, line, 0, k))
 }
 
 // The same of the current line as it reads.
-fn cut_here(table: &[u8], j: &mut [u8], st: State, k: usize) -> Moved
+fn cut_here(table: &[u8], j: &mut [u8], st: State, k: usize) -> Result<State, Stopped>
     requires { HasLine table.now j.old st k }
     ensures { CompletesAt table.now j.old st k (λ l. cut_after l k) j.new result }
 {
@@ -48,7 +51,7 @@ fn cut_here(table: &[u8], j: &mut [u8], st: State, k: usize) -> Moved
 
 // SA (after), SB: the line is cut after or before the string. The bytes of the set count for W.
 pub fn split(
-    set: &[u32],
+    set: &WordSet,
     table: &[u8],
     j: &mut [u8],
     st: State,
@@ -57,13 +60,10 @@ pub fn split(
     script: &[u8],
     from: usize,
     to: usize,
-) -> Moved
-    requires { (3 ≤ length set.now) × IsReady table.now j.old st × (from ≤ to) × (to ≤ length script.now) × (to ≤ from + 255) × Formed q (part from to script.now) }
+) -> Result<State, Stopped>
+    requires { IsReady table.now j.old st × (from ≤ to) × (to ≤ length script.now) × (to ≤ from + 255) × Formed q (part from to script.now) }
     ensures { PerformsTold (in_set set.now 0) table.now j.old st (Op.split after (sought q script.now from to)) j.new result }
 {
-    let found = changes::look::match_here(set, table, j, st, q, script, from, to);
-    match found {
-        Matched::Nowhere(n) => Moved::Stop(n, st),
-        Matched::At(i, n) => cut_here(table, j, st, changes::point_by(after, i, n)),
-    }
+    let (i, n) = changes::look::match_here(set, table, j, st, q, script, from, to)?;
+    cut_here(table, j, st, changes::point_by(after, i, n))
 }

@@ -24,14 +24,15 @@ use Rattle.items.proofs.Reading.{op-reads}
 use Rattle.items.proofs.OpenerWords.{kind-word}
 use Rattle.items.proofs.Meaning.{words, naming, adding, form_of, Means, global-is, global-read, is-global, is-cancel, is-word-set, meant, meant-as}
 use Rattle.editor.specs.declared.State.{State}
-use Rattle.editor.specs.declared.Moved.{Moved}
-use Rattle.editor.specs.declared.Moved.TheVariants.{On, Stop as Stopped}
 use Rattle.editor.specs.Shows.{Shows, lent}
 use Rattle.globals.specs.Standing.{GlobalAt, StandingBelow, Standing, Keeps, with_set, OnlyCarried}
 use Rattle.globals.proofs.Standing.{forgotten, forgets-only, kept-not, kept-last, names-only, named}
 use Rattle.reading.specs.Carrying.{SomeStand}
-use Rattle.seeks.specs.declared.Looked.TheVariants.{Yes, Stop}
-use Rattle.seeks.specs.Looks.{Looks, LooksAs, carried_of}
+use Rattle.std.specs.Prelude.{Ok}
+use Rattle.editor.specs.Stops.{Moved, stopping}
+use Rattle.editor.specs.declared.Stop.{Stop}
+use Rattle.editor.specs.declared.Stop.TheVariants.{GlobalsFull}
+use Rattle.seeks.specs.Looks.{holding, Looks, LooksAs, carried_of}
 use Rattle.seeks.proofs.Looking.{performed, performed-stop}
 use Rattle.seeks.proofs.Carrying.{LeavesOp, step-leaves}
 use Rattle.commands.specs.Performing.{LeavesCarried, PerformsAt}
@@ -187,13 +188,13 @@ module _ (s w : List ℕ) (end k : ℕ) (c : Change) (l new : Line) (at : Global
   abbrev Stepped : Carried → Out × Tape
   Stepped x = step g (add_global c l new) (state e x) t
 
-  added : (x : Carried) → StandingBelow s w end x → Keeps w k w' true → LooksAs j (Yes st) (Stepped x) × Carries s w' end (Stepped x).0
+  added : (x : Carried) → StandingBelow s w end x → Keeps w k w' true → LooksAs j (holding true st) (Stepped x) × Carries s w' end (Stepped x).0
   unfolding one_more Looks carried_of
   added (carried gs xs) stand kept =
       let y = kept-last w k w' s end gs xs stand (global_by c l new) at kept in
-      rw (add-comes g c l new e (carried gs xs) t, y.0) (shows, y.1)
+      rw (add-comes g c l new e (carried gs xs) t, y.0) ((refl, shows), y.1)
 
-  not_added : (x : Carried) → StandingBelow s w end x → Keeps w k w' false → LooksAs j (Stop 31 st) (Stepped x) × Carries s w' end (Stepped x).0
+  not_added : (x : Carried) → StandingBelow s w end x → Keeps w k w' false → LooksAs j (stopping GlobalsFull st) (Stepped x) × Carries s w' end (Stepped x).0
   unfolding one_more Looks carried_of stop_number
   not_added (carried gs xs) stand kept =
       let y = kept-not w k w' s end gs xs stand kept in
@@ -203,37 +204,37 @@ module _ (s w : List ℕ) (end k : ℕ) (c : Change) (l new : Line) (at : Global
 
 module _ (s w : List ℕ) (k kind : ℕ) (is : kind ≡ kind_at w k) (table j : List ℕ) (st : State) where
   module _ (w' : List ℕ) (q : is_global kind ≡ true) (v : Bool) (kept : Keeps w k w' v) where
-    pub global-added : v ≡ true → Commanded s w k table j st w' j (Yes st)
+    pub global-added : v ≡ true → Commanded s w k table j st w' j (holding true st)
     global-added v-is end op e c t h stand ready =
         let x = adds-global s w k kind is q end op h in
         rw x.same (added s w end k x.change x.first x.new x.at w' (lent j) e t ready.shows c stand (rw v-is at kept))
 
-    pub global-not : v ≡ false → Commanded s w k table j st w' j (Stop 31 st)
+    pub global-not : v ≡ false → Commanded s w k table j st w' j (stopping GlobalsFull st)
     global-not v-is end op e c t h stand ready =
         let x = adds-global s w k kind is q end op h in
         rw x.same (not_added s w end k x.change x.first x.new x.at w' (lent j) e t ready.shows c stand (rw v-is at kept))
 
-  pub all-cancelled : (w' : List ℕ) → kind ≡ cancel_kind → w' ≡ set w (length w - reserve) 0 → Commanded s w k table j st w' j (Yes st)
+  pub all-cancelled : (w' : List ℕ) → kind ≡ cancel_kind → w' ≡ set w (length w - reserve) 0 → Commanded s w k table j st w' j (holding true st)
   unfolding Looks carried_of without_globals
   all-cancelled w' q w'-is end op e (carried gs xs) t h stand ready =
-      rw (cancels-all s w k kind is q op h.command, cancel-comes (lent j) e (carried gs xs) t) (ready.shows, rw w'-is (forgotten s w end gs xs stand))
+      rw (cancels-all s w k kind is q op h.command, cancel-comes (lent j) e (carried gs xs) t) ((refl, ready.shows), rw w'-is (forgotten s w end gs xs stand))
 
-  pub words-named : (w' : List ℕ) → kind ≡ word_set_kind → w' ≡ with_set w k → Commanded s w k table j st w' j (Yes st)
+  pub words-named : (w' : List ℕ) → kind ≡ word_set_kind → w' ≡ with_set w k → Commanded s w k table j st w' j (holding true st)
   unfolding Looks carried_of with_words
   words-named w' q w'-is end op e (carried gs xs) t h stand ready =
       let x = names-words s w k kind is q end op h in
       rw (x.same, name-comes (lent j) x.named e (carried gs xs) t)
-      (ready.shows, rw w'-is (named w k (names-room s w k kind is q end op h (carried gs xs) stand) s end gs xs x.named stand x.set))
+      ((refl, ready.shows), rw w'-is (named w k (names-room s w k kind is q end op h (carried gs xs) stand) s end gs xs x.named stand x.set))
 
   -- any other
   module _ (other : is_global kind ≡ false) (stays : kind ≡ cancel_kind → ⊥) (unnamed : kind ≡ word_set_kind → ⊥) (i : List ℕ) (r : Moved) (does : PerformsAt s table w k j st i r) where
     carried_on : (end : ℕ) (op : Op) (e : Ed) (c : Carried) (t : Tape) → CommandBelow s w end k op → StandingBelow s w end c → Carries s w end (step (lent j) op (state e c) t).0
     carried_on end op e c t h stand = rw (step-leaves (lent j) op e c t (leaves-op s w k kind is other stays unnamed op h.command)) stand
 
-    pub command-on : (z : State) → r ≡ On z → Commanded s w k table j st w i (Yes z)
+    pub command-on : (z : State) → r ≡ Ok z → Commanded s w k table j st w i (holding true z)
     command-on z q end op e c t h stand ready =
         (performed i z r (step (lent j) op (state e c) t) (does op e c t h.command (stands-below s w end c stand) ready) q, carried_on end op e c t h stand)
 
-    pub command-stops : (n : ℕ) (z : State) → r ≡ Stopped n z → Commanded s w k table j st w i (Stop n z)
+    pub command-stops : (n : Stop) (z : State) → r ≡ stopping n z → Commanded s w k table j st w i (stopping n z)
     command-stops n z q end op e c t h stand ready =
         (performed-stop i z r (step (lent j) op (state e c) t) (does op e c t h.command (stands-below s w end c stand) ready) n q, carried_on end op e c t h stand)

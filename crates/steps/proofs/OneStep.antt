@@ -1,6 +1,5 @@
 -- One step, and how the run goes on after it. Assumes nothing.
 use mathlib.Core.Path.{◌≡◌, ◌∙◌}
-use mathlib.Core.Bool.{true, false}
 use mathlib.Core.List.{List}
 use Prim.Native.Nat.{ℕ, zero, suc, ◌+◌, ◌-◌, ◌≤◌}
 use native.Mathlib.Omega.{arith}
@@ -16,10 +15,12 @@ use Rattle.editor.specs.Shows.{Shows, lent}
 use Rattle.editor.specs.Current.{PointOut, Ready, TableOut}
 use Rattle.editor.proofs.Tables.{keeps-table}
 use Rattle.editor.proofs.Points.{keeps-point}
-use Rattle.seeks.specs.declared.Looked.{Looked}
-use Rattle.seeks.specs.declared.Looked.TheVariants.{Yes, No, Stop}
 use Rattle.seeks.specs.declared.Sought.{Sought}
 use Rattle.globals.specs.Standing.{StandingBelow}
+use Rattle.std.specs.Prelude.{Result, Ok, Err}
+use Rattle.editor.specs.Stops.{numbered}
+use Rattle.editor.specs.declared.Stopped.{Stopped}
+use Rattle.seeks.specs.declared.Looked.{Looked}
 use Rattle.seeks.specs.Looks.{Looks, LooksAs, carried_of}
 use Rattle.steps.specs.Steps.{Carries}
 
@@ -44,10 +45,9 @@ module _ (g : Given) (left steps : ℕ) (from : Ctl) (z : RunState) (t : Tape) w
     pub same : run (step g) left steps from z t ≡ (end number (steps + made) (end_place number place) (state last carries), rest)
 
   -- by what is answered: it goes on at c₁ or at c₀, or has stopped
-  unfoldable pub Leads : List ℕ → List ℕ → ℕ → List ℕ → List ℕ → ℕ → ℕ → Ctl → Ctl → Looked → Type 0
-  Leads sc w below table j made place c₁ c₀ (Yes s) = GoesOn sc w below table j made c₁ s
-  Leads sc w below table j made place c₁ c₀ (No s) = GoesOn sc w below table j made c₀ s
-  Leads sc w below table j made place c₁ c₀ (Stop n s) = Stops sc w below j made n place s
+  unfoldable pub Leads : List ℕ → List ℕ → ℕ → List ℕ → List ℕ → ℕ → ℕ → Ctl → Ctl → Result Looked Stopped → Type 0
+  Leads sc w below table j made place c₁ c₀ (Ok x) = GoesOn sc w below table j made (choose x.held c₁ c₀) x.st
+  Leads sc w below table j made place c₁ c₀ (Err s) = Stops sc w below j made (numbered s.stop) place s.st
 
   -- what the answer r says of it
   pub record Comes (sc w : List ℕ) (below : ℕ) (table j : List ℕ) (place : ℕ) (c₁ c₀ : Ctl) (r : Sought) : Type 0 where
@@ -75,21 +75,16 @@ module _ (g : Given) (n steps : ℕ) (from c₁ c₀ : Ctl) (place : ℕ) (z : R
   one_on to s d c u h i q = record { then = d; carries = c; rest = u; ready = h; stand = i; same = q ∙ one_less to (state d c) u }
 
   -- what the answer says of the step's outcome it says of the run
-  outcome-leads : (r : Looked) (o : Out) (u : Tape) → Looks j r o u → PointOut o → TableOut table o u → Carries sc w below o
+  outcome-leads : (r : Result Looked Stopped) (o : Out) (u : Tape) → Looks j r o u → PointOut o → TableOut table o u → Carries sc w below o
       → run (step g) (suc n) steps from z t ≡ stepped (λ c' z'. run (step g) n (suc steps) c' z') (suc steps) place c₁ c₀ o u
       → Leads g (suc n) steps from z t sc w below table j 1 place c₁ c₀ r
   unfolding Looks stepped choose Leads text_of carried_of
-  outcome-leads (Yes s) (on true (state d c)) u w p k i q = one_on c₁ s d c u (record { shows = w; point = p; old = k }) i q
-  outcome-leads (Yes s) (on false (state d c)) u w p k i q = absurd w
-  outcome-leads (Yes s) (edited (state d c)) u w p k i q = one_on c₁ s d c u (record { shows = w; point = p; old = k }) i q
-  outcome-leads (Yes s) (halt m (state d c)) u w p k i q = absurd w
-  outcome-leads (No s) (on true (state d c)) u w p k i q = absurd w
-  outcome-leads (No s) (on false (state d c)) u w p k i q = one_on c₀ s d c u (record { shows = w; point = p; old = k }) i q
-  outcome-leads (No s) (edited (state d c)) u w p k i q = absurd w
-  outcome-leads (No s) (halt m (state d c)) u w p k i q = absurd w
-  outcome-leads (Stop m s) (on b (state d c)) u w p k i q = absurd w
-  outcome-leads (Stop m s) (edited (state d c)) u w p k i q = absurd w
-  outcome-leads (Stop m s) (halt l (state d c)) u w p k i q =
+  outcome-leads (Ok x) (on b (state d c)) u w p k i q = rw w.0 (one_on (choose b c₁ c₀) x.st d c u (record { shows = w.1; point = p; old = k }) i q)
+  outcome-leads (Ok x) (edited (state d c)) u w p k i q = rw w.0 (one_on c₁ x.st d c u (record { shows = w.1; point = p; old = k }) i q)
+  outcome-leads (Ok x) (halt m (state d c)) u w p k i q = absurd w
+  outcome-leads (Err s) (on b (state d c)) u w p k i q = absurd w
+  outcome-leads (Err s) (edited (state d c)) u w p k i q = absurd w
+  outcome-leads (Err s) (halt l (state d c)) u w p k i q =
       let b : suc steps ≡ steps + 1 = omega arith in
       record { last = d; carries = c; rest = u; shows = w.1; stand = i; same = q ∙ rw (w.0, b) }
 

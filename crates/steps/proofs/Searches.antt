@@ -1,6 +1,6 @@
 -- F, BF and DF over lines, and how the run goes on after them. Assumes nothing.
 use mathlib.Core.Path.{◌≡◌, refl, sym, ◌∙◌}
-use mathlib.Core.Bool.{true, false}
+use mathlib.Core.Bool.{true, false, cond}
 use mathlib.Core.List.{List}
 use Prim.Native.Nat.{ℕ, zero, suc, ◌+◌, ◌≤◌}
 use native.Mathlib.Omega.{arith}
@@ -12,18 +12,21 @@ use Rattle.definitions.specs.Editor.{Ed}
 use Rattle.definitions.specs.StepProgram.{RunState, state, text_of, Out, on, edited, halt}
 use Rattle.definitions.specs.Edit.{Op, step}
 use Rattle.definitions.specs.Control.{Seek, Item, Frame, Ctl, running, seeking, look_op, pull}
-use Rattle.definitions.specs.Run.{end_place, run}
+use Rattle.definitions.specs.Run.{end_place, choose, run}
 use Rattle.control.specs.declared.Wanted.{Wanted}
 use Rattle.control.specs.Shown.{SearchOf}
 use Rattle.editor.specs.declared.State.{State}
 use Rattle.editor.specs.Shows.{lent}
 use Rattle.editor.specs.Current.{PointOut, Ready, TableOut}
-use Rattle.seeks.specs.declared.Looked.{Looked}
-use Rattle.seeks.specs.declared.Looked.TheVariants.{Yes, No, Stop}
 use Rattle.seeks.specs.declared.Sought.{Sought}
 use Rattle.seeks.specs.declared.Way.{Way}
 use Rattle.seeks.specs.declared.Way.TheVariants.{Forward, Backward, Deleting}
 use Rattle.globals.specs.Standing.{StandingBelow}
+use Rattle.std.specs.Prelude.{Result, Ok, Err}
+use Rattle.editor.specs.Stops.{stopping}
+use Rattle.editor.specs.declared.Stop.TheVariants.{BudgetSpent}
+use Rattle.editor.specs.declared.Stopped.{Stopped}
+use Rattle.seeks.specs.declared.Looked.{Looked}
 use Rattle.seeks.specs.Looks.{Looks, carried_of, Steps, steps_of, Seeks, SeeksFor, seek_of}
 use Rattle.seeks.proofs.Carrying.{look-leaves}
 use Rattle.seeks.proofs.Runs.{after_search, run-search, steps-as, steps-carried, steps-most, steps-one, steps-table}
@@ -36,25 +39,20 @@ use Rattle.steps.proofs.Views.{asks-look, as-asked}
 -- ---- what is answered
 
 -- what a search answers: where no line matched, the budget is spent
-unfoldable pub answered : Looked → Looked
-answered (Yes s) = Yes s
-answered (No s) = Stop 29 s
-answered (Stop n s) = Stop n s
+unfoldable pub answered : Result Looked Stopped → Result Looked Stopped
+answered (Ok x) = cond x.held (Ok x) (stopping BudgetSpent x.st)
+answered (Err s) = Err s
 
-looks-spent : (k : List ℕ) (r : Looked) (o : Out) (t : Tape) → Looks k r o t → Looks k (answered r) (or_spent o) t
+looks-spent : (k : List ℕ) (r : Result Looked Stopped) (o : Out) (t : Tape) → Looks k r o t → Looks k (answered r) (or_spent o) t
 unfolding Looks answered or_spent
-looks-spent k (Yes s) (on true (state e c)) t w = w
-looks-spent k (Yes s) (on false (state e c)) t w = absurd w
-looks-spent k (Yes s) (edited (state e c)) t w = w
-looks-spent k (Yes s) (halt n (state e c)) t w = absurd w
-looks-spent k (No s) (on true (state e c)) t w = absurd w
-looks-spent k (No s) (on false (state e c)) t w = (refl, w)
-looks-spent k (No s) (edited (state e c)) t w = absurd w
-looks-spent k (No s) (halt n (state e c)) t w = absurd w
-looks-spent k (Stop m s) (on true (state e c)) t w = absurd w
-looks-spent k (Stop m s) (on false (state e c)) t w = absurd w
-looks-spent k (Stop m s) (edited (state e c)) t w = absurd w
-looks-spent k (Stop m s) (halt n (state e c)) t w = w
+looks-spent k (Ok x) (on true (state e c)) t w = rw w.0 (refl, w.1)
+looks-spent k (Ok x) (on false (state e c)) t w = rw w.0 (refl, w.1)
+looks-spent k (Ok x) (edited (state e c)) t w = rw w.0 (refl, w.1)
+looks-spent k (Ok x) (halt n (state e c)) t w = absurd w
+looks-spent k (Err s) (on true (state e c)) t w = absurd w
+looks-spent k (Err s) (on false (state e c)) t w = absurd w
+looks-spent k (Err s) (edited (state e c)) t w = absurd w
+looks-spent k (Err s) (halt n (state e c)) t w = w
 
 point-spent : (o : Out) → PointOut o → PointOut (or_spent o)
 unfolding or_spent
@@ -85,20 +83,26 @@ module _ (s w : List ℕ) (x : Wanted) (table j w' k : List ℕ) (st : State) (l
         seeks-spent k r (steps_of (lent j) (look_op (seek_of way) se) x.lines left (state e c) t) (f se e c t (rw q en) stand ready) z is,
   ))
 
--- the answer of a search where a line is found, or the run stops
-pub is_found : (r : Sought) → ((s : State) → r.looked ≡ No s → ⊥) → r ≡ record { looked = answered r.looked; made = r.made }
+-- the answer of a search where the run stops
+pub is_stopped : (r : Sought) (s : Stopped) → r.looked ≡ Err s → r ≡ record { looked = answered r.looked; made = r.made }
 unfolding answered
-is_found r never = by r.looked r.made never
+is_stopped r s q = by r.looked r.made s q
   where
-    by : (k : Looked) (m : ℕ) → ((s : State) → k ≡ No s → ⊥) → ◌≡◌ {A = Sought} (record { looked = k; made = m }) (record { looked = answered k; made = m })
-    by (Yes s) m never = refl
-    by (No s) m never = absurd (never s refl)
-    by (Stop n s) m never = refl
+    by : (k : Result Looked Stopped) (m : ℕ) (s : Stopped) → k ≡ Err s → ◌≡◌ {A = Sought} (record { looked = k; made = m }) (record { looked = answered k; made = m })
+    by k m s q = rw q
+
+-- where a line is found
+pub is_found : (r : Sought) (x : Looked) → r.looked ≡ Ok x → x.held ≡ true → r ≡ record { looked = answered r.looked; made = r.made }
+unfolding answered
+is_found r x q held = by r.looked r.made q
+  where
+    by : (k : Result Looked Stopped) (m : ℕ) → k ≡ Ok x → ◌≡◌ {A = Sought} (record { looked = k; made = m }) (record { looked = answered k; made = m })
+    by k m q = rw (q, held)
 
 -- where no line matches
-pub is-unfound : (r : Sought) (s : State) → r.looked ≡ No s → ◌≡◌ {A = Sought} (record { looked = Stop 29 s; made = r.made }) (record { looked = answered r.looked; made = r.made })
+pub is-unfound : (r : Sought) (x : Looked) → r.looked ≡ Ok x → x.held ≡ false → ◌≡◌ {A = Sought} (record { looked = stopping BudgetSpent x.st; made = r.made }) (record { looked = answered r.looked; made = r.made })
 unfolding answered
-is-unfound r s q = rw q
+is-unfound r x q held = rw (q, held)
 
 -- ---- how the run goes on
 
@@ -110,22 +114,20 @@ run-same g (suc n) steps c d z t q = rw q
 
 module _ (i : List ℕ) (left steps : ℕ) (from c₀ : Ctl) (place : ℕ) (items : List Item) (frames : List Frame) (z : RunState) (t : Tape) (sc wo : List ℕ) (below : ℕ) (table j : List ℕ) where
   -- what is answered says it of the run from `from`, which comes to what is after the search
-  search-leads : (k : Looked) (m : ℕ) (o : Out) (u : Tape) (n : ℕ) → Looks j k (or_spent o) u → PointOut (or_spent o) → m ≡ n → TableOut table o u → Carries sc wo below o
+  search-leads : (k : Result Looked Stopped) (m : ℕ) (o : Out) (u : Tape) (n : ℕ) → Looks j k (or_spent o) u → PointOut (or_spent o) → m ≡ n → TableOut table o u → Carries sc wo below o
       → run (step (lent i)) left steps from z t ≡ after_search (lent i) left steps place items frames o u n
       → Leads (lent i) left steps from z t sc wo below table j m place (running items frames) c₀ k
-  unfolding Looks or_spent after_search Leads end_place text_of carried_of
-  search-leads (Yes s) m (on true (state e c)) u n w p is h d q = record { then = e; carries = c; rest = u; ready = record { shows = w; point = p; old = h }; stand = d; same = rw is q }
-  search-leads (Yes s) m (on false (state e c)) u n w p is h d q = absurd w
-  search-leads (Yes s) m (edited (state e c)) u n w p is h d q = record { then = e; carries = c; rest = u; ready = record { shows = w; point = p; old = h }; stand = d; same = rw is q }
-  search-leads (Yes s) m (halt l (state e c)) u n w p is h d q = absurd w
-  search-leads (No s) m (on true (state e c)) u n w p is h d q = absurd w
-  search-leads (No s) m (on false (state e c)) u n w p is h d q = absurd w
-  search-leads (No s) m (edited (state e c)) u n w p is h d q = absurd w
-  search-leads (No s) m (halt l (state e c)) u n w p is h d q = absurd w
-  search-leads (Stop k s) m (on true (state e c)) u n w p is h d q = absurd w
-  search-leads (Stop k s) m (on false (state e c)) u n w p is h d q = record { last = e; carries = c; rest = u; shows = w.1; stand = d; same = rw (is, w.0) q }
-  search-leads (Stop k s) m (edited (state e c)) u n w p is h d q = absurd w
-  search-leads (Stop k s) m (halt l (state e c)) u n w p is h d q = record { last = e; carries = c; rest = u; shows = w.1; stand = d; same = rw (is, w.0) q }
+  unfolding Looks or_spent after_search Leads choose end_place text_of carried_of
+  search-leads (Ok x) m (on true (state e c)) u n w p is h d q =
+      rw w.0 (record { then = e; carries = c; rest = u; ready = record { shows = w.1; point = p; old = h }; stand = d; same = rw is q })
+  search-leads (Ok x) m (on false (state e c)) u n w p is h d q = absurd w
+  search-leads (Ok x) m (edited (state e c)) u n w p is h d q =
+      rw w.0 (record { then = e; carries = c; rest = u; ready = record { shows = w.1; point = p; old = h }; stand = d; same = rw is q })
+  search-leads (Ok x) m (halt l (state e c)) u n w p is h d q = absurd w
+  search-leads (Err s) m (on true (state e c)) u n w p is h d q = absurd w
+  search-leads (Err s) m (on false (state e c)) u n w p is h d q = record { last = e; carries = c; rest = u; shows = w.1; stand = d; same = rw (is, w.0) q }
+  search-leads (Err s) m (edited (state e c)) u n w p is h d q = absurd w
+  search-leads (Err s) m (halt l (state e c)) u n w p is h d q = record { last = e; carries = c; rest = u; shows = w.1; stand = d; same = rw (is, w.0) q }
 
 -- THE LAW of a search: what is answered, and how the run goes on
 module _ (s w : List ℕ) (below : ℕ) (x : Wanted) (left steps : ℕ) (from : Ctl) (op : Op) (c₁ c₀ : Ctl) (e : Ed) (c : Carried) (t : Tape) (table j w' k : List ℕ) (st : State) (r : Sought)

@@ -1,5 +1,5 @@
 -- A step that is wanted, and what is answered. Assumes nothing.
-use Rattle.std.specs.Prelude.{◌≡◌, Bool, true, false, List, ℕ, ◌≤◌}
+use Rattle.std.specs.Prelude.{◌≡◌, Bool, true, false, List, ℕ, ◌≤◌, Result}
 use Rattle.definitions.specs.Table.{is_script}
 use Rattle.definitions.specs.Tape.{Tape}
 use Rattle.definitions.specs.Search.{Search}
@@ -16,6 +16,7 @@ use Rattle.control.specs.declared.Ask.TheVariants.{Round, Holds, HoldsNot, AtEof
 use Rattle.control.specs.declared.Wanted.{Wanted}
 use Rattle.control.specs.Shown.{SearchOf, Asks}
 use Rattle.editor.specs.declared.State.{State}
+use Rattle.editor.specs.declared.Stopped.{Stopped}
 use Rattle.editor.specs.Shows.{lent}
 use Rattle.editor.specs.Current.{Ready, IsReady}
 use Rattle.globals.specs.Standing.{StandingBelow, Standing}
@@ -45,7 +46,7 @@ abbrev pub Asking : (Op → Type 0) → List ℕ → List ℕ → State → Type
 Asking P table j st = ((op : Op) × P op) × IsReady table j st
 
 -- what a function answers that made the step which is asked, the buffer being k then, where script and work area hold what is carried
-abbrev pub LooksAsked : List ℕ → List ℕ → (Op → Type 0) → List ℕ → List ℕ → State → List ℕ → Looked → Type 0
+abbrev pub LooksAsked : List ℕ → List ℕ → (Op → Type 0) → List ℕ → List ℕ → State → List ℕ → Result Looked Stopped → Type 0
 LooksAsked s w P table j st k r =
     (op : Op) (e : Ed) (c : Carried) (t : Tape) → P op → Standing s w c → Ready table j st e t → LooksAs k r (step (lent j) op (state e c) t)
 
@@ -76,7 +77,7 @@ abbrev pub Commanding : List ℕ → List ℕ → ℕ → List ℕ → List ℕ 
 Commanding s w k table j st = ((end : ℕ) × (op : Op) × CommandBelow s w end k op × SomeBelow s w end) × IsReady table j st
 
 -- what a function answers that performed it, the words being w' then and the buffer i
-abbrev pub Commanded : List ℕ → List ℕ → ℕ → List ℕ → List ℕ → State → List ℕ → List ℕ → Looked → Type 0
+abbrev pub Commanded : List ℕ → List ℕ → ℕ → List ℕ → List ℕ → State → List ℕ → List ℕ → Result Looked Stopped → Type 0
 Commanded s w k table j st w' i r =
     (end : ℕ) (op : Op) (e : Ed) (c : Carried) (t : Tape) → CommandBelow s w end k op → StandingBelow s w end c → Ready table j st e t
     → LooksAs i r (step (lent j) op (state e c) t) × Carries s w' end (step (lent j) op (state e c) t).0

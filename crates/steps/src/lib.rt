@@ -1,19 +1,19 @@
 // What a step of the run asks of the editor, done on the journal buffer.
 #![tactic(auto)]
 
-ghost use Rattle.std.specs.Prelude.{◌≡◌, ◌+◌, ◌≤◌, ◌<◌, length, get_or};
+ghost use Rattle.std.specs.Prelude.{◌≡◌, ◌+◌, ◌≤◌, ◌<◌, length, get_or, Ok};
 ghost use Rattle.globals.specs.Standing.{OnlyCarried};
 ghost use Rattle.reading.specs.Carrying.{SomeStand};
 ghost use Rattle.steps.specs.Steps.{ask_test, ask_look, Asking, LooksAsked, AsksSome, Commanding, Commanded, Wanting, AnswersStep};
 
 use control::{Ask, Wanted};
-use editor::{Moved, State};
+use editor::{State, Stop, Stopped};
 use items::heads::{is_global, kind_of};
 use items::kinds::{CANCEL, WORD_SET};
 use seeks::{Looked, Sought, Way};
 
 // One step was made.
-fn once(looked: Looked) -> Sought
+fn once(looked: Result<Looked, Stopped>) -> Sought
     ensures { result ≡ record { looked = looked; made = 1 } }
 {
     Sought { looked, made: 1 }
@@ -38,7 +38,7 @@ fn test<'a>(
     holds: bool,
 ) -> Looked
     requires { SomeStand script.now w.now × Asking (AsksSome script.now w.now x) table.now j.now st × (x.what ≡ ask_test holds) }
-    ensures { LooksAsked script.now w.now (AsksSome script.now w.now x) table.now j.now st j.now result }
+    ensures { LooksAsked script.now w.now (AsksSome script.now w.now x) table.now j.now st j.now (Ok result) }
 {
     let item = x.item;
     let k = item + 2;
@@ -76,12 +76,17 @@ fn search(
     let k = item + 2;
     let m = search_end(w, item);
     let r = seeks::seek(script, w, k, m, table, j, st, way, x.lines, left);
-    let looked = r.looked;
-    let Looked::No(s) = looked else {
+    let Ok(last) = r.looked else {
         return r;
     };
+    if last.held {
+        return r;
+    }
     Sought {
-        looked: Looked::Stop(29, s),
+        looked: Err(Stopped {
+            stop: Stop::BudgetSpent,
+            st: last.st,
+        }),
         made: r.made,
     }
 }
@@ -94,7 +99,7 @@ fn command(
     item: usize,
     j: &mut [u8],
     st: State,
-) -> Looked
+) -> Result<Looked, Stopped>
     requires { Commanding script.now w.old item table.now j.old st }
     ensures commanded { Commanded script.now w.old item table.now j.old st w.new j.new result }
     ensures only_carried { OnlyCarried w.old w.new }
@@ -102,23 +107,23 @@ fn command(
     let kind = kind_of(w, item);
     if is_global(kind) {
         if globals::keep(w, item) {
-            return Looked::Yes(st);
+            return Ok(Looked { held: true, st });
         }
-        return Looked::Stop(31, st);
+        return Err(Stopped {
+            stop: Stop::GlobalsFull,
+            st,
+        });
     }
     if kind == CANCEL {
         globals::forget(w);
-        return Looked::Yes(st);
+        return Ok(Looked { held: true, st });
     }
     if kind == WORD_SET {
         globals::name_words(w, item);
-        return Looked::Yes(st);
+        return Ok(Looked { held: true, st });
     }
-    let r = commands::perform(script, table, w, item, j, st);
-    match r {
-        Moved::On(s) => Looked::Yes(s),
-        Moved::Stop(n, s) => Looked::Stop(n, s),
-    }
+    let s = commands::perform(script, table, w, item, j, st)?;
+    Ok(Looked { held: true, st: s })
 }
 
 // The step that is wanted, and of a search all the steps that follow it, at most `left`.
@@ -137,10 +142,10 @@ pub fn answer_step(
 {
     let what = x.what;
     match what {
-        Ask::Round => once(Looked::Yes(st)),
-        Ask::Holds => once(test(script, table, w, x, j, st, true)),
-        Ask::HoldsNot => once(test(script, table, w, x, j, st, false)),
-        Ask::AtEof => once(seeks::test_eof(j, st)),
+        Ask::Round => once(Ok(Looked { held: true, st })),
+        Ask::Holds => once(Ok(test(script, table, w, x, j, st, true))),
+        Ask::HoldsNot => once(Ok(test(script, table, w, x, j, st, false))),
+        Ask::AtEof => once(Ok(seeks::test_eof(j, st))),
         Ask::Begin => once(seeks::begin(j, st)),
         Ask::BeginBack => once(seeks::begin_back(j, st)),
         Ask::Command => once(command(script, table, w, x.item, j, st)),

@@ -1,4 +1,5 @@
 -- Laws of a string's bytes, which with R are a pattern: one for each way out. Assumes nothing.
+use Rattle.std.specs.Prelude.{Ok, Err}
 use mathlib.Core.Path.{◌≡◌, refl, sym, ap, ◌∙◌}
 use mathlib.Core.Bool.{true, false, false≢true}
 use mathlib.Core.List.{List}
@@ -12,15 +13,15 @@ use Rattle.definitions.specs.Strings.{is_pattern, pattern_or, no_qualifiers}
 use Rattle.theorems.specs.PatternReader.{moved, places-move, pattern-refused}
 use Rattle.text.specs.Lines.{part}
 use Rattle.text.proofs.Parts.{part_length}
-use Rattle.patterns.specs.declared.Form.{Form}
+use Rattle.patterns.specs.declared.Fault.{Fault}
 use Rattle.patterns.specs.Reading.{Forms}
 use Rattle.marks.specs.Sweeping.{Reads}
 use Rattle.leads.specs.declared.Leads.{Leads}
 use Rattle.leads.specs.Leading.{leads_of}
 use Rattle.matching.specs.declared.Quals.{Quals}
 use Rattle.matching.specs.Quals.{qualifiers_of, lead_number, Formed}
-use Rattle.answers.specs.declared.Answer.{Answer}
-use Rattle.answers.specs.Answers.{StringOr}
+use Rattle.answers.specs.declared.Fault.TheVariants.{Pattern as Ill-formed}
+use Rattle.answers.specs.Answers.{read_as, refusal}
 use Rattle.strings.specs.Answers.{Small, bytes_then, Finished, BytesRead}
 
 -- ---- the qualifiers
@@ -56,33 +57,33 @@ module _ (q : Quals) (l : Line) (small : Small q) where
 
 -- ---- what the reader of patterns says
 
-module _ (l : Line) {f : Form} (forms : Forms l f) where
-  pub is-fault : (k : ℕ) → f ≡ Form.Fault k → read_pattern 0 l ≡ refused 34 k
+module _ (l : Line) where
+  pub is-fault : {f : Fault} → Forms l (Err f) → read_pattern 0 l ≡ refused 34 f.at
   unfolding Forms
-  is-fault k e = rw e at forms
+  is-fault forms = forms
 
-  pub is-pattern : f ≡ Form.Pattern → (pat : Pattern) × Reads l pat
+  pub is-pattern : Forms l (Ok tt) → (pat : Pattern) × Reads l pat
   unfolding Forms
-  is-pattern e = rw e at forms
+  is-pattern forms = forms
 
 -- ---- the bytes
 
 module _ (s : List ℕ) (q : Quals) (start end next : ℕ) where
-  pub plain-bytes : Small q → q.pattern ≡ false → BytesRead s q start end next (Answer.OneString q start end next)
+  pub plain-bytes : Small q → q.pattern ≡ false → BytesRead s q start end next (read_as (record { quals = q; part = record { start = start; end = end } }) next)
   unfolding bytes_then is_pattern qualifiers_of
   plain-bytes small e =
-      StringOr.read q start end next (rw e, as-given q (part start end s) small (λ short. not-pattern q (part start end s) e), refl, refl, refl)
+      (rw e, as-given q (part start end s) small (λ short. not-pattern q (part start end s) e), refl, refl, refl)
 
   module _ (given : q.pattern ≡ true) where
     -- its place is as far on as the string's
-    pub fault-bytes : (k : ℕ) → read_pattern 0 (part start end s) ≡ refused 34 k → BytesRead s q start end next (Answer.Refused 34 (start + k))
+    pub fault-bytes : (k : ℕ) → read_pattern 0 (part start end s) ≡ refused 34 k → BytesRead s q start end next (refusal Ill-formed (start + k))
     unfolding bytes_then is_pattern qualifiers_of pattern_or moved
-    fault-bytes k e = StringOr.refused 34 (start + k) (rw (given, places-move start (part start end s), e))
+    fault-bytes k e = (rw (given, places-move start (part start end s), e))
 
     pub pattern-bytes : (pat : Pattern) (r : Quals) → Reads (part start end s) pat → Finished q (part start end s) r
-        → BytesRead s q start end next (Answer.OneString r start end next)
+        → BytesRead s q start end next (read_as (record { quals = r; part = record { start = start; end = end } }) next)
     unfolding bytes_then is_pattern qualifiers_of pattern_or moved
-    pattern-bytes pat r e h = StringOr.read r start end next (rw (given, places-move start (part start end s), e), h, refl, refl, refl)
+    pattern-bytes pat r e h = (rw (given, places-move start (part start end s), e), h, refl, refl, refl)
 
 -- where it goes wrong is in the string or at its end
 pub fault-within : (s : List ℕ) (start end k : ℕ) → start ≤ end → end ≤ length s → read_pattern 0 (part start end s) ≡ refused 34 k → start + k ≤ end

@@ -13,8 +13,7 @@ use Rattle.definitions.specs.Strings.{no_qualifiers, qualifier_byte, read_qualif
 use Rattle.matching.specs.declared.Quals.{Quals}
 use Rattle.matching.specs.Quals.{plain, qualifiers_of}
 use Rattle.matching.proofs.Plain.{plain-none}
-use Rattle.answers.specs.declared.Answer.{Answer}
-use Rattle.answers.specs.Answers.{QualifiersOr}
+use Rattle.answers.specs.Answers.{read_as}
 use Rattle.lexer.specs.Places.{cursor_at}
 use Rattle.lexer.proofs.AtPlace.{next-inside}
 use Rattle.strings.specs.Answers.{Small, qualifier_here, QualifierAt, QualifiersRead}
@@ -77,8 +76,8 @@ module _ (inSearch : Bool) (q : Qualifiers) (c : Cursor) where
     round-refused (suc n) h k p e = rw (more, e, read_qualifiers)
 
 module _ (s : List ℕ) (at : ℕ) (inSearch : Bool) (q : Quals) (i : ℕ) (begun : Begun s at inSearch q i) where
-  pub opened : is_delimiter (next_byte (cursor_at s i)) ≡ true → QualifiersRead s at (start_qualifiers inSearch (cursor_at s at)) (Answer.Qualifiers q i)
-  opened e = QualifiersOr.read q i (
+  pub opened : is_delimiter (next_byte (cursor_at s i)) ≡ true → QualifiersRead s at (start_qualifiers inSearch (cursor_at s at)) (read_as q i)
+  opened e = (
     begun.same ∙ round-open inSearch (qualifiers_of q) (cursor_at s i) begun.rounds (omega (arith, begun.enough)) e,
     record { from = begun.from; inside = opens-inside s i e; small = begun.small; columned = begun.columned },
   )

@@ -17,12 +17,17 @@ use Rattle.definitions.specs.Reader.{Cursor, cursor, Got, refused, and_then, pla
 use Rattle.definitions.specs.Strings.{wants_bytes, is_empty, read_bytes, read_string, start_qualifiers, qualified_string, second_string, two_strings}
 use Rattle.matching.specs.declared.Quals.{Quals}
 use Rattle.matching.specs.Quals.{qualifiers_of}
-use Rattle.answers.specs.declared.Answer.{Answer}
-use Rattle.answers.specs.Answers.{StringOr, StringsOr}
+use Rattle.std.specs.Prelude.{Result, Ok, Err}
+use Rattle.answers.specs.declared.Fault.TheVariants.{Qualifier}
+use Rattle.answers.specs.declared.Read.{Read}
+use Rattle.answers.specs.declared.Refusal.{Refusal}
+use Rattle.answers.specs.Answers.{read_as, refusal}
 use Rattle.lexer.specs.Places.{cursor_at}
 use Rattle.lexer.proofs.AtPlace.{is-next, next-in, next-at, after-in, after_next}
 use Rattle.strings.proofs.Adding.{count-given}
-use Rattle.strings.specs.Answers.{Small, Open, OpenAt, Short, bytes_then, Finished, BytesRead, StringAt, QuotedAt, Quoted, Paired, PairRead}
+use Rattle.strings.specs.declared.OneString.{OneString}
+use Rattle.strings.specs.declared.TwoStrings.{TwoStrings}
+use Rattle.strings.specs.Answers.{Small, Open, OpenAt, Short, bytes_then, Finished, BytesRead, StringAt, QuotedAt, Quoted, Paired, PairedOf, PairRead}
 
 -- ---- which qualifiers want bytes
 
@@ -99,9 +104,9 @@ module _ (s : List ℕ) (from : ℕ) (y : Got Qualifiers) (at : ℕ) (q : Quals)
   opened = opening.1
 
   module _ (end : ℕ) (string : string_next (get_or s at 0) (cursor_at s (at + 1)) ≡ part (at + 1) end s) where
-    pub wants-more : end ≡ at + 1 → wants_bytes (qualifiers_of q) ≡ true → Quoted s from y (read_string (qualifiers_of q) (cursor_at s at)) (Answer.Refused 4 at)
+    pub wants-more : end ≡ at + 1 → wants_bytes (qualifiers_of q) ≡ true → Quoted s from y (read_string (qualifiers_of q) (cursor_at s at)) (refusal Qualifier at)
     unfolding read_string place_at is_empty
-    wants-more e w = StringOr.refused 4 at (rw (next-in s at opened.inside, after-in s at opened.inside, string, e, part_none s (at + 1), w))
+    wants-more e w = (rw (next-in s at opened.inside, after-in s at opened.inside, string, e, part_none s (at + 1), w))
 
     module _ (next : ℕ) (passed : advance (length (string_next (get_or s at 0) (cursor_at s (at + 1)))) (cursor_at s (at + 1)) ≡ cursor_at s end)
         (closed : past_delimiter (get_or s at 0) (cursor_at s end) ≡ cursor_at s next)
@@ -127,22 +132,22 @@ module _ (s : List ℕ) (from : ℕ) (y : Got Qualifiers) (at : ℕ) (q : Quals)
         formed = λ lines. h.formed (rw string at (lines (get_or s at 0) (at + 1)));
       }
 
-      quoted-is : {r : Answer} → (is_empty (part (at + 1) end s) && wants_bytes (qualifiers_of q)) ≡ false → BytesRead s q (at + 1) end next r
+      quoted-is : (r : Result (Read OneString) Refusal) → (is_empty (part (at + 1) end s) && wants_bytes (qualifiers_of q)) ≡ false → BytesRead s q (at + 1) end next r
           → Quoted s from y (read_string (qualifiers_of q) (cursor_at s at)) r
-      quoted-is e (StringOr.read r a b c (is, h, ea, eb, ec)) = rw (ea, eb, ec) (StringOr.read r (at + 1) end next (
+      quoted-is (Ok r) e (is, h, ea, eb, ec) = rw (ea, eb, ec) (
         bytes-are e ∙ is ∙ rw h.same,
-        string-at r h,
+        string-at r.value.quals h,
         record { opening = at; is = opening.0 ∙ rw h.same; starts = omega arith },
-      ))
-      quoted-is e (StringOr.refused k p is) = StringOr.refused k p (bytes-are e ∙ is)
+      )
+      quoted-is (Err r) e is = bytes-are e ∙ is
 
-      pub quoted-empty : {r : Answer} → wants_bytes (qualifiers_of q) ≡ false → BytesRead s q (at + 1) end next r
+      pub quoted-empty : (r : Result (Read OneString) Refusal) → wants_bytes (qualifiers_of q) ≡ false → BytesRead s q (at + 1) end next r
           → Quoted s from y (read_string (qualifiers_of q) (cursor_at s at)) r
-      quoted-empty w = quoted-is (rw w (and-false (is_empty (part (at + 1) end s))))
+      quoted-empty r w = quoted-is r (rw w (and-false (is_empty (part (at + 1) end s))))
 
-      pub quoted-bytes : {r : Answer} → (end ≡ at + 1 → ⊥) → BytesRead s q (at + 1) end next r
+      pub quoted-bytes : (r : Result (Read OneString) Refusal) → (end ≡ at + 1 → ⊥) → BytesRead s q (at + 1) end next r
           → Quoted s from y (read_string (qualifiers_of q) (cursor_at s at)) r
-      quoted-bytes e = quoted-is (rw (not-empty s (at + 1) end (omega arith) (omega arith)))
+      quoted-bytes r e = quoted-is r (rw (not-empty s (at + 1) end (omega arith) (omega arith)))
 
 -- ---- a qualified string
 
@@ -156,9 +161,9 @@ module _ (s : List ℕ) (at : ℕ) (i : Bool) where
     unfolding qualified_string and_then
     string-is = rw opened.0
 
-    pub string-read : {r : Answer} → ((from : ℕ) (y : Got Qualifiers) → OpenAt s from y q o → Quoted s from y (read_string (qualifiers_of q) (cursor_at s o)) r)
+    pub string-read : (r : Result (Read OneString) Refusal) → ((from : ℕ) (y : Got Qualifiers) → OpenAt s from y q o → Quoted s from y (read_string (qualifiers_of q) (cursor_at s o)) r)
         → Quoted s at (start_qualifiers i (cursor_at s at)) (qualified_string i (cursor_at s at)) r
-    string-read string = rw string-is (string at (start_qualifiers i (cursor_at s at)) opened)
+    string-read r string = rw string-is (string at (start_qualifiers i (cursor_at s at)) opened)
 
 -- ---- a second string
 
@@ -166,9 +171,9 @@ module _ (s : List ℕ) (d at : ℕ) (y : Got Qualifiers) (x : Got Qualified) wh
   pub pair_read : (q : Quals) (start end next second-end past : ℕ) → QuotedAt s at y x q start end next → string_next d (cursor_at s next) ≡ part next second-end s
       → advance (length (string_next d (cursor_at s next))) (cursor_at s next) ≡ cursor_at s second-end → past_delimiter d (cursor_at s second-end) ≡ cursor_at s past
       → next ≤ second-end → second-end ≤ past → past ≤ length s
-      → Paired s at y x (and_then x (λ q c. second_string d q c)) (Answer.TwoStrings q start end next second-end past)
+      → Paired s at y x (and_then x (λ q c. second_string d q c)) (read_as (record { first = record { quals = q; part = record { start = start; end = end } }; second = record { start = next; end = second-end } }) past)
   unfolding and_then second_string
-  pair_read q start end next second-end past first string passed closed ordered ends within = StringsOr.read q start end next second-end past (
+  pair_read q start end next second-end past first string passed closed ordered ends within = (
     rw (first.0, after_is s next second-end d past string passed closed, string),
     record { first = first.1; ordered = ordered; ends = ends; within = within; short = short s next second-end d string (omega arith) },
     first,
@@ -184,7 +189,10 @@ module _ (s : List ℕ) (at : ℕ) where
     unfolding two_strings and_then
     both-are = rw (opened.0, next-in s o opened.1.inside)
 
-    pub both_read : {first r : Answer} → ((from : ℕ) (y : Got Qualifiers) → OpenAt s from y q o → Quoted s from y (read_string (qualifiers_of q) (cursor_at s o)) first)
-        → ((from : ℕ) (y : Got Qualifiers) (x : Got Qualified) → Quoted s from y x first → Paired s from y x (and_then x (λ q c. second_string (get_or s o 0) q c)) r)
-        → PairRead s at r
-    both_read string pairs = rw (both-are, string-is s at false q o opened) (pairs at _ _ (string at _ opened))
+    pub second-refused : (k p : ℕ) → read_string (qualifiers_of q) (cursor_at s o) ≡ refused k p → two_strings (cursor_at s at) ≡ refused k p
+    unfolding and_then
+    second-refused k p e = both-are ∙ rw e
+
+    pub both_read : (x : Got Qualified) → x ≡ read_string (qualifiers_of q) (cursor_at s o) → (r : TwoStrings) (next : ℕ)
+        → PairedOf s at (start_qualifiers false (cursor_at s at)) x (and_then x (λ q c. second_string (get_or s o 0) q c)) r next → PairRead s at (read_as r next)
+    both_read x is r next pairs = rw (both-are, string-is s at false q o opened) (rw is at pairs)

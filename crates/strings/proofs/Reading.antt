@@ -15,28 +15,29 @@ use Rattle.definitions.specs.Strings.{add_count, set_columns, has_columns, is_gi
 use Rattle.matching.specs.declared.Quals.{Quals}
 use Rattle.matching.specs.Quals.{columns_of, qualifiers_of}
 use Rattle.lexer.specs.Places.{cursor_at}
-use Rattle.answers.specs.declared.Answer.{Answer}
-use Rattle.answers.specs.Answers.{NumberOr, QualifiersOr}
-use Rattle.lexer.specs.Answers.{PastAt, OneByte, NumberAt, NumberRead, itself, Numbered}
+use Rattle.std.specs.Prelude.{Result, Ok, Err}
+use Rattle.answers.specs.declared.Fault.{Fault}
+use Rattle.answers.specs.declared.Fault.TheVariants.{Argument, Qualifier}
+use Rattle.answers.specs.declared.Read.{Read}
+use Rattle.answers.specs.declared.Refusal.{Refusal}
+use Rattle.answers.specs.Answers.{read_as, refusal}
+use Rattle.lexer.specs.Answers.{PastAt, OneByte, ValueAt, ValueRead, itself, Numbered}
 use Rattle.lexer.proofs.AtPlace.{next-in, next-end, after-in}
 use Rattle.lexer.proofs.Given.{goes_on, passed-up}
-use Rattle.strings.specs.declared.Added.{Added}
-use Rattle.strings.specs.declared.Added.TheVariants.{Now, Clash, Unknown}
 use Rattle.strings.specs.Answers.{Small, added_of, SmallAdded, Adds, AddsAt, read_added, qualifier_here, QualifierRead, second_column, columns_from}
 
 -- ---- what was added
 
-added-read : (s : List ℕ) (d : Added) (at next : ℕ) (x : Got Qualifiers) → suc at ≤ next → next ≤ length s → SmallAdded d → added_of d at (cursor_at s next) ≡ x
+added-read : (s : List ℕ) (d : Result Quals Fault) (at next : ℕ) (x : Got Qualifiers) → suc at ≤ next → next ≤ length s → SmallAdded d → added_of d at (cursor_at s next) ≡ x
     → QualifierRead s at x (read_added d at next)
 unfolding added_of read_added SmallAdded
-added-read s (Now q) at next x h k small e = QualifiersOr.read q next (sym e, h, k, small)
-added-read s Clash at next x h k small e = QualifiersOr.refused 4 at (sym e)
-added-read s Unknown at next x h k small e = QualifiersOr.refused 3 at (sym e)
+added-read s (Ok q) at next x h k small e = (sym e, h, k, small)
+added-read s (Err fault) at next x h k small e = sym e
 
 -- ---- a count
 
 module _ (s : List ℕ) (at : ℕ) (q : Quals) where
-  pub count-read : (count next : ℕ) (d : Added) (r : Answer) → NumberAt s itself (Numbered at) (number (cursor_at s at)) count next
+  pub count-read : (count next : ℕ) (d : Result Quals Fault) (r : Result (Read Quals) Refusal) → ValueAt s itself (Numbered at) (number (cursor_at s at)) count next
       → Adds (add_count count (qualifiers_of q)) q d → r ≡ read_added d at next → Small q → QualifierRead s at (read_count (qualifiers_of q) (cursor_at s at)) r
   unfolding read_count place_at
   count-read count next d r on adds r-is small =
@@ -64,7 +65,7 @@ module _ (s : List ℕ) (at n i : ℕ) (spaces : skip_spaces (cursor_at s at) �
     pub no-number-there : (k p : ℕ) → number (cursor_at s j) ≡ refused k p → second_column n (cursor_at s at) ≡ refused k p
     no-number-there k p e = from-number ∙ passed-up (number (cursor_at s j)) _ k p e
 
-    module _ (m past : ℕ) (column : NumberAt s itself (Numbered j) (number (cursor_at s j)) m past) where
+    module _ (m past : ℕ) (column : ValueAt s itself (Numbered j) (number (cursor_at s j)) m past) where
       pub too-low : m < n → second_column n (cursor_at s at) ≡ refused 3 j
       too-low h = from-number ∙ goes_on (number (cursor_at s j)) _ m (cursor_at s past) column.0 ∙ rw (lt-leb n m h)
 
@@ -77,8 +78,8 @@ module _ (s : List ℕ) (at n i : ℕ) (spaces : skip_spaces (cursor_at s at) �
 
         -- each part is read after the one before
         pub column-read : at ≤ i → after ≤ j → past ≤ l → (next : ℕ) → PastAt s (OneByte l) (expect 95 (cursor_at s l)) next
-            → NumberRead s itself (Numbered at) (second_column n (cursor_at s at)) (Answer.Number m next)
-        column-read h k g next end = NumberOr.read m next (
+            → ValueRead s itself (Numbered at) (second_column n (cursor_at s at)) (read_as m next)
+        column-read h k g next end = (
           from_end ∙ goes_on (expect 95 (cursor_at s l)) _ tt (cursor_at s next) end.0,
           (column.1.0, column.1.1, omega (arith, comma.1, column.1.2, end.1)),
           end.2,
@@ -98,19 +99,19 @@ module _ (s : List ℕ) (at n : ℕ) (q : Quals) where
   unfolding columns_from
   columns-refused k p e = passed-up (second_column n (cursor_at s at)) _ k p e
 
-  pub columns-now : (m next : ℕ) → NumberAt s itself (Numbered at) (second_column n (cursor_at s at)) m next → 1 ≤ n → n ≤ 65535 → Small q
-      → QualifierRead s at (columns_from n (qualifiers_of q) (cursor_at s at)) (Answer.Qualifiers (set-columns q n m) next)
+  pub columns-now : (m next : ℕ) → ValueAt s itself (Numbered at) (second_column n (cursor_at s at)) m next → 1 ≤ n → n ≤ 65535 → Small q
+      → QualifierRead s at (columns_from n (qualifiers_of q) (cursor_at s at)) (read_as (set-columns q n m) next)
   unfolding columns_from
-  columns-now m next on low high small = QualifiersOr.read (set-columns q n m) next (
+  columns-now m next on low high small = (
     goes_on (second_column n (cursor_at s at)) _ m (cursor_at s next) on.0 ∙ ap (λ (x : Qualifiers). got x (cursor_at s next)) (sym (columns-are q n m low)),
     on.1.2,
     on.2,
     record { fits = record { anchor = small.fits.anchor; count = small.fits.count; from = high; to = on.1.1 }; uncounted = small.uncounted },
   )
 
-later : (s : List ℕ) (at at' : ℕ) (x y : Got Qualifiers) {r : Answer} → at ≤ at' → x ≡ y → QualifierRead s at' y r → QualifierRead s at x r
-later s at at' x y h e (QualifiersOr.read q next (is, from, to, small)) = QualifiersOr.read q next (e ∙ is, omega (arith, from), to, small)
-later s at at' x y h e (QualifiersOr.refused k p is) = QualifiersOr.refused k p (e ∙ is)
+later : (s : List ℕ) (at at' : ℕ) (x y : Got Qualifiers) (r : Result (Read Quals) Refusal) → at ≤ at' → x ≡ y → QualifierRead s at' y r → QualifierRead s at x r
+later s at at' x y (Ok r) h e (is, from, to, small) = (e ∙ is, omega (arith, from), to, small)
+later s at at' x y (Err r) h e is = e ∙ is
 
 -- what follows an answer may be said in another way
 same_then : {A B : Type 0} (x : Got A) (f g : A → Cursor → Got B) → ((a : A) (c : Cursor) → f a c ≡ g a c) → and_then x f ≡ and_then x g
@@ -154,10 +155,10 @@ module _ (s : List ℕ) (at : ℕ) (q : Quals) (i : ℕ) (spaces : skip_spaces (
   pub first-refused : (k p : ℕ) → number (cursor_at s i) ≡ refused k p → read_columns (qualifiers_of q) (cursor_at s at) ≡ refused k p
   first-refused k p e = columns-is ∙ passed-up (number (cursor_at s i)) _ k p e
 
-  pub first_read : at ≤ i → (n after : ℕ) {r : Answer} → NumberAt s itself (Numbered i) (number (cursor_at s i)) n after
+  pub first_read : at ≤ i → (n after : ℕ) (r : Result (Read Quals) Refusal) → ValueAt s itself (Numbered i) (number (cursor_at s i)) n after
       → QualifierRead s after (columns_from n (qualifiers_of q) (cursor_at s after)) r → QualifierRead s at (read_columns (qualifiers_of q) (cursor_at s at)) r
-  first_read here n after on reads =
-      later s at after _ _ (omega (arith, on.1.2)) (columns-is ∙ goes_on (number (cursor_at s i)) _ n (cursor_at s after) on.0) reads
+  first_read here n after r on reads =
+      later s at after _ _ r (omega (arith, on.1.2)) (columns-is ∙ goes_on (number (cursor_at s i)) _ n (cursor_at s after) on.0) reads
 
 -- ---- the qualifier at a place
 
@@ -174,27 +175,27 @@ unfolding has_columns qualifiers_of is_given columns_of
 not-given q e = rw e
 
 module _ (s : List ℕ) (at : ℕ) (q : Quals) (i : Bool) where
-  pub nothing_left : length s ≤ at → QualifierRead s at (qualifier_here i q (cursor_at s at)) (Answer.Refused 3 at)
+  pub nothing_left : length s ≤ at → QualifierRead s at (qualifier_here i q (cursor_at s at)) (refusal Argument at)
   unfolding qualifier_byte letter_of upper is_small read_qualifier place_at is_digit
-  nothing_left h = QualifiersOr.refused 3 at (rw (next-end s at h))
+  nothing_left h = (rw (next-end s at h))
 
   module _ (inside : at < length s) where
-    pub digit-here : {r : Answer} → is_digit (get_or s at 0) ≡ true → QualifierRead s at (read_count (qualifiers_of q) (cursor_at s at)) r
+    pub digit-here : (r : Result (Read Quals) Refusal) → is_digit (get_or s at 0) ≡ true → QualifierRead s at (read_count (qualifiers_of q) (cursor_at s at)) r
         → QualifierRead s at (qualifier_here i q (cursor_at s at)) r
     unfolding qualifier_byte read_qualifier
-    digit-here e reads = later s at at _ _ (omega arith) (rw (next-in s at inside, e)) reads
+    digit-here r e reads = later s at at _ _ r (omega arith) (rw (next-in s at inside, e)) reads
 
     module _ (no_digit : is_digit (get_or s at 0) ≡ false) where
-      pub columns-twice : get_or s at 0 ≡ 95 → (q.from ≡ 0 → ⊥) → QualifierRead s at (qualifier_here i q (cursor_at s at)) (Answer.Refused 4 at)
+      pub columns-twice : get_or s at 0 ≡ 95 → (q.from ≡ 0 → ⊥) → QualifierRead s at (qualifier_here i q (cursor_at s at)) (refusal Qualifier at)
       unfolding qualifier_byte read_qualifier place_at
-      columns-twice e given = QualifiersOr.refused 4 at (rw (next-in s at inside, no_digit, e, given-twice q given))
+      columns-twice e given = (rw (next-in s at inside, no_digit, e, given-twice q given))
 
-      pub columns-here : {r : Answer} → get_or s at 0 ≡ 95 → q.from ≡ 0 → QualifierRead s (at + 1) (read_columns (qualifiers_of q) (cursor_at s (at + 1))) r
+      pub columns-here : (r : Result (Read Quals) Refusal) → get_or s at 0 ≡ 95 → q.from ≡ 0 → QualifierRead s (at + 1) (read_columns (qualifiers_of q) (cursor_at s (at + 1))) r
           → QualifierRead s at (qualifier_here i q (cursor_at s at)) r
       unfolding qualifier_byte read_qualifier
-      columns-here e free reads = later s at (at + 1) _ _ (omega arith) (rw (next-in s at inside, no_digit, e, not-given q free, after-in s at inside)) reads
+      columns-here r e free reads = later s at (at + 1) _ _ r (omega arith) (rw (next-in s at inside, no_digit, e, not-given q free, after-in s at inside)) reads
 
-      pub letter-here : (b : ℕ) (d : Added) (r : Answer) → (get_or s at 0 ≡ 95 → ⊥) → b ≡ upper (get_or s at 0)
+      pub letter-here : (b : ℕ) (d : Result Quals Fault) (r : Result (Read Quals) Refusal) → (get_or s at 0 ≡ 95 → ⊥) → b ≡ upper (get_or s at 0)
           → AddsAt (λ c. read_qualifier i (qualifiers_of q) c (letter_of b)) q d → r ≡ read_added d at (at + 1) → Small q
           → QualifierRead s at (qualifier_here i q (cursor_at s at)) r
       unfolding qualifier_byte place_at

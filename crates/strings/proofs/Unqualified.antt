@@ -13,14 +13,15 @@ use Rattle.text.specs.Lines.{part}
 use Rattle.text.proofs.Parts.{part_none, part-cons}
 use Rattle.matching.specs.declared.Quals.{Quals}
 use Rattle.matching.specs.Quals.{qualifiers_of}
-use Rattle.answers.specs.declared.Answer.{Answer}
-use Rattle.answers.specs.Answers.{StringOr, StringsOr}
+use Rattle.answers.specs.declared.Fault.TheVariants.{Qualifier}
+use Rattle.answers.specs.Answers.{read_as, refusal}
 use Rattle.lexer.specs.Places.{cursor_at}
-use Rattle.lexer.specs.Answers.{TwoAt, QuotedRead}
+use Rattle.lexer.specs.Answers.{ValueAt, part_in, QuotedRead}
 use Rattle.lexer.proofs.AtPlace.{next-in, after-in}
 use Rattle.lexer.proofs.Given.{goes_on, passed-up}
 use Rattle.lexer.proofs.Parts.{delimiter-inside, string-passed, after-string}
-use Rattle.strings.specs.Answers.{Small, Quoted, PairedAt, Paired, PlainAt, PlainRead}
+use Rattle.strings.specs.declared.TwoStrings.{TwoStrings}
+use Rattle.strings.specs.Answers.{Small, QuotedAt, PairedAt, PairedOf, PlainAt, PlainRead}
 use Rattle.strings.proofs.Forming.{plain-formed}
 use Rattle.strings.proofs.Quoting.{is-closed, short}
 
@@ -90,7 +91,7 @@ module _ (s : List ℕ) (at o : ℕ) (spaces : skip_spaces (cursor_at s at) ≡ 
   unfolding two_plain_strings
   plain-refused k p e = rw spaces (passed-up (quoted (cursor_at s o)) _ k p e)
 
-  module _ (start end next : ℕ) (string : TwoAt s (λ a e. part a e s) (QuotedRead o) (quoted (cursor_at s o)) start end next) where
+  module _ (start end next : ℕ) (string : ValueAt s (part_in s) (QuotedRead o) (quoted (cursor_at s o)) (record { start = start; end = end }) next) where
     parts : Parted s o start end next (get_or s o 0)
     parts = parted s o start end next (omega (arith, string.1.0)) string.1.1 (omega (arith, string.1.2, string.2)) string.0
 
@@ -102,9 +103,9 @@ module _ (s : List ℕ) (at o : ℕ) (spaces : skip_spaces (cursor_at s at) ≡ 
     unfolding two_plain_strings place_at
     plain-on = rw spaces (goes_on (quoted (cursor_at s o)) _ (part start end s) (cursor_at s next) string.0)
 
-    pub plain-empty : start ≡ end → PlainRead s at (Answer.Refused 4 o)
+    pub plain-empty : start ≡ end → PlainRead s at (refusal Qualifier o)
     unfolding plain_pair
-    plain-empty e = StringsOr.refused 4 o (plain-on ∙ rw (e, part_none s end))
+    plain-empty e = (plain-on ∙ rw (e, part_none s end))
 
     plain-bytes : (start ≡ end → ⊥)
         → two_plain_strings (cursor_at s at) ≡ got (part start end s, string_next (get_or s o 0) (cursor_at s next)) (after_string (get_or s o 0) (cursor_at s next))
@@ -118,8 +119,8 @@ module _ (s : List ℕ) (at o : ℕ) (spaces : skip_spaces (cursor_at s at) ≡ 
     plain_first = got (qualified no_qualifiers (part start end s)) (cursor_at s next)
 
     module _ (q : Quals) (none : qualifiers_of q ≡ no_qualifiers) (small : Small q) (no-columns : q.from ≡ 0) where
-      pub plain-first : Quoted s at (got no_qualifiers (cursor_at s o)) plain_first (Answer.OneString q start end next)
-      plain-first = StringOr.read q start end next (
+      pub plain-first : QuotedAt s at (got no_qualifiers (cursor_at s o)) plain_first q start end next
+      plain-first = (
         rw none,
         record {
           after = omega (arith, string.1.0, from);
@@ -149,12 +150,6 @@ module _ (s : List ℕ) (at o : ℕ) (spaces : skip_spaces (cursor_at s at) ≡ 
           stand = stand;
         }
 
-        pub plain-both : {r : Answer}
-            → ((from : ℕ) (y : Got Qualifiers) (x : Got Qualified) → Quoted s from y x (Answer.OneString q start end next) → Paired s from y x (and_then x (λ q c. second_string (get_or s o 0) q c)) r)
-            → PlainRead s at r
-        unfolding second_string
-        plain-both pairs = by (pairs at _ _ plain-first)
-          where
-            by : {r : Answer} → Paired s at (got no_qualifiers (cursor_at s o)) plain_first (and_then plain_first (λ q c. second_string (get_or s o 0) q c)) r → PlainRead s at r
-            by (StringsOr.read q' start' end' second second-end past h) = StringsOr.read q' start' end' second second-end past (pair-as q' start' end' second second-end past h)
-            by (StringsOr.refused k p h) = absurd (not_refused (sym (goes_on plain_first _ _ _ refl) ∙ h))
+        pub plain-both : (r : TwoStrings) (past : ℕ)
+            → PairedOf s at (got no_qualifiers (cursor_at s o)) plain_first (and_then plain_first (λ q c. second_string (get_or s o 0) q c)) r past → PlainRead s at (read_as r past)
+        plain-both r past = pair-as r.first.quals r.first.part.start r.first.part.end r.second.start r.second.end past

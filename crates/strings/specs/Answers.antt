@@ -1,5 +1,5 @@
 -- What the answers of the code stand for, in the terms of the definitions. Assumes nothing.
-use Rattle.std.specs.Prelude.{◌≡◌, Bool, true, false, cond, List, ℕ, suc, ◌+◌, ◌≤◌, ◌<◌, leb, length, get_or}
+use Rattle.std.specs.Prelude.{◌≡◌, Bool, true, false, cond, List, ℕ, suc, ◌+◌, ◌≤◌, ◌<◌, leb, length, get_or, Result, Ok, Err}
 use Rattle.std.proofs.Math.Option.{Option}
 use Rattle.definitions.specs.Bytes.{Line, is_digit}
 use Rattle.definitions.specs.Matching.{Qualifiers, Qualified, qualified}
@@ -9,12 +9,14 @@ use Rattle.definitions.specs.Strings.{no_qualifiers, added, is_pattern, set_colu
 use Rattle.text.specs.Lines.{part}
 use Rattle.matching.specs.declared.Quals.{Quals}
 use Rattle.matching.specs.Quals.{qualifiers_of, Formed}
-use Rattle.answers.specs.declared.Answer.{Answer}
-use Rattle.answers.specs.Answers.{QualifiersOr, StringOr, StringsOr}
+use Rattle.answers.specs.declared.Fault.{Fault}
+use Rattle.answers.specs.declared.Read.{Read}
+use Rattle.answers.specs.declared.Refusal.{Refusal}
+use Rattle.answers.specs.Answers.{number_of, ReadOr, read_as, refusal}
 use Rattle.lexer.specs.Places.{cursor_at}
 use Rattle.lexer.specs.Answers.{Refuses}
-use Rattle.strings.specs.declared.Added.{Added}
-use Rattle.strings.specs.declared.Added.TheVariants.{Now, Clash, Unknown}
+use Rattle.strings.specs.declared.OneString.{OneString}
+use Rattle.strings.specs.declared.TwoStrings.{TwoStrings}
 
 -- the numbers of qualifiers that a script can give
 pub record Fits (q : Quals) : Type 0 where
@@ -29,40 +31,37 @@ pub record Small (q : Quals) : Type 0 where
   pub uncounted : q.pattern ≡ true → q.count ≡ 0
 
 -- what adding a qualifier comes to, with the place of the qualifier and the cursor after it: 4 where it cannot stand, 3 where there is none such
-unfoldable pub added_of : Added → ℕ → Cursor → Got Qualifiers
-added_of (Now q) at c = got (qualifiers_of q) c
-added_of Clash at c = refused 4 at
-added_of Unknown at c = refused 3 at
+unfoldable pub added_of : Result Quals Fault → ℕ → Cursor → Got Qualifiers
+added_of (Ok q) at c = got (qualifiers_of q) c
+added_of (Err fault) at c = refused (number_of fault) at
 
-unfoldable pub SmallAdded : Added → Type 0
-SmallAdded (Now q) = Small q
-SmallAdded Clash = Unit {0}
-SmallAdded Unknown = Unit {0}
+unfoldable pub SmallAdded : Result Quals Fault → Type 0
+SmallAdded (Ok q) = Small q
+SmallAdded (Err fault) = Unit {0}
 
 -- the answer r is what the definition says of the qualifiers q with one more
-pub record Adds (x : Option Qualifiers) (q : Quals) (r : Added) : Type 0 where
+pub record Adds (x : Option Qualifiers) (q : Quals) (r : Result Quals Fault) : Type 0 where
   pub is : (at : ℕ) (c : Cursor) → added_of r at c ≡ added at x c
   pub small : Small q → SmallAdded r
 
 -- the same of a qualifier of one byte, at the cursor
-pub record AddsAt (x : Cursor → Got Qualifiers) (q : Quals) (r : Added) : Type 0 where
+pub record AddsAt (x : Cursor → Got Qualifiers) (q : Quals) (r : Result Quals Fault) : Type 0 where
   pub is : (c : Cursor) → added_of r (place_at c) (after_byte c) ≡ x c
   pub small : Small q → SmallAdded r
 
 -- ---- one qualifier, and all of a string
 
 -- a qualifier that stands at `at` was added or not; `next` is the place after it
-unfoldable pub read_added : Added → ℕ → ℕ → Answer
-read_added (Now q) at next = Answer.Qualifiers q next
-read_added Clash at next = Answer.Refused 4 at
-read_added Unknown at next = Answer.Refused 3 at
+unfoldable pub read_added : Result Quals Fault → ℕ → ℕ → Result (Read Quals) Refusal
+read_added (Ok q) at next = read_as q next
+read_added (Err fault) at next = refusal fault at
 
 -- one qualifier was read at `at`
 abbrev pub QualifierAt : List ℕ → ℕ → Got Qualifiers → Quals → ℕ → Type 0
 QualifierAt s at x q next = (x ≡ got (qualifiers_of q) (cursor_at s next)) × (suc at ≤ next) × (next ≤ length s) × Small q
 
-abbrev pub QualifierRead : List ℕ → ℕ → Got Qualifiers → Answer → Type 0
-QualifierRead s at x = QualifiersOr (QualifierAt s at x) (Refuses x)
+abbrev pub QualifierRead : List ℕ → ℕ → Got Qualifiers → Result (Read Quals) Refusal → Type 0
+QualifierRead s at x = ReadOr (QualifierAt s at x) (Refuses x)
 
 -- the qualifier at the cursor, which is no delimiter
 abbrev pub qualifier_here : Bool → Quals → Cursor → Got Qualifiers
@@ -89,8 +88,8 @@ abbrev pub OpenAt : List ℕ → ℕ → Got Qualifiers → Quals → ℕ → Ty
 OpenAt s at x q next = (x ≡ got (qualifiers_of q) (cursor_at s next)) × Open s at q next
 
 -- all qualifiers of a string were read
-abbrev pub QualifiersRead : List ℕ → ℕ → Got Qualifiers → Answer → Type 0
-QualifiersRead s at x = QualifiersOr (OpenAt s at x) (Refuses x)
+abbrev pub QualifiersRead : List ℕ → ℕ → Got Qualifiers → Result (Read Quals) Refusal → Type 0
+QualifiersRead s at x = ReadOr (OpenAt s at x) (Refuses x)
 
 -- ---- strings
 
@@ -118,9 +117,9 @@ BytesAt s q start end next r a e n =
     × (n ≡ next)
 
 -- the bytes of a string were read, with its qualifiers
-abbrev pub BytesRead : List ℕ → Quals → ℕ → ℕ → ℕ → Answer → Type 0
+abbrev pub BytesRead : List ℕ → Quals → ℕ → ℕ → ℕ → Result (Read OneString) Refusal → Type 0
 BytesRead s q start end next =
-    StringOr (BytesAt s q start end next) (Refuses (bytes_then (qualifiers_of q) start (part start end s) (cursor_at s next)))
+    ReadOr (λ r n. BytesAt s q start end next r.quals r.part.start r.part.end n) (Refuses (bytes_then (qualifiers_of q) start (part start end s) (cursor_at s next)))
 
 -- Where the string lies: after `at`, and after the columns if there are any. Where a digit follows, its delimiter was read: else the line ends there.
 pub record StringAt (s : List ℕ) (at : ℕ) (q : Quals) (start end next : ℕ) : Type 0 where
@@ -145,8 +144,11 @@ abbrev pub QuotedAt : List ℕ → ℕ → Got Qualifiers → Got Qualified → 
 QuotedAt s at y x q start end next =
     (x ≡ got (qualified (qualifiers_of q) (part start end s)) (cursor_at s next)) × StringAt s at q start end next × Opened s y q start
 
-abbrev pub Quoted : List ℕ → ℕ → Got Qualifiers → Got Qualified → Answer → Type 0
-Quoted s at y x = StringOr (QuotedAt s at y x) (Refuses x)
+abbrev pub QuotedOf : List ℕ → ℕ → Got Qualifiers → Got Qualified → OneString → ℕ → Type 0
+QuotedOf s at y x r next = QuotedAt s at y x r.quals r.part.start r.part.end next
+
+abbrev pub Quoted : List ℕ → ℕ → Got Qualifiers → Got Qualified → Result (Read OneString) Refusal → Type 0
+Quoted s at y x = ReadOr (QuotedOf s at y x) (Refuses x)
 
 -- where the two strings lie
 pub record PairAt (s : List ℕ) (at : ℕ) (q : Quals) (start end second secondEnd next : ℕ) : Type 0 where
@@ -163,12 +165,18 @@ PairedAt s at y x z q start end second secondEnd next =
     × PairAt s at q start end second secondEnd next
     × QuotedAt s at y x q start end second
 
-abbrev pub Paired : List ℕ → ℕ → Got Qualifiers → Got Qualified → Got Pair → Answer → Type 0
-Paired s at y x z = StringsOr (PairedAt s at y x z) (Refuses z)
+abbrev pub PairedOf : List ℕ → ℕ → Got Qualifiers → Got Qualified → Got Pair → TwoStrings → ℕ → Type 0
+PairedOf s at y x z r next = PairedAt s at y x z r.first.quals r.first.part.start r.first.part.end r.second.start r.second.end next
+
+abbrev pub Paired : List ℕ → ℕ → Got Qualifiers → Got Qualified → Got Pair → Result (Read TwoStrings) Refusal → Type 0
+Paired s at y x z = ReadOr (PairedOf s at y x z) (Refuses z)
 
 -- a qualified string and a second string were read at `at`
-abbrev pub PairRead : List ℕ → ℕ → Answer → Type 0
-PairRead s at = Paired s at (start_qualifiers false (cursor_at s at)) (qualified_string false (cursor_at s at)) (two_strings (cursor_at s at))
+abbrev pub PairOf : List ℕ → ℕ → TwoStrings → ℕ → Type 0
+PairOf s at = PairedOf s at (start_qualifiers false (cursor_at s at)) (qualified_string false (cursor_at s at)) (two_strings (cursor_at s at))
+
+abbrev pub PairRead : List ℕ → ℕ → Result (Read TwoStrings) Refusal → Type 0
+PairRead s at = ReadOr (PairOf s at) (Refuses (two_strings (cursor_at s at)))
 
 -- Two unqualified strings, for which no qualifiers are answered: x is the reading of the first, which starts after its opening delimiter, and z that of
 -- both (document 02, wish 2; W2.1).
@@ -180,6 +188,8 @@ pub record PlainAt (s : List ℕ) (at : ℕ) (x : Got Line) (z : Got (Line × Li
   pub stand : PairAt s at q start end second secondEnd next
 
 -- they were read at `at`
-abbrev pub PlainRead : List ℕ → ℕ → Answer → Type 0
-PlainRead s at =
-    StringsOr (PlainAt s at (quoted (skip_spaces (cursor_at s at))) (two_plain_strings (cursor_at s at))) (Refuses (two_plain_strings (cursor_at s at)))
+abbrev pub PlainOf : List ℕ → ℕ → TwoStrings → ℕ → Type 0
+PlainOf s at r = PlainAt s at (quoted (skip_spaces (cursor_at s at))) (two_plain_strings (cursor_at s at)) r.first.quals r.first.part.start r.first.part.end r.second.start r.second.end
+
+abbrev pub PlainRead : List ℕ → ℕ → Result (Read TwoStrings) Refusal → Type 0
+PlainRead s at = ReadOr (PlainOf s at) (Refuses (two_plain_strings (cursor_at s at)))

@@ -13,22 +13,27 @@ ghost use Rattle.definitions.specs.Strings.{wants_bytes, read_string, start_qual
 ghost use Rattle.marks.specs.Sweeping.{Reads};
 ghost use Rattle.matching.specs.Quals.{qualifiers_of};
 ghost use Rattle.lexer.specs.Places.{cursor_at};
-ghost use Rattle.strings.specs.Answers.{Small, Finished, BytesRead, OpenAt, Quoted, Paired, PairRead, PlainRead};
+ghost use Rattle.strings.specs.Answers.{Small, Finished, BytesRead, OpenAt, Quoted, QuotedOf, PairedOf, PairRead, PlainRead};
 
-use answers::Answer;
+use answers::{Answer, Fault, Part, Read};
 use leads::leads_of;
 use lexer::spaces::skip_spaces;
 use lexer::strings::{past_delimiter, quoted, string_end};
 use matching::Quals;
-use patterns::Form;
 use qualifiers::read_qualifiers;
 
-// The qualifiers with one more; or that it cannot stand with them, or that there is none such.
+// A qualified string: its bytes are a part of the script.
 #[derive(Clone, Copy)]
-pub enum Added {
-    Now(Quals),
-    Clash,
-    Unknown,
+pub struct OneString {
+    pub quals: Quals,
+    pub part: Part,
+}
+
+// A qualified string and a second string: they share the middle delimiter.
+#[derive(Clone, Copy)]
+pub struct TwoStrings {
+    pub first: OneString,
+    pub second: Part,
 }
 
 fn wants_bytes(q: Quals) -> bool
@@ -56,31 +61,30 @@ fn with_leads(q: Quals, pattern: &[u8]) -> Quals
 }
 
 // The string's bytes: where R is given they are a pattern, else 34 at the one that cannot stand.
-fn read_bytes(s: &[u8], q: Quals, start: usize, end: usize, next: usize) -> Answer
-    requires { Small q × (start ≤ end) × (end ≤ length s.now) }
-    ensures { BytesRead s.now q start end next result }
+fn read_bytes(s: &[u8], q: Quals, part: Part, next: usize) -> Answer<OneString>
+    requires { Small q × (part.start ≤ part.end) × (part.end ≤ length s.now) }
+    ensures { BytesRead s.now q part.start part.end next result }
 {
     if q.pattern {
-        return match patterns::read(&s[start..end]) {
-            Form::Fault(k) => Answer::Refused(34, start + k),
-            Form::Pattern => Answer::OneString {
-                quals: with_leads(q, &s[start..end]),
-                start,
-                end,
-                next,
-            },
+        return match patterns::read(&s[part.start..part.end]) {
+            Err(fault) => Err(Fault::Pattern.at(part.start + fault.at)),
+            Ok(()) => {
+                let quals = with_leads(q, &s[part.start..part.end]);
+                Ok(Read {
+                    value: OneString { quals, part },
+                    next,
+                })
+            }
         };
     }
-    Answer::OneString {
-        quals: q,
-        start,
-        end,
+    Ok(Read {
+        value: OneString { quals: q, part },
         next,
-    }
+    })
 }
 
 // The string at its opening delimiter.
-fn read_string(s: &[u8], at: usize, q: Quals) -> Answer
+fn read_string(s: &[u8], at: usize, q: Quals) -> Answer<OneString>
     requires { (from : ℕ) × (y : Got Qualifiers) × OpenAt s.now from y q at }
     ensures { (from : ℕ) (y : Got Qualifiers) → OpenAt s.now from y q at → Quoted s.now from y (read_string (qualifiers_of q) (cursor_at s.now at)) result }
 {
@@ -89,80 +93,65 @@ fn read_string(s: &[u8], at: usize, q: Quals) -> Answer
     let end = string_end(s, start, d);
     if end == start {
         if wants_bytes(q) {
-            return Answer::Refused(4, at);
+            return Err(Fault::Qualifier.at(at));
         }
     }
-    read_bytes(s, q, start, end, past_delimiter(s, end, d))
+    read_bytes(s, q, Part { start, end }, past_delimiter(s, end, d))
 }
 
 // A qualified string at the place.
-pub fn qualified_string(s: &[u8], at: usize, in_search: bool) -> Answer
+pub fn qualified_string(s: &[u8], at: usize, in_search: bool) -> Answer<OneString>
     requires { at ≤ length s.now }
     ensures { Quoted s.now at (start_qualifiers in_search (cursor_at s.now at)) (qualified_string in_search (cursor_at s.now at)) result }
 {
-    let quals = read_qualifiers(s, at, in_search);
-    let Answer::Qualifiers(q, open) = quals else {
-        return quals;
-    };
-    read_string(s, open, q)
+    let quals = read_qualifiers(s, at, in_search)?;
+    read_string(s, quals.next, quals.value)
 }
 
 // The second string, after the first one; d is their delimiter.
-fn with_second(s: &[u8], first: Answer, d: u8) -> Answer
-    requires { (at : ℕ) × (y : Got Qualifiers) × (x : Got Qualified) × Quoted s.now at y x first }
-    ensures { (at : ℕ) (y : Got Qualifiers) (x : Got Qualified) → Quoted s.now at y x first → Paired s.now at y x (and_then x (λ q c. second_string d q c)) result }
+fn with_second(s: &[u8], first: Read<OneString>, d: u8) -> Read<TwoStrings>
+    requires { (at : ℕ) × (y : Got Qualifiers) × (x : Got Qualified) × QuotedOf s.now at y x first.value first.next }
+    ensures { (at : ℕ) (y : Got Qualifiers) (x : Got Qualified) → QuotedOf s.now at y x first.value first.next → PairedOf s.now at y x (and_then x (λ q c. second_string d q c)) result.value result.next }
 {
-    let Answer::OneString {
-        quals,
-        start,
-        end,
-        next,
-    } = first
-    else {
-        return first;
-    };
-    let second_end = string_end(s, next, d);
-    let past = past_delimiter(s, second_end, d);
-    Answer::TwoStrings {
-        quals,
-        start,
-        end,
-        second: next,
-        second_end,
-        next: past,
+    let start = first.next;
+    let end = string_end(s, start, d);
+    Read {
+        value: TwoStrings {
+            first: first.value,
+            second: Part { start, end },
+        },
+        next: past_delimiter(s, end, d),
     }
 }
 
 // A qualified string and a second string at the place.
-pub fn two_strings(s: &[u8], at: usize) -> Answer
+pub fn two_strings(s: &[u8], at: usize) -> Answer<TwoStrings>
     requires { at ≤ length s.now }
     ensures { PairRead s.now at result }
 {
-    let quals = read_qualifiers(s, at, false);
-    let Answer::Qualifiers(q, open) = quals else {
-        return quals;
-    };
-    with_second(s, read_string(s, open, q), s[open])
+    let quals = read_qualifiers(s, at, false)?;
+    let open = quals.next;
+    let first = read_string(s, open, quals.value)?;
+    Ok(with_second(s, first, s[open]))
 }
 
 // Two strings without qualifiers at the place; the first has a byte at least.
-pub fn two_plain_strings(s: &[u8], at: usize) -> Answer
+pub fn two_plain_strings(s: &[u8], at: usize) -> Answer<TwoStrings>
     requires { at ≤ length s.now }
     ensures { PlainRead s.now at result }
 {
     let open = skip_spaces(s, at);
-    let string = quoted(s, open);
-    let Answer::Two(start, end, next) = string else {
-        return string;
-    };
-    if start == end {
-        return Answer::Refused(4, open);
+    let string = quoted(s, open)?;
+    let part = string.value;
+    if part.start == part.end {
+        return Err(Fault::Qualifier.at(open));
     }
-    let first = Answer::OneString {
-        quals: matching::no_qualifiers(),
-        start,
-        end,
-        next,
+    let first = Read {
+        value: OneString {
+            quals: matching::no_qualifiers(),
+            part,
+        },
+        next: string.next,
     };
-    with_second(s, first, s[open])
+    Ok(with_second(s, first, s[open]))
 }

@@ -16,15 +16,16 @@ use Rattle.theorems.specs.ReadLines.{seen_all, read-eof, runs-read, lines-ended}
 use Rattle.theorems.specs.RecordLaws.{sources-reverse}
 use Rattle.editor.specs.Shows.{Shows, lent, Walks, to_source}
 use Rattle.editor.specs.declared.State.{State}
-use Rattle.editor.specs.declared.Moved.{Moved}
-use Rattle.editor.specs.declared.Moved.TheVariants.{On, Stop}
+use Rattle.std.specs.Prelude.{Result, Ok, Err}
+use Rattle.editor.specs.Stops.{Moved, numbered, stopping}
+use Rattle.editor.specs.declared.Stop.{Stop}
 use Rattle.editor.proofs.Reading.{reach_of, shown-reach, journal-is}
 use Rattle.editor.proofs.Parts.{lent_same}
 use Rattle.globals.specs.Standing.{Standing}
 use Rattle.reading.specs.Lines.{passed_of, HoldsUnread, AtUnread, ArrivedAt, Arrived, ReadsLines}
 use Rattle.reading.proofs.Line.{unread-journal, unread-room}
 use Rattle.reading.proofs.To.{ending, all_lines, lines-read, LinesWent, reached-on, read_count, first_holds}
-use Rattle.tail.specs.Rest.{measured, Measures, HoldsAll, RestLeft}
+use Rattle.tail.specs.Rest.{measured, Tells, Measures, HoldsAll, RestLeft}
 use Rattle.tail.proofs.Measuring.{EndsWith, lines-measured}
 
 -- ---- nothing is passed
@@ -34,11 +35,11 @@ pub holds-journal : {j : List ℕ} {st : State} (e : Ed) (t : Tape) → Shows j 
 unfolding before_of after_of
 holds-journal (ed b a p) t h = (b, a ++ map kept (rest_lines t), h.holds, journal-is b a p t)
 
-left-on : (k : List ℕ) (s : State) (was : List Record) (x : Ran (Unit {0})) (y : Ed) → x ≡ gave tt y → HoldsAll k s (records y) → RestLeft k (On s) was x
+left-on : (k : List ℕ) (s : State) (was : List Record) (x : Ran (Unit {0})) (y : Ed) → x ≡ gave tt y → HoldsAll k s (records y) → RestLeft k (Ok s) was x
 unfolding RestLeft
 left-on k s was x y q h = rw q h
 
-left-stop : (k : List ℕ) (s : State) (was : List Record) (x : Ran (Unit {0})) (m : ℕ) (n : StopNumber) (y : Ed) → x ≡ stopped n y → m ≡ stop_number n → HoldsAll k s was → RestLeft k (Stop m s) was x
+left-stop : (k : List ℕ) (s : State) (was : List Record) (x : Ran (Unit {0})) (m : Stop) (n : StopNumber) (y : Ed) → x ≡ stopped n y → numbered m ≡ stop_number n → HoldsAll k s was → RestLeft k (stopping m s) was x
 unfolding RestLeft
 left-stop k s was x m n y q same h = rw q (same, h)
 
@@ -47,14 +48,14 @@ unfolding seen_all records
 seen-journal (ed b a p) t = journal-is b a p t
 
 -- no global stands
-pub none_passed : {j : List ℕ} {st : State} (g : Given) (e : Ed) (c : Carried) (t : Tape) → NoGlobal c → Shows j st e t → RestLeft j (On st) (journal e t) (read_to g c eof e t).0
+pub none_passed : {j : List ℕ} {st : State} (g : Given) (e : Ed) (c : Carried) (t : Tape) → NoGlobal c → Shows j st e t → RestLeft j (Ok st) (journal e t) (read_to g c eof e t).0
 none_passed {j} {st} g e c t none h =
     let all : read_to g c eof e t ≡ (gave tt (seen_all (rest_lines t) e), ended) =
     ap (λ (r : Reads (Ran (Unit {0}))). r t) (none_reads g c none eof e) ∙ sym (runs-read g no_globals eof e t) ∙ read-eof g e t in
     left-on j st (journal e t) (read_to g c eof e t).0 (seen_all (rest_lines t) e) (ap (λ (x : Ran (Unit {0}) × Tape). x.0) all) (rw (seen-journal e t) (holds-journal e t h))
 
 -- EOF is read
-pub eof-passed : {j : List ℕ} {st : State} (g : Given) (e : Ed) (c : Carried) (t : Tape) → Shows j st e t → st.lines < st.furthest → RestLeft j (On st) (journal e t) (read_to g c eof e t).0
+pub eof-passed : {j : List ℕ} {st : State} (g : Given) (e : Ed) (c : Carried) (t : Tape) → Shows j st e t → st.lines < st.furthest → RestLeft j (Ok st) (journal e t) (read_to g c eof e t).0
 unfolding read_to rest_lines reach_of
 eof-passed g e c (unread ls) h far = absurd (omega (arith, far, shown-reach e (unread ls) h))
 eof-passed {j} {st} g e c ended h far =
@@ -133,25 +134,25 @@ module _ {j k : List ℕ} {st s : State} (b a : List Record) (p : ℕ) (ls : Lis
     rest-ends m q = rw q (lines-measured (length j) c ls (ed b a p) (s.back - s.front) (unread-room (ed b a p) ls held ∙ same))
 
     -- they stop
-    stops_so : (m : ℕ) → m ≡ measured c (s.back - s.front) ls → (m ≡ 0 → ⊥) → RestLeft k (Stop m s) (journal (ed b a p) (unread ls)) (read_to (lent j) c eof (ed b a p) (unread ls)).0
+    stops_so : (m : Stop) → numbered m ≡ measured c (s.back - s.front) ls → (numbered m ≡ 0 → ⊥) → RestLeft k (stopping m s) (journal (ed b a p) (unread ls)) (read_to (lent j) c eof (ed b a p) (unread ls)).0
     stops_so m q some =
-        let w : (n : StopNumber) × (y : Ed) × ((read_lines (lent j) c (length ls) (ed b a p) (unread ls)).0 ≡ stopped n y) × (m ≡ stop_number n) =
-        ends-stop m (read_lines (lent j) c (length ls) (ed b a p) (unread ls)).0 (rest-ends m q) some in
+        let w : (n : StopNumber) × (y : Ed) × ((read_lines (lent j) c (length ls) (ed b a p) (unread ls)).0 ≡ stopped n y) × (numbered m ≡ stop_number n) =
+        ends-stop (numbered m) (read_lines (lent j) c (length ls) (ed b a p) (unread ls)).0 (rest-ends (numbered m) q) some in
         left-stop k s (journal (ed b a p) (unread ls)) (read_to (lent j) c eof (ed b a p) (unread ls)).0 m w.0 w.1 (rest_read (lent j) c (ed b a p) ls ∙ w.2) w.3
         (unread-held (ed b a p) ls held)
 
     -- they do not, and are read
     passes-so : 0 ≡ measured c (s.back - s.front) ls → (i : List ℕ) (r : Moved) → Arrived i r (read_lines (lent j) c (length ls) (ed b a p) (unread ls))
         → RestLeft i r (journal (ed b a p) (unread ls)) (read_to (lent j) c eof (ed b a p) (unread ls)).0
-    passes-so q i (On u) reached =
+    passes-so q i (Ok u) reached =
         let x : Ran (Unit {0}) × Tape = read_lines (lent j) c (length ls) (ed b a p) (unread ls) in
         let o : LinesWent i u (ed b a p) (length ls) ls x = reached-on (ed b a p) (length ls) ls x (lines-read (lent j) c (length ls) (ed b a p) ls (omega arith)) reached in
         let none : o.rest ≡ [] = no-rest (length ls) o.rest o.all in
         left-on i u (journal (ed b a p) (unread ls)) (read_to (lent j) c eof (ed b a p) (unread ls)).0 _
         (rest_read (lent j) c (ed b a p) ls ∙ ap (λ (y : Ran (Unit {0}) × Tape). y.0) o.is) (all_held _ (rw none at o.holds))
-    passes-so q i (Stop m u) reached = absurd (never ((read_lines (lent j) c (length ls) (ed b a p) (unread ls))) (rest-ends 0 q) reached)
+    passes-so q i (Err u) reached = absurd (never ((read_lines (lent j) c (length ls) (ed b a p) (unread ls))) (rest-ends 0 q) reached)
       where
-        never : (x : Ran (Unit {0}) × Tape) → EndsWith 0 x.0 → Arrived i (Stop m u) x → ⊥
+        never : (x : Ran (Unit {0}) × Tape) → EndsWith 0 x.0 → Arrived i (Err u) x → ⊥
         never (gave v y, t) e n = unfold ArrivedAt in n
         never (stopped n y, t) e w = number-some n (unfold EndsWith in e)
 
@@ -166,15 +167,24 @@ module _ {j k : List ℕ} {st s : State} (walks : Walks (to_source st.furthest) 
   rest-asks (ed b a p) (unread ls) h = ((passed_of (ed b a p), ls, held b a p ls h walks), omega (arith, walks.1.lines))
   rest-asks e ended h = absurd (none-ended e h)
 
-  module _ (same : length k ≡ length j) (script w : List ℕ) (m : ℕ) (measures : Measures script w k s m) where
-    pub rest-stops : (m ≡ 0 → ⊥) → (e : Ed) (c : Carried) (t : Tape) → Standing script w c → Shows j st e t
-        → RestLeft k (Stop m s) (journal e t) (read_to (lent j) c eof e t).0
-    rest-stops some (ed b a p) c (unread ls) stands h = stops_so b a p ls h walks same c m (measures (passed_of (ed b a p)) ls c stands (held b a p ls h walks)) some
-    rest-stops some e c ended stands h = absurd (none-ended e h)
+  module _ (same : length k ≡ length j) (script w : List ℕ) (m : Result (Unit {0}) Stop) (measures : Measures script w k s m) where
+    -- what is measured of the text that is shown
+    tells : (r : Result (Unit {0}) Stop) → m ≡ r → (b a : List Record) (p : ℕ) (ls : List Line) (c : Carried) → Standing script w c → Shows j st (ed b a p) (unread ls)
+        → Tells r (measured c (s.back - s.front) ls)
+    tells r is b a p ls c stands h = rw is at (measures (passed_of (ed b a p)) ls c stands (held b a p ls h walks))
 
-    pub rest-passes : m ≡ 0 → (i : List ℕ) (r : Moved) → ReadsLines script w k s st.lines i r
+    pub rest-stops : (i : Stop) → m ≡ Err i → (e : Ed) (c : Carried) (t : Tape) → Standing script w c → Shows j st e t
+        → RestLeft k (stopping i s) (journal e t) (read_to (lent j) c eof e t).0
+    unfolding Tells
+    rest-stops i is (ed b a p) c (unread ls) stands h =
+        let y = tells (Err i) is b a p ls c stands h in
+        stops_so b a p ls h walks same c i y.0 y.1
+    rest-stops i is e c ended stands h = absurd (none-ended e h)
+
+    pub rest-passes : (u : Unit {0}) → m ≡ Ok u → (i : List ℕ) (r : Moved) → ReadsLines script w k s st.lines i r
         → (e : Ed) (c : Carried) (t : Tape) → Standing script w c → Shows j st e t → RestLeft i r (journal e t) (read_to (lent j) c eof e t).0
-    rest-passes none i r reads (ed b a p) c (unread ls) stands h =
-        passes-so b a p ls h walks same c (sym none ∙ measures (passed_of (ed b a p)) ls c stands (held b a p ls h walks)) i r
+    unfolding Tells
+    rest-passes u is i r reads (ed b a p) c (unread ls) stands h =
+        passes-so b a p ls h walks same c (tells (Ok u) is b a p ls c stands h) i r
         (rw (← left-count b a p ls h walks, ← lent_same j k same) (reads (ed b a p) c ls stands (held b a p ls h walks)))
-    rest-passes none i r reads e c ended stands h = absurd (none-ended e h)
+    rest-passes u is i r reads e c ended stands h = absurd (none-ended e h)

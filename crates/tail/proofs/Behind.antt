@@ -1,4 +1,5 @@
 -- The lines behind the gap, measured one after the other. Assumes nothing.
+use Rattle.std.specs.Prelude.{Ok}
 use mathlib.Core.Path.{◌≡◌, refl, sym, ap, ◌∙◌}
 use mathlib.Core.Bool.{Bool, true, false, cond}
 use Prim.Native.Nat.{ℕ, ◌+◌, ◌-◌, ◌≤◌, ◌<◌}
@@ -8,6 +9,7 @@ use lib.ListN.{length, take, drop, length-append, length-drop}
 use lib.Seq.{take_at, drop_at, drop-drop, length-take-le}
 use lib.Dec.{ltb}
 use borrow.Author.Tests.{lt-ltb, le-ltb}
+use Rattle.globals.specs.Passing.{Passed, too-long}
 use Rattle.definitions.specs.Bytes.{Line, eq_line, is_line}
 use Rattle.definitions.specs.Journal.{kept}
 use Rattle.definitions.specs.Given.{Carried}
@@ -17,14 +19,13 @@ use Rattle.text.specs.Feeds.{line_length}
 use Rattle.editor.specs.Records.{enc, enc_all, Goods}
 use Rattle.editor.proofs.Sizes.{whole-inside, line-whole}
 use Rattle.globals.specs.Standing.{Standing}
-use Rattle.globals.specs.declared.Passed.{Passed}
-use Rattle.globals.specs.declared.Passed.TheVariants.{Text, Long as TooLong}
 use Rattle.reading.specs.Carrying.{SomeStand}
 use Rattle.reading.specs.Lines.{KeptAt, PassesText}
 use Rattle.reading.proofs.Line.{left-long, left-text}
-use Rattle.tail.specs.Rest.{extra, Grows, GrowsAt, measured_by, measured}
-use Rattle.tail.specs.declared.Growth.{Growth}
-use Rattle.tail.specs.declared.Growth.TheVariants.{Bytes, Long}
+use Rattle.tail.specs.Rest.{extra, Grows, GrowsAt, Tells, measured_by, measured}
+use Rattle.std.specs.Prelude.{Result, Ok, Err}
+use Rattle.editor.specs.declared.Stop.{Stop}
+use Rattle.editor.specs.declared.Stop.TheVariants.{LineLong, JournalFull}
 
 -- ---- one line
 
@@ -49,11 +50,11 @@ unfolding extra
 extra-by m l new same n e long is = rw (e, long) is
 
 module _ (s w j : List ℕ) (at : ℕ) (x : Passed) (line : List ℕ) (passes : PassesText s w j at x line) where
-  pub grows-long : x ≡ TooLong → GrowsAt s w j at Long
+  pub grows-long : x ≡ too-long → GrowsAt s w j at (Err LineLong)
   unfolding Grows
-  grows-long q l z c good is stands = rw (left-long line (left_by c l) (rw q at (passes l z c good is stands))) refl
+  grows-long q l z c good is stands = rw (left-long line (left_by c l) (rw q at (passes l z c good is stands))) (refl, refl)
 
-  module _ (m : ℕ) (q : x ≡ Text m) where
+  module _ (m : ℕ) (q : x ≡ Ok m) where
     left_is : (l : Line) (z : List ℕ) (c : Carried) → is_line l ≡ true → drop at j ≡ enc (kept l) ++ z → Standing s w c → (m ≤ 255) × (left_by c l ≡ got (take m line))
     left_is l z c good is stands = left-text m line (left_by c l) (rw q at (passes l z c good is stands))
 
@@ -61,7 +62,7 @@ module _ (s w j : List ℕ) (at : ℕ) (x : Passed) (line : List ℕ) (passes : 
     grows-small w k = (left_is k.0 k.1 w.0 k.2 k.3 w.1).0
 
     pub grows-bytes : m ≤ length line → (end : ℕ) → end ≡ at + line_length (drop at j) - 1 → (same : Bool) → eq_line (take (end - (at + 2)) (drop (at + 2) j)) (take m line) ≡ same
-        → (n : ℕ) → n ≡ cond same 0 (m + 1) → GrowsAt s w j at (Bytes n)
+        → (n : ℕ) → n ≡ cond same 0 (m + 1) → GrowsAt s w j at (Ok n)
     unfolding Grows
     grows-bytes fits end ends same e n by l z c good is stands =
         rw (left_is l z c good is stands).1 (extra-by m l (take m line) same n (rw (kept-text j at l z is good end ends) at e) (length-take-le m line fits) by)
@@ -86,10 +87,10 @@ false-true : false ≡ true → ⊥
 false-true q = let z : ◌≡◌ {A = ℕ} 0 1 = cc in omega arith
 
 -- the number of the first line decides, or that of the others does
-by-long : (c : Carried) (room : ℕ) (l : Line) (ls : List Line) (x : Got Line) → Grows l Long x → 25 ≡ measured_by (λ left. measured c left ls) room l x
-unfolding Grows measured_by stop_number
-by-long c room l ls (got new) h = absurd h
-by-long c room l ls (stop n) h = rw h
+by-long : (c : Carried) (room : ℕ) (l : Line) (ls : List Line) (i : Stop) (x : Got Line) → Grows l (Err i) x → Tells (Err i) (measured_by (λ left. measured c left ls) room l x)
+unfolding Grows Tells measured_by stop_number
+by-long c room l ls i (got new) h = absurd h
+by-long c room l ls i (stop n) h = rw (h.0, h.1) (refl, λ q. omega (arith, q))
 
 full-as : (c : Carried) (room n : ℕ) (ls : List Line) → room < n → ◌≡◌ {A = ℕ} 26 (elim (ltb room n) [ true ↦ 26 | false ↦ measured c (room - n) ls ])
 full-as c room n ls full = by (ltb room n) (lt-ltb room n full)
@@ -105,19 +106,20 @@ on-as c room n ls fits = by (ltb room n) (le-ltb room n fits)
     by true q = absurd (false-true (sym q))
     by false q = refl
 
-by-full : (c : Carried) (room n : ℕ) (l : Line) (ls : List Line) (x : Got Line) → Grows l (Bytes n) x → room < n → 26 ≡ measured_by (λ left. measured c left ls) room l x
+by-full : (c : Carried) (room n : ℕ) (l : Line) (ls : List Line) (x : Got Line) → Grows l (Ok n) x → room < n → 26 ≡ measured_by (λ left. measured c left ls) room l x
 unfolding Grows measured_by
 by-full c room n l ls (got new) h full = full-as c room (extra l new) ls (omega (arith, h, full))
 by-full c room n l ls (stop k) h full = absurd h
 
-by-on : (c : Carried) (room n : ℕ) (l : Line) (ls : List Line) (x : Got Line) → Grows l (Bytes n) x → n ≤ room
+by-on : (c : Carried) (room n : ℕ) (l : Line) (ls : List Line) (x : Got Line) → Grows l (Ok n) x → n ≤ room
     → measured_by (λ left. measured c left ls) room l x ≡ measured c (room - n) ls
 unfolding Grows measured_by
 by-on c room n l ls (got new) h fits = on-as c room (extra l new) ls (omega (arith, h, fits)) ∙ ap (λ (i : ℕ). measured c (room - i) ls) (sym h)
 by-on c room n l ls (stop k) h fits = absurd h
 
 module _ {j : List ℕ} {at : ℕ} {c : Carried} {room whole : ℕ} (h : Behind j at c room whole) where
-  pub behind-end : length j ≤ at → 0 ≡ whole
+  pub behind-end : length j ≤ at → Tells (Ok tt) whole
+  unfolding Tells
   behind-end end = by h.rest h.bytes h.same
     where
       by : (ls : List Line) → drop at j ≡ enc_all (map kept ls) → measured c room ls ≡ whole → 0 ≡ whole
@@ -145,19 +147,20 @@ module _ {j : List ℕ} {at : ℕ} {c : Carried} {room whole : ℕ} (h : Behind 
     pub behind-kept : KeptAt j at
     behind-kept = let f = first in (f.0, enc_all (map kept f.1), f.2, f.4)
 
-    module _ (s w : List ℕ) (stands : Standing s w c) (r : Growth) (grows : GrowsAt s w j at r) where
+    module _ (s w : List ℕ) (stands : Standing s w c) (r : Result ℕ Stop) (grows : GrowsAt s w j at r) where
       grown-by : Grows first.0 r (left_by c first.0)
       grown-by = grows first.0 (enc_all (map kept first.1)) c first.2 first.4 stands
 
-      pub behind-long : r ≡ Long → 25 ≡ whole
-      behind-long q = by-long c room first.0 first.1 (left_by c first.0) (rw q at grown-by) ∙ first.5
+      pub behind-long : (i : Stop) → r ≡ Err i → Tells (Err i) whole
+      behind-long i q = rw (← first.5) (by-long c room first.0 first.1 i (left_by c first.0) (rw q at grown-by))
 
-      module _ (n : ℕ) (q : r ≡ Bytes n) where
-        grown-bytes : Grows first.0 (Bytes n) (left_by c first.0)
+      module _ (n : ℕ) (q : r ≡ Ok n) where
+        grown-bytes : Grows first.0 (Ok n) (left_by c first.0)
         grown-bytes = rw q at grown-by
 
-        pub behind-full : room < n → 26 ≡ whole
-        behind-full full = by-full c room n first.0 first.1 (left_by c first.0) grown-bytes full ∙ first.5
+        pub behind-full : room < n → Tells (Err JournalFull) whole
+        unfolding Tells
+        behind-full full = (by-full c room n first.0 first.1 (left_by c first.0) grown-bytes full ∙ first.5, λ q. omega (arith, q))
 
         pub behind-on : (to : ℕ) → to ≡ at + line_length (drop at j) → n ≤ room → Behind j to c (room - n) whole
         behind-on to is fits = record {

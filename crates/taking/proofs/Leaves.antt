@@ -1,4 +1,5 @@
 -- The tests and choices at one place of the line, a law for each way out of the code. Assumes nothing.
+use Rattle.std.specs.Prelude.{Some, None}
 use mathlib.Core.Path.{◌≡◌, refl}
 use mathlib.Core.Bool.{Bool, true, false, cond, not}
 use Prim.Native.Nat.{ℕ, ◌-◌, ◌≤◌, ◌<◌}
@@ -8,9 +9,8 @@ use borrow.Author.Tests.{lt-ltb, le-ltb, eq-eqb, ne_eqb}
 use Rattle.definitions.specs.Bytes.{Line}
 use Rattle.definitions.specs.Matching.{byte_before}
 use Rattle.marks.specs.Sweeping.{never}
-use Rattle.taking.specs.Ways.{found_of, ending_at, best_of, best_with, is_at, is_free, enter_at, ends_at}
+use Rattle.taking.specs.Ways.{found-at, found_of, ending_at, best_of, best_with, is_at, is_free, enter_at, ends_at}
 use Rattle.taking.specs.declared.Way.{Way}
-use Rattle.taking.specs.declared.Found.{Found}
 use Rattle.taking.specs.declared.Best.{Best}
 
 -- ---- one place is the other, or that is not asked for
@@ -85,11 +85,11 @@ module _ (last : Bool) (best : Best) (start i : ℕ) where
 -- ---- the answer
 
 module _ (best : Best) where
-  pub answers-none : best.start ≡ 65535 → found_of Found.Nothing ≡ best_of best
+  pub answers-none : best.start ≡ 65535 → found_of None ≡ best_of best
   unfolding found_of best_of ending_at never
   answers-none e = rw e
 
-  pub answers_at : best.start < 65535 → found_of (Found.At best.start (best.end - best.start)) ≡ best_of best
+  pub answers_at : best.start < 65535 → found_of (Some (found-at best.start (best.end - best.start))) ≡ best_of best
   unfolding found_of best_of ending_at never
   answers_at begun = rw (lt-ltb best.start 65535 begun)
 

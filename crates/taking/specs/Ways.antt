@@ -1,5 +1,6 @@
 -- What the values of the code stand for, in the terms of the definitions. Assumes nothing.
-use Rattle.std.specs.Prelude.{Bool, true, false, cond, not, ℕ, ◌-◌, get_or, eqb, ltb}
+use Rattle.std.specs.Prelude as Prelude
+use Rattle.std.specs.Prelude.{Some, None, Bool, true, false, cond, not, ℕ, ◌-◌, get_or, eqb, ltb}
 use Rattle.std.proofs.Math.Option.{Option, none, some}
 use Rattle.definitions.specs.Bytes.{Line}
 use Rattle.definitions.specs.Matching.{Anchor, anywhere, at_start, at_end, precisely, byte_before, Match, matched}
@@ -7,7 +8,6 @@ use Rattle.theorems.specs.TakenByPlaces.{better_of, later_of}
 use Rattle.marks.specs.Sweeping.{never}
 use Rattle.taking.specs.declared.Way.{Way}
 use Rattle.taking.specs.declared.Found.{Found}
-use Rattle.taking.specs.declared.Found.TheVariants.{At, Nothing}
 use Rattle.taking.specs.declared.Best.{Best}
 
 -- B is from T's start, E up to its end, P both
@@ -20,9 +20,12 @@ anchor_by true true = precisely
 abbrev pub anchor_of : Way → Anchor
 anchor_of way = anchor_by way.left way.right
 
-unfoldable pub found_of : Found → Option Match
-found_of (At i n) = some (matched i n)
-found_of Nothing = none
+abbrev pub found-at : ℕ → ℕ → Found
+found-at i n = record { at = i; width = n }
+
+unfoldable pub found_of : Prelude.Option Found → Option Match
+found_of (Some f) = some (matched f.at f.width)
+found_of None = none
 
 -- a match from a place, `never` for none, up to place i
 unfoldable pub ending_at : ℕ → ℕ → Option Match

@@ -12,7 +12,8 @@ ghost use Rattle.taking.specs.Walking.{AtPlace};
 
 use leads::{Leads, leads_with, next_lead};
 use marks::idle::is_idle;
-use marks::sweep;
+use marks::{NEVER, sweep};
+use wordset::WordSet;
 use wordset::beside::{is_free_at, is_free_before};
 
 // What is asked for: B or P (from the left end of the text), E or P (up to its right end), L, W.
@@ -25,41 +26,40 @@ pub struct Way {
 }
 
 // The part that is taken: its place in the line, and its width.
-#[derive(Clone, Copy)]
-pub enum Found {
-    At(usize, usize),
-    Nothing,
+#[derive(Clone, Copy, Debug, PartialEq, Eq)]
+pub struct Found {
+    pub at: usize,
+    pub width: usize,
 }
 
-// The best match so far: where it begins, 65535 for none, and where it ends.
+// The best match so far: where it begins, NEVER for none, as in the marks, and where it ends.
 #[derive(Clone, Copy)]
 struct Best {
     start: u16,
     end: usize,
 }
 
-// The place i, where a match may begin there; else 65535.
-fn entering(set: &[u32], line: &[u8], start: usize, i: usize, way: Way) -> u16
-    requires { (3 ≤ length set.now) × (i ≤ length line.now) × (length line.now ≤ 255) }
+// The place i, where a match may begin there; else NEVER.
+fn entering(set: &WordSet, line: &[u8], start: usize, i: usize, way: Way) -> u16
+    requires { (i ≤ length line.now) × (length line.now ≤ 255) }
     ensures { result ≡ enter_at (in_set set.now 0) way line.now start i }
 {
     if way.left {
         if i != start {
-            return 65535;
+            return NEVER;
         }
     }
     if way.word {
         if is_free_before(set, line, i) {
             return i as u16;
         }
-        return 65535;
+        return NEVER;
     }
     i as u16
 }
 
 // May a match end at i.
-fn may_end(set: &[u32], line: &[u8], end: usize, i: usize, way: Way) -> bool
-    requires { 3 ≤ length set.now }
+fn may_end(set: &WordSet, line: &[u8], end: usize, i: usize, way: Way) -> bool
     ensures { result ≡ ends_at (in_set set.now 0) way line.now end i }
 {
     if way.right {
@@ -73,11 +73,11 @@ fn may_end(set: &[u32], line: &[u8], end: usize, i: usize, way: Way) -> bool
     true
 }
 
-// The better one of the best so far and a match from `start` to i, 65535 for none.
+// The better one of the best so far and a match from `start` to i, NEVER for none.
 fn better(best: Best, start: u16, i: usize, last: bool) -> Best
     ensures { result ≡ best_with last best start i }
 {
-    if start == 65535 {
+    if start == NEVER {
         return best;
     }
     if last {
@@ -90,15 +90,18 @@ fn better(best: Best, start: u16, i: usize, last: bool) -> Best
 }
 
 // The best match as an answer.
-fn answer(best: Best) -> Found
+fn answer(best: Best) -> Option<Found>
     requires { best.start < never → best.start ≤ best.end }
     ensures { found_of result ≡ best_of best }
 {
-    if best.start == 65535 {
-        return Found::Nothing;
+    if best.start == NEVER {
+        return None;
     }
-    let start = best.start as usize;
-    Found::At(start, best.end - start)
+    let at = best.start as usize;
+    Some(Found {
+        at,
+        width: best.end - at,
+    })
 }
 
 // A match is found, and no later one can be better where none is begun.
@@ -108,12 +111,12 @@ fn is_settled(best: Best, last: bool) -> bool
     if last {
         return false;
     }
-    best.start < 65535
+    best.start < NEVER
 }
 
 // The walk at place i, b being the byte there: the marks move, and a match that ends here may be better.
 fn at_place(
-    set: &[u32],
+    set: &WordSet,
     line: &[u8],
     start: usize,
     end: usize,
@@ -124,7 +127,7 @@ fn at_place(
     best: Best,
     marks: &mut [u16],
 ) -> Best
-    requires { (3 ≤ length set.now) × (i ≤ length line.now) × (length line.now ≤ 255) × ((p : Pattern) × Reads pattern.now p × (slots p ≤ length marks.old)) }
+    requires { (i ≤ length line.now) × (length line.now ≤ 255) × ((p : Pattern) × Reads pattern.now p × (slots p ≤ length marks.old)) }
     ensures { (p : Pattern) → Reads pattern.now p → AtPlace (in_set set.now 0) way line.now start end i b p best marks.old marks.new result }
 {
     let enter = entering(set, line, start, i, way);
@@ -137,7 +140,7 @@ fn at_place(
 
 // The walk over the line from `start` to `end`, from no marks on. While no match is begun, the bytes that none can begin with are passed at once.
 fn walk_line(
-    set: &[u32],
+    set: &WordSet,
     leads: Leads,
     line: &[u8],
     start: usize,
@@ -145,12 +148,12 @@ fn walk_line(
     pattern: &[u8],
     way: Way,
     marks: &mut [u16],
-) -> Found
-    requires { (3 ≤ length set.now) × (start ≤ end) × (end ≤ length line.now) × (length line.now ≤ 255) × (length pattern.now ≤ 255) × (marks.old ≡ no_marks 256) × ((p : Pattern) × Reads pattern.now p × (leads ≡ leads_of p)) }
+) -> Option<Found>
+    requires { (start ≤ end) × (end ≤ length line.now) × (length line.now ≤ 255) × (length pattern.now ≤ 255) × (marks.old ≡ no_marks 256) × ((p : Pattern) × Reads pattern.now p × (leads ≡ leads_of p)) }
     ensures { (p : Pattern) → Reads pattern.now p → found_of result ≡ taken (anchor_of way) way.last (stands_in (in_set set.now 0) way.word p line.now) (text start end) }
 {
     let mut best = Best {
-        start: 65535,
+        start: NEVER,
         end: 0,
     };
     let mut idle = true;
@@ -178,17 +181,17 @@ fn walk_line(
 // The part of the line from `start` to `end` that the pattern takes, where the bytes of the set count for W. The leads are the bytes that a match can
 // begin with.
 pub fn find(
-    set: &[u32],
+    set: &WordSet,
     leads: Leads,
     line: &[u8],
     start: usize,
     end: usize,
     pattern: &[u8],
     way: Way,
-) -> Found
-    requires { (3 ≤ length set.now) × (start ≤ end) × (end ≤ length line.now) × (length line.now ≤ 255) × (length pattern.now ≤ 255) × ((p : Pattern) × Reads pattern.now p × (leads ≡ leads_of p)) }
+) -> Option<Found>
+    requires { (start ≤ end) × (end ≤ length line.now) × (length line.now ≤ 255) × (length pattern.now ≤ 255) × ((p : Pattern) × Reads pattern.now p × (leads ≡ leads_of p)) }
     ensures { (p : Pattern) → Reads pattern.now p → found_of result ≡ taken (anchor_of way) way.last (stands_in (in_set set.now 0) way.word p line.now) (text start end) }
 {
-    let mut marks = [65535u16; 256];
+    let mut marks = [NEVER; 256];
     walk_line(set, leads, line, start, end, pattern, way, &mut marks)
 }

@@ -1,12 +1,14 @@
 -- Laws of bytes written into a buffer, `laid d at out`. Assumes nothing.
-use Rattle.std.proofs.Common.{◌≡◌, ℕ, ◌+◌, ◌≤◌, List, [], ◌++◌, length, take, drop, sym, ap, ◌∙◌, append_assoc, add-zero, zero-add, arith, length-append, length-drop, take-append-drop, length-take-le, drop-drop, take_at, drop_at}
-use lib.Seq.{paste, take-length}
+use Rattle.std.proofs.Common.{◌≡◌, ℕ, ◌+◌, ◌-◌, ◌≤◌, List, [], ◌++◌, length, take, drop, sym, ap, ◌∙◌, append_assoc, add-zero, zero-add, arith, length-append, length-drop, take-append-drop, length-take-le, drop-drop, take_at, drop_at}
 use Rattle.text.specs.Buffer.{laid}
+use Rattle.text.proofs.Parts.{put}
 
--- a whole copy
-pub laid-paste : (d : List ℕ) (at : ℕ) (s : List ℕ) → paste d at s (length s) ≡ laid d at s
+-- a part that is lent, and is `out` when it comes back
+pub laid-lent : (d : List ℕ) (at : ℕ) (out : List ℕ) → put at (at + length out) d out ≡ laid d at out
 unfolding laid
-laid-paste d at s = rw (take-length s) (append_assoc (take at d) s (drop (at + length s) d))
+laid-lent d at out =
+    let n : at + length out - at ≡ length out = omega arith in
+    rw (n, drop-drop (length out) at d)
 
 pub laid_none : (d : List ℕ) (at : ℕ) → laid d at [] ≡ d
 unfolding laid

@@ -1,11 +1,14 @@
 -- The laws of looking for a byte, and of walking bytes from line feed to line feed. Assumes nothing.
-use Rattle.std.proofs.Common.{◌≡◌, ℕ, zero, suc, ◌+◌, ◌-◌, ◌<◌, ◌≤◌, Bool, true, false, cond, ◌||◌, eqb, List, [], ◌∷◌, ◌++◌, length, get_or, take, drop, sym, refl, ap, ◌∙◌, true≢false, not-suc-le-zero, add-zero, add-one, sub-one, arith, length-drop, drop_of_length-le, get_or-drop, take_all, drop-cons, take-suc, drop-drop, eq-eqb, ne_eqb}
-use mathlib.Core.Bool.{or-true, or-false}
+use Rattle.std.proofs.Common.{◌≡◌, ℕ, zero, suc, ◌+◌, ◌-◌, ◌<◌, ◌≤◌, Bool, true, false, cond, ◌||◌, eqb, List, [], ◌∷◌, ◌++◌, length, get_or, take, drop, sym, refl, ap, ◌∙◌, ⊎_elim, true≢false, not-suc-le-zero, add-zero, add-one, sub-one, arith, length-drop, drop_of_length-le, get_or-drop, get_or-take, take_all, drop-cons, take-suc, drop-drop, eq-eqb, ne_eqb}
+use Rattle.std.proofs.Math.Bool.{or-false, or_assoc}
+use Rattle.std.proofs.Math.Nat.{eq-or-lt_of_le}
+use Rattle.std.specs.List.{fold}
 use Rattle.definitions.specs.Bytes.{is_text}
 use Rattle.text.specs.Words.{text_run}
 use Rattle.text.specs.Feeds.{place_of, has_feed, line_length, line_start}
 use Rattle.text.proofs.Texts.{run-within}
 use Rattle.text.proofs.Ends.{text-low}
+use Rattle.text.proofs.Parts.{drop-take}
 
 -- ---- whether there is one
 
@@ -18,22 +21,16 @@ feed-append (c ∷ a) b = go (eqb c 10) (feed-append a b)
     go true h = refl
     go false h = h
 
-pub feed-none : (s : List ℕ) (at : ℕ) → has_feed (take 0 (drop at s)) ≡ false
+pub feed-fold : (l : List ℕ) (t : Bool) → fold (λ found b. found || eqb b 10) t l ≡ (t || has_feed l)
 unfolding has_feed
-feed-none s at = refl
+feed-fold [] t = sym (or-false t)
+feed-fold (b ∷ l) t = feed-fold l (t || eqb b 10) ∙ or_assoc t (eqb b 10) (has_feed l)
 
 -- one byte more
-module _ (s : List ℕ) (at n : ℕ) (more : at + n < length s) where
-  feed-more : has_feed (take (n + 1) (drop at s)) ≡ (has_feed (take n (drop at s)) || eqb (get_or s (at + n) 0) 10)
-  feed-more =
-      let inside : n < length (drop at s) = simp length-drop (omega arith) in
-      rw (add-one n, take-suc (drop at s) n 0 inside, get_or-drop at s n 0) (feed-append (take n (drop at s)) (get_or s (at + n) 0))
-
-  pub feed-found : get_or s (at + n) 0 ≡ 10 → has_feed (take (n + 1) (drop at s)) ≡ true
-  feed-found e = feed-more ∙ rw (eq-eqb (get_or s (at + n) 0) 10 e) (or-true (has_feed (take n (drop at s))))
-
-  pub feed-missed : (get_or s (at + n) 0 ≡ 10 → ⊥) → has_feed (take (n + 1) (drop at s)) ≡ has_feed (take n (drop at s))
-  feed-missed e = feed-more ∙ rw (ne_eqb (get_or s (at + n) 0) 10 e) (or-false (has_feed (take n (drop at s))))
+feed-more : (s : List ℕ) (at n : ℕ) → at + n < length s → has_feed (take (n + 1) (drop at s)) ≡ (has_feed (take n (drop at s)) || eqb (get_or s (at + n) 0) 10)
+feed-more s at n more =
+    let inside : n < length (drop at s) = simp length-drop (omega arith) in
+    rw (add-one n, take-suc (drop at s) n 0 inside, get_or-drop at s n 0) (feed-append (take n (drop at s)) (get_or s (at + n) 0))
 
 -- ---- the place of a byte
 
@@ -120,9 +117,27 @@ unfolding line_start
 start-miss l zero h e = absurd (not-suc-le-zero h)
 start-miss l (suc k) h e = rw (ne_eqb (get_or l k 0) 10 (rw sub-one at e), sub-one)
 
-pub start-zero : (l : List ℕ) (i : ℕ) → i ≡ 0 → line_start l i ≡ 0
+-- no line feed stands before n
+pub start-none : (l : List ℕ) (n : ℕ) → ((k : ℕ) → k < n → get_or l k 0 ≡ 10 → ⊥) → line_start l n ≡ 0
 unfolding line_start
-start-zero l i z = rw z
+start-none l zero miss = refl
+start-none l (suc n) miss = rw (ne_eqb (get_or l n 0) 10 (miss n (omega arith))) (start-none l n (λ k h. miss k (omega arith)))
+
+-- the last one before n stands at i
+pub start-last : (l : List ℕ) (i n : ℕ) → i < n → get_or l i 0 ≡ 10 → ((k : ℕ) → i < k → k < n → get_or l k 0 ≡ 10 → ⊥) → line_start l n ≡ i + 1
+unfolding line_start
+start-last l i zero h hit miss = absurd (not-suc-le-zero h)
+start-last l i (suc n) h hit miss =
+    ⊎_elim
+    (λ (e : i ≡ n). start-hit l (suc n) (omega arith) (rw (sub-one, ← e) hit) ∙ omega arith)
+    (λ (m : i < n). rw (ne_eqb (get_or l n 0) 10 (miss n m (omega arith))) (start-last l i n m hit (λ k a b. miss k a (omega arith))))
+    (eq-or-lt_of_le {n = i} {m = n} (omega arith))
+
+-- what stands from n on does not count
+pub start-within : (l : List ℕ) (n i : ℕ) → i ≤ n → line_start (take n l) i ≡ line_start l i
+unfolding line_start
+start-within l n zero h = refl
+start-within l n (suc k) h = rw (get_or-take n l k 0 (omega arith), start-within l n k (omega arith))
 
 pub start_fits : (l : List ℕ) (i : ℕ) → line_start l i ≤ i
 unfolding line_start
@@ -145,3 +160,11 @@ start-over l i (suc n) h f =
     let e : i + suc n ≡ suc (i + n) = omega arith in
     let last = or-neither (has_feed (take n (drop i l))) (eqb (get_or l (i + n) 0) 10) (sym (feed-more l i n (omega arith)) ∙ rw (add-one n) f) in
     rw (e, last.1) (start-over l i n (omega arith) last.0)
+
+-- back over the last n of the first k bytes
+pub start-back : (l rest last : List ℕ) (k n : ℕ) → n ≤ k → k ≤ length l → rest ≡ take k l → last ≡ drop (k - n) rest → has_feed last ≡ false → line_start l k ≡ line_start l (k - n)
+start-back l rest last k n some fits is end none =
+    let back : k - n + n ≡ k = omega arith in
+    let long : k - (k - n) ≡ n = omega arith in
+    let same : last ≡ take n (drop (k - n) l) = end ∙ ap (drop (k - n)) is ∙ drop-take (k - n) k l ∙ ap (λ (m : ℕ). take m (drop (k - n) l)) long in
+    rw back at (start-over l (k - n) n (omega arith) (rw same at none))

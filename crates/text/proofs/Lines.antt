@@ -1,12 +1,11 @@
 -- Lines of byte lists: what a first line and its LF do to the lines, the last byte and the forms. `Plain l`: no LF stands in `l`. Assumes nothing.
-use Rattle.std.proofs.Common.{◌≡◌, ℕ, ◌+◌, Bool, true, false, ◌&&◌, eqb, leb, ◌⊎◌, List, [], ◌∷◌, ◌++◌, length, sym, refl, ap, ◌∙◌, inl, inr, append_assoc, append-nil, arith, length-append, eqb-true}
-use mathlib.Core.Option.{Option, none, some}
+use Rattle.std.proofs.Common.{◌≡◌, ℕ, ◌+◌, Bool, true, false, ◌&&◌, eqb, leb, ◌⊎◌, List, [], ◌∷◌, ◌++◌, length, sym, refl, ap, ◌∙◌, inl, inr, Option, Some, None, append_assoc, append-nil, arith, length-append, eqb-true}
 use Rattle.definitions.specs.Bytes.{Line, is_text, lines_of, before, last_byte, all_text, is_line, all_lines, are_lines, line_bytes, lines_bytes}
 use Rattle.theorems.specs.Lines.{text-not-lf, lines_other}
 use Rattle.text.specs.Lines.{up_to_lf, cut_at}
 
 abbrev pub Plain : List ℕ → Type 0
-Plain l = up_to_lf l ≡ none
+Plain l = up_to_lf l ≡ None
 
 pub and-true : (a b : Bool) → (a && b) ≡ true → (a ≡ true) × (b ≡ true)
 and-true true b h = (refl, h)
@@ -20,10 +19,10 @@ pub plain-tail : (b : ℕ) (l : List ℕ) → Plain (b ∷ l) → (eqb b 10 ≡ 
 unfolding up_to_lf
 plain-tail b l h = go (eqb b 10) (up_to_lf l) refl refl h
   where
-    go : (t : Bool) (o : Option Line) → eqb b 10 ≡ t → up_to_lf l ≡ o → cut_at t b o ≡ none → (eqb b 10 ≡ false) × (up_to_lf l ≡ none)
+    go : (t : Bool) (o : Option Line) → eqb b 10 ≡ t → up_to_lf l ≡ o → cut_at t b o ≡ None → (eqb b 10 ≡ false) × (up_to_lf l ≡ None)
     go true o e f g = absurd (let z : ◌≡◌ {A = ℕ} 0 1 = cc in omega arith)
-    go false none e f g = (e, f)
-    go false (some k) e f g = absurd (let z : ◌≡◌ {A = ℕ} 0 1 = cc in omega arith)
+    go false None e f g = (e, f)
+    go false (Some k) e f g = absurd (let z : ◌≡◌ {A = ℕ} 0 1 = cc in omega arith)
 
 -- ---- a first line and the bytes after its LF
 
@@ -34,7 +33,7 @@ first-line (b ∷ l) rest h =
     let t = plain-tail b l h in
     lines_other b (l ++ (10 ∷ rest)) t.0 ∙ ap (before b) (first-line l rest t.1)
 
-pub first-cut : (l rest : List ℕ) → Plain l → up_to_lf (l ++ (10 ∷ rest)) ≡ some l
+pub first-cut : (l rest : List ℕ) → Plain l → up_to_lf (l ++ (10 ∷ rest)) ≡ Some l
 unfolding up_to_lf
 first-cut [] rest h = refl
 first-cut (b ∷ l) rest h =
@@ -72,7 +71,7 @@ cut_of [] = inl refl
 cut_of (b ∷ bs) = go (eqb b 10) refl (cut_of bs)
   where
     go : (t : Bool) → eqb b 10 ≡ t → Plain bs ⊎ ((l : Line) × (rest : List ℕ) × (bs ≡ l ++ (10 ∷ rest)) × Plain l)
-        → (cut_at (eqb b 10) b (up_to_lf bs) ≡ none) ⊎ ((l : Line) × (rest : List ℕ) × (b ∷ bs ≡ l ++ (10 ∷ rest)) × Plain l)
+        → (cut_at (eqb b 10) b (up_to_lf bs) ≡ None) ⊎ ((l : Line) × (rest : List ℕ) × (b ∷ bs ≡ l ++ (10 ∷ rest)) × Plain l)
     go true e o = inr ([], bs, ap (λ (n : ℕ). n ∷ bs) (eqb-true b 10 e), refl)
     go false e (inl h) = inl (rw (e, h))
     go false e (inr (l, rest, f, h)) = inr (b ∷ l, rest, ap (λ (r : List ℕ). b ∷ r) f, rw (e, h))

@@ -1,11 +1,12 @@
 -- The laws of how many bytes are text, from the first on. Assumes nothing.
-use Rattle.std.proofs.Common.{◌≡◌, ℕ, zero, suc, ◌+◌, ◌-◌, ◌<◌, ◌≤◌, Bool, true, false, cond, List, [], ◌∷◌, ◌++◌, length, get_or, take, drop, refl, ap, ◌∙◌, add-zero, arith, length-drop, length-take-le, get_or-drop, drop-cons, get_or-take, drop-drop, take-add}
+use Rattle.std.proofs.Common.{◌≡◌, ℕ, zero, suc, ◌+◌, ◌-◌, ◌<◌, ◌≤◌, Bool, true, false, cond, List, [], ◌∷◌, ◌++◌, length, get_or, take, drop, sym, refl, ap, ◌∙◌, ⊎_elim, true≢false, arith, length-drop, length-take-le, get_or-drop, get_or-take, take-append-drop}
+use Rattle.std.proofs.lemmas.Bool.{cases_order}
 use Rattle.definitions.specs.Bytes.{is_text}
 use Rattle.text.specs.Words.{text_run}
 
 -- ---- over lists
 
-run_fits : (l : List ℕ) → text_run l ≤ length l
+pub run_fits : (l : List ℕ) → text_run l ≤ length l
 unfolding text_run
 run_fits [] = omega arith
 run_fits (b ∷ l) = go (is_text b) (run_fits l)
@@ -36,6 +37,14 @@ run_end (b ∷ l) h = go (is_text b) refl (run_end l) h
     go true e rest h = let more = rw e at h in rw e (rest (omega arith))
     go false e rest h = rw e e
 
+-- i bytes are text, and none or another byte follows
+pub run-is : (l : List ℕ) (i : ℕ) → i ≤ length l → ((k : ℕ) → k < i → is_text (get_or l k 0) ≡ true) → (i < length l → is_text (get_or l i 0) ≡ false) → i ≡ text_run l
+run-is l i fits all other =
+    ⊎_elim (λ e. e)
+    (⊎_elim (λ (h : i < text_run l). absurd (true≢false (sym (run_inside l i h) ∙ other (omega (arith, run_fits l)))))
+    (λ (h : text_run l < i). absurd (true≢false (sym (all (text_run l) h) ∙ run_end l (omega arith)))))
+    (cases_order i (text_run l))
+
 run-stop : (a b : List ℕ) → text_run a < length a → text_run (a ++ b) ≡ text_run a
 unfolding text_run
 run-stop [] b h = absurd (omega arith)
@@ -56,40 +65,22 @@ run-over (c ∷ a) b h = go (is_text c) (run-over a b) h
     go true rest h = let more = rest (omega arith) in omega arith
     go false rest h = absurd (omega arith)
 
--- ---- from `i` up to `stop`, over the first n bytes
+-- ---- over the first n bytes
 
-module _ (s : List ℕ) (i stop n : ℕ) (fits : i + n ≤ stop) (inside : stop ≤ length s) where
-  cut : take (stop - i) (drop i s) ≡ take n (drop i s) ++ take (stop - (i + n)) (drop (i + n) s)
-  cut =
-      let two : stop - i ≡ n + (stop - (i + n)) = omega arith in
-      rw (two, take-add n (stop - (i + n)) (drop i s), drop-drop n i s)
+module _ (l : List ℕ) (n : ℕ) (fits : n ≤ length l) where
+  long : length (take n l) ≡ n
+  long = length-take-le n l fits
 
-  long : length (take n (drop i s)) ≡ n
-  long = length-take-le n (drop i s) (simp length-drop (omega arith))
+  parted : text_run l ≡ text_run (take n l ++ drop n l)
+  parted = ap text_run (sym (take-append-drop n l))
 
-  pub run-stops : text_run (take n (drop i s)) < n → text_run (take (stop - i) (drop i s)) ≡ text_run (take n (drop i s))
-  run-stops h = rw cut (run-stop (take n (drop i s)) (take (stop - (i + n)) (drop (i + n) s)) (rw long h))
+  pub run-stops : text_run (take n l) < n → text_run l ≡ text_run (take n l)
+  run-stops h = parted ∙ run-stop (take n l) (drop n l) (rw long h)
 
-  pub run-goes-on : n ≤ text_run (take n (drop i s)) → i + text_run (take (stop - i) (drop i s)) ≡ (i + n) + text_run (take (stop - (i + n)) (drop (i + n) s))
+  pub run-goes-on : n ≤ text_run (take n l) → text_run l ≡ n + text_run (drop n l)
   run-goes-on h =
-      let all : text_run (take n (drop i s)) ≡ length (take n (drop i s)) = omega (arith, long, run_fits (take n (drop i s))) in
-      rw cut (omega (arith, long, run-over (take n (drop i s)) (take (stop - (i + n)) (drop (i + n) s)) all))
-
--- over one byte
-module _ (s : List ℕ) (i stop : ℕ) (more : i < stop) (inside : stop ≤ length s) where
-  first : text_run (take 1 (drop i s)) ≡ cond (is_text (get_or s i 0)) 1 0
-  unfolding text_run
-  first = rw (drop-cons s i 0 (omega arith))
-
-  pub run-here : is_text (get_or s i 0) ≡ false → i + text_run (take (stop - i) (drop i s)) ≡ i
-  run-here h = let none : text_run (take 1 (drop i s)) ≡ 0 = first ∙ rw h in omega (arith, run-stops s i stop 1 (omega arith) inside (omega arith))
-
-  pub run-next : is_text (get_or s i 0) ≡ true → i + text_run (take (stop - i) (drop i s)) ≡ (i + 1) + text_run (take (stop - (i + 1)) (drop (i + 1) s))
-  run-next h = let one : text_run (take 1 (drop i s)) ≡ 1 = first ∙ rw h in run-goes-on s i stop 1 (omega arith) inside (omega arith)
-
-pub run_none : (s : List ℕ) (i stop : ℕ) → stop ≤ i → i + text_run (take (stop - i) (drop i s)) ≡ i
-unfolding text_run
-run_none s i stop h = let none : stop - i ≡ 0 = omega arith in rw none (add-zero i)
+      let all : text_run (take n l) ≡ length (take n l) = omega (arith, long, run_fits (take n l)) in
+      parted ∙ omega (arith, long, run-over (take n l) (drop n l) all)
 
 -- ---- where it ends, from `at` up to `stop`
 

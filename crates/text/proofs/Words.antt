@@ -1,32 +1,25 @@
 -- The laws of bytes as one number: the test that finds the first of them that is not text, for any number of bytes. Assumes nothing.
-use Rattle.std.proofs.Common.{◌≡◌, ℕ, zero, suc, ◌+◌, ◌-◌, ◌*◌, ◌/◌, ◌%◌, ◌^◌, ◌<◌, ◌≤◌, Bool, true, false, cond, ◌⊎◌, List, [], ◌∷◌, ◌++◌, length, get_or, take, drop, replicate, refl, ap, ◌∙◌, inl, inr, ⊎_elim, mul_assoc, mul_comm, eq-zero-or-pos, suc-add, pow-suc, zero-add, mul-one, arith, length-drop, length-take-le, drop-cons, drop-drop, take-add}
+use Rattle.std.proofs.Common.{◌≡◌, ℕ, zero, suc, ◌+◌, ◌-◌, ◌*◌, ◌/◌, ◌%◌, ◌^◌, ◌<◌, ◌≤◌, Bool, true, false, cond, ◌⊎◌, List, [], ◌∷◌, length, get_or, drop, replicate, refl, ap, ◌∙◌, inl, inr, ⊎_elim, mul_assoc, mul_comm, eq-zero-or-pos, suc-add, pow-suc, zero-add, mul-one, add-one, arith, drop_of_length-le, drop-cons}
 use lib.Bits.{bit_and, bit_or, and_high, and_le_l, and_le_r, and_mod, or_mod, and_shr, or_shr, or_add_and, or_lt, shifted_half, shifted_even}
 use lib.Count.{count_trailing_zeros}
 use Rattle.definitions.specs.Bytes.{is_text}
 use Rattle.text.specs.Words.{word_of, text_run}
+use Rattle.std.specs.Int.{from_le_bytes, w64}
 use Rattle.theorems.specs.Lines.{text_of}
 use Rattle.text.proofs.Ends.{text-is, text-low, text-high}
 
--- ---- a word from the words of its parts
+-- ---- eight bytes, read as one number
 
-word-append : (a b : List ℕ) → word_of (a ++ b) ≡ word_of a + 256 ^ length a * word_of b
+word-from : (l : List ℕ) (k : ℕ) → k < length l → word_of (drop k l) ≡ get_or l k 0 + 256 * word_of (drop (k + 1) l)
 unfolding word_of
-word-append [] b = omega arith
-word-append (c ∷ a) b =
-    let v : ℕ = 256 ^ length a * word_of b in
-    let more : 256 ^ suc (length a) * word_of b ≡ 256 * v = rw (pow-suc 256 (length a), mul_comm (256 ^ length a) 256) (mul_assoc 256 (256 ^ length a) (word_of b)) in
-    rw more (omega (arith, word-append a b))
+word-from l k h = rw (drop-cons l k 0 h, add-one k)
 
-module _ (s : List ℕ) (at : ℕ) where
-  pub word-one : at < length s → word_of (take 1 (drop at s)) ≡ get_or s at 0
-  unfolding word_of
-  word-one h = rw (drop-cons s at 0 h) (omega arith)
-
-  pub word-join : (m n : ℕ) → at + m ≤ length s → word_of (take (m + n) (drop at s)) ≡ word_of (take m (drop at s)) + 256 ^ m * word_of (take n (drop (at + m) s))
-  word-join m n h =
-      let inside : m ≤ length (drop at s) = simp length-drop (omega arith) in
-      let long : length (take m (drop at s)) ≡ m = length-take-le m (drop at s) inside in
-      rw (take-add m n (drop at s), drop-drop m at s) (word-append (take m (drop at s)) (take n (drop (at + m) s)) ∙ rw long)
+pub word-read : (l : List ℕ) → length l ≡ 8 → from_le_bytes w64 l ≡ word_of l
+unfolding word_of
+word-read l long =
+    let none : word_of (drop 8 l) ≡ 0 = rw (drop_of_length-le l {i = 8} (omega arith)) in
+    let next = λ (k : ℕ) (h : k < 8). word-from l k (omega arith) in
+    omega (arith, none, next 0 (omega arith), next 1 (omega arith), next 2 (omega arith), next 3 (omega arith), next 4 (omega arith), next 5 (omega arith), next 6 (omega arith), next 7 (omega arith))
 
 -- ---- zeros at a number's end
 
@@ -152,12 +145,13 @@ text-test (b ∷ l) x y q r bytes hx hy = go (is_text b) refl (text-test l (x / 
         let w : 8 * suc n ≡ 8 + 8 * n = omega arith in
         rw (w, times-suc n 128, e) (zeros-other (8 * n) t (low ∙ rw e))
 
--- eight bytes, by sums that wrap at 2 ^ 64
-pub text-test-eight : (l : List ℕ) (x y : ℕ) → length l ≡ 8 → ((k : ℕ) → k < 8 → get_or l k 0 < 256)
-    → (x + 0x2020202020202020) % 2 ^ 64 ≡ word_of l → y ≡ (word_of l + 0x0101010101010101) % 2 ^ 64
-    → count_trailing_zeros 64 (bit_and (bit_or x y) 0x8080808080808080) / 8 ≡ text_run l
+-- eight bytes, by sums that wrap at 2 ^ 64: 2 ^ 64 - 0x2020202020202020 is 0xdfdfdfdfdfdfdfe0
+pub text-test-eight : (l : List ℕ) (w : ℕ) → length l ≡ 8 → ((k : ℕ) → k < 8 → get_or l k 0 < 256) → w ≡ word_of l → w < 2 ^ 64
+    → count_trailing_zeros 64 (bit_and (bit_or ((w + 0xdfdfdfdfdfdfdfe0) % 2 ^ 64) ((w + 0x0101010101010101) % 2 ^ 64)) 0x8080808080808080) / 8 ≡ text_run l
 unfolding word_of
-text-test-eight l x y long bytes hx hy =
+text-test-eight l w long bytes is fits =
+    let x : ℕ = (w + 0xdfdfdfdfdfdfdfe0) % 2 ^ 64 in
+    let y : ℕ = (w + 0x0101010101010101) % 2 ^ 64 in
     let q : ℕ = (x + 0x2020202020202020) / 2 ^ 64 in
     let r : ℕ = (word_of l + 0x0101010101010101) / 2 ^ 64 in
-    rw long at (text-test l x y q r) (λ k h. bytes k h) (omega (arith, hx)) (omega (arith, hy))
+    rw long at (text-test l x y q r) (λ k h. bytes k h) (omega (arith, is, fits)) (omega (arith, is))

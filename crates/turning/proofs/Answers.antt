@@ -1,4 +1,5 @@
 -- The answers of `turn`: 11, then 10, then what is written. Assumes nothing.
+use Rattle.std.proofs.Common.{Ok, Err}
 use mathlib.Core.Path.{◌≡◌, sym, ap, ◌∙◌}
 use mathlib.Core.Bool.{true, false}
 use mathlib.Core.Option.{some}
@@ -15,12 +16,12 @@ use Rattle.theorems.specs.JoinAnswers.{reads-records, reads_bytes, reads-fine}
 use Rattle.text.specs.Buffer.{laid}
 use Rattle.text.proofs.Buffer.{laid-zero}
 use Rattle.journal.specs.Reading.{reading_number, reading_length, answered}
-use Rattle.journal.specs.declared.Reading.TheVariants.{Wrote as Out, Short, Malformed}
+use Rattle.journal.specs.declared.Refusal.TheVariants.{Short, Malformed}
 use Rattle.joinable.specs.Joinable.{is_taken}
 use Rattle.joinable.proofs.Taken.{is-taken, not_taken}
 
 module _ (j d : List ℕ) where
-  pub turn_malformed : is_taken (arranged_of j) ≡ false → answered Malformed d ≡ turn_to j d
+  pub turn_malformed : is_taken (arranged_of j) ≡ false → answered (Err Malformed) d ≡ turn_to j d
   unfolding answered turn_to read_out
   turn_malformed h = rw (not_taken (arranged_of j) h)
 
@@ -34,7 +35,7 @@ module _ (j d : List ℕ) where
     long : length (journal_bytes (turn taken.0)) ≡ length j
     long = journal-length (turn taken.0) ∙ turn-length taken.0 ∙ sym (journal-length taken.0) ∙ ap length (reads_bytes j taken.0 taken.1)
 
-    pub turn-short : length d < length j → answered Short d ≡ turn_to j d
+    pub turn-short : length d < length j → answered (Err Short) d ≡ turn_to j d
     unfolding answered turn_to read_out written_to
     turn-short k = rw (taken.1, lt-leb (length (journal_bytes (turn taken.0))) (length d) (rw long k))
 
@@ -42,7 +43,7 @@ module _ (j d : List ℕ) where
       pub turn-asks : (rs : List Record) × (records_of j ≡ some rs) × (is_arranged rs ≡ true) × (length j ≤ length d)
       turn-asks = (taken.0, records.0, records.1, k)
 
-      pub turn-done : (d' : List ℕ) → ((rs : List Record) → records_of j ≡ some rs → d' ≡ laid d 0 (journal_bytes (turn rs))) → answered (Out (length j)) d' ≡ turn_to j d
+      pub turn-done : (d' : List ℕ) → ((rs : List Record) → records_of j ≡ some rs → d' ≡ laid d 0 (journal_bytes (turn rs))) → answered (Ok (length j)) d' ≡ turn_to j d
       unfolding answered reading_number reading_length turn_to read_out written_to
       turn-done d' e =
           let is : d' ≡ journal_bytes (turn taken.0) ++ drop (length (journal_bytes (turn taken.0))) d = e taken.0 records.0 ∙ laid-zero d (journal_bytes (turn taken.0)) in

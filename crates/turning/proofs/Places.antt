@@ -1,4 +1,5 @@
--- Records at places of a journal's bytes: a record found, and the places after records. Assumes nothing.
+-- Some at places of a journal's bytes: a record found, and the places after records. Assumes nothing.
+use Rattle.std.proofs.Common.{Option, Some, None}
 use mathlib.Core.Path.{◌≡◌, refl, sym, ap, subst, ◌∙◌}
 use mathlib.Core.Bool.{Bool, true, false, cond, ◌&&◌, and-eq-true_iff}
 use mathlib.Core.List.{List, [], ◌∷◌, ◌++◌}
@@ -14,17 +15,11 @@ use Rattle.definitions.specs.Journal.{Record, record_bytes, record_length, journ
 use Rattle.definitions.specs.Joining.{turn_one}
 use Rattle.theorems.specs.Arranged.{IsApart}
 use Rattle.text.specs.Lines.{line_end, part}
-use Rattle.text.specs.declared.LineEnd.{LineEnd}
-use Rattle.text.specs.declared.LineEnd.TheVariants.{At, Bad}
 use Rattle.text.proofs.Ends.{Ended, ended-bytes}
 use Rattle.journal.specs.Records.{mark_of, mark_in, after_second, after_first, record_at, record_of, record_in, Left}
 use Rattle.journal.specs.declared.records.Mark.{Mark}
 use Rattle.journal.specs.declared.records.Mark.TheVariants.{Kept, Changed, Deleted, Inserted}
-use Rattle.journal.specs.declared.records.MarkAt.{MarkAt}
-use Rattle.journal.specs.declared.records.MarkAt.TheVariants.{Is, NoMark}
 use Rattle.journal.specs.declared.records.Extent.{Extent}
-use Rattle.journal.specs.declared.records.RecordAt.{RecordAt}
-use Rattle.journal.specs.declared.records.RecordAt.TheVariants.{Found, NoRecord}
 use Rattle.journal.proofs.Places.{mark-there, no-mark, no-first, first}
 use Rattle.journal.proofs.Here.{LastLine, found-is, none_found, here, nowhere, changed-last}
 use Rattle.journal.proofs.Left.{none-some, left_end, left-next}
@@ -41,46 +36,46 @@ MarkBytes Inserted a b = (a ≡ 43) × (b ≡ 43)
 both : (a x b y : ℕ) → (eqb a x && eqb b y) ≡ true → (a ≡ x) × (b ≡ y)
 both a x b y h = let k = (and-eq-true_iff (eqb a x) (eqb b y)).0 h in (eqb-true a x k.0, eqb-true b y k.1)
 
-is-is : (m n : Mark) → Is m ≡ Is n → m ≡ n
+is-is : (m n : Mark) → Some m ≡ Some n → m ≡ n
 is-is m n h = cc
 
-no-is : (m : Mark) → NoMark ≡ Is m → ⊥
+no-is : (m : Mark) → None ≡ Some m → ⊥
 no-is m h = let z : ◌≡◌ {A = ℕ} 0 1 = cc in omega arith
 
 module _ (a b : ℕ) (m : Mark) where
-  mark-by : (n : Mark) (t : Bool) (more : MarkAt) → (t ≡ true → MarkBytes n a b) → (more ≡ Is m → MarkBytes m a b) → cond t (Is n) more ≡ Is m → MarkBytes m a b
+  mark-by : (n : Mark) (t : Bool) (more : Option Mark) → (t ≡ true → MarkBytes n a b) → (more ≡ Some m → MarkBytes m a b) → cond t (Some n) more ≡ Some m → MarkBytes m a b
   mark-by n true more yes-it other h = subst (λ (k : Mark). MarkBytes k a b) (is-is n m h) (yes-it refl)
   mark-by n false more yes-it other h = other h
 
-  mark-bytes : mark_of a b ≡ Is m → MarkBytes m a b
+  mark-bytes : mark_of a b ≡ Some m → MarkBytes m a b
   unfolding mark_of
   mark-bytes h =
       mark-by Kept (eqb a 61 && eqb b 61) _ (both a 61 b 61)
       (mark-by Changed (eqb a 60 && eqb b 62) _ (both a 60 b 62)
       (mark-by Deleted (eqb a 45 && eqb b 45) _ (both a 45 b 45)
-      (mark-by Inserted (eqb a 43 && eqb b 43) NoMark (both a 43 b 43) (λ k. absurd (no-is m k))))) h
+      (mark-by Inserted (eqb a 43 && eqb b 43) None (both a 43 b 43) (λ k. absurd (no-is m k))))) h
 
-mark-after : (j : List ℕ) (at mid : ℕ) (m : Mark) (x : Extent) → after_first j at mid m ≡ Found x → x.mark ≡ m
+mark-after : (j : List ℕ) (at mid : ℕ) (m : Mark) (x : Extent) → after_first j at mid m ≡ Some x → x.mark ≡ m
 unfolding after_first after_second
 mark-after j at mid Kept x h = sym (ap (λ (y : Extent). y.mark) (found-is _ x h))
 mark-after j at mid Deleted x h = sym (ap (λ (y : Extent). y.mark) (found-is _ x h))
 mark-after j at mid Inserted x h = sym (ap (λ (y : Extent). y.mark) (found-is _ x h))
 mark-after j at mid Changed x h = go (line_end (mid + 1) (drop (mid + 1) j)) h
   where
-    go : (e : LineEnd) → after_second at mid e ≡ Found x → x.mark ≡ Changed
-    go Bad k = absurd (none_found x k)
-    go (At end) k = sym (ap (λ (y : Extent). y.mark) (found-is _ x k))
+    go : (e : Option ℕ) → after_second at mid e ≡ Some x → x.mark ≡ Changed
+    go None k = absurd (none_found x k)
+    go (Some end) k = sym (ap (λ (y : Extent). y.mark) (found-is _ x k))
 
-mark-found : (j : List ℕ) (at : ℕ) (x : Extent) → record_at j at ≡ Found x → mark_in (drop at j) ≡ Is x.mark
+mark-found : (j : List ℕ) (at : ℕ) (x : Extent) → record_at j at ≡ Some x → mark_in (drop at j) ≡ Some x.mark
 mark-found j at x h = go_mark (mark_in (drop at j)) refl
   where
-    go_first : (m : Mark) → mark_in (drop at j) ≡ Is m → (e : LineEnd) → line_end (at + 2) (drop (at + 2) j) ≡ e → mark_in (drop at j) ≡ Is x.mark
-    go_first m k Bad e = absurd (none_found x (sym (no-first j at m k e) ∙ h))
-    go_first m k (At mid) e = k ∙ ap Is (sym (mark-after j at mid m x (sym (first j at m k mid e) ∙ h)))
+    go_first : (m : Mark) → mark_in (drop at j) ≡ Some m → (e : Option ℕ) → line_end (at + 2) (drop (at + 2) j) ≡ e → mark_in (drop at j) ≡ Some x.mark
+    go_first m k None e = absurd (none_found x (sym (no-first j at m k e) ∙ h))
+    go_first m k (Some mid) e = k ∙ ap Some (sym (mark-after j at mid m x (sym (first j at m k mid e) ∙ h)))
 
-    go_mark : (m : MarkAt) → mark_in (drop at j) ≡ m → mark_in (drop at j) ≡ Is x.mark
-    go_mark NoMark e = absurd (none_found x (sym (no-mark j at e) ∙ h))
-    go_mark (Is m) e = go_first m e (line_end (at + 2) (drop (at + 2) j)) refl
+    go_mark : (m : Option Mark) → mark_in (drop at j) ≡ m → mark_in (drop at j) ≡ Some x.mark
+    go_mark None e = absurd (none_found x (sym (no-mark j at e) ∙ h))
+    go_mark (Some m) e = go_first m e (line_end (at + 2) (drop (at + 2) j)) refl
 
 -- ---- a record found: its first byte, its lines, its length
 
@@ -101,8 +96,8 @@ line-by Inserted k l = refl
 first_of : (a b : ℕ) (bs : List ℕ) (j : List ℕ) (at : ℕ) → at < length j → drop at j ≡ a ∷ b ∷ bs → get_or j at 0 ≡ a
 first_of a b bs j at h e = ap (λ (r : List ℕ). get_or r 0 0) (sym (drop-cons j at 0 h) ∙ e)
 
-module _ (j : List ℕ) (at : ℕ) (x : Extent) (found : record_at j at ≡ Found x) where
-  front : (a : ℕ) × (b : ℕ) × (at + 2 ≤ length j) × (drop at j ≡ a ∷ b ∷ drop (at + 2) j) × (mark_of a b ≡ Is x.mark)
+module _ (j : List ℕ) (at : ℕ) (x : Extent) (found : record_at j at ≡ Some x) where
+  front : (a : ℕ) × (b : ℕ) × (at + 2 ≤ length j) × (drop at j ≡ a ∷ b ∷ drop (at + 2) j) × (mark_of a b ≡ Some x.mark)
   front = mark-there j at x.mark (mark-found j at x found)
 
   pub found-byte : get_or j at 0 ≡ first_byte (record_in j x)
@@ -136,9 +131,9 @@ module _ (j : List ℕ) (at : ℕ) (x : Extent) (found : record_at j at ≡ Foun
       let n : e - at ≡ suc (suc (e - (at + 2))) = omega arith in
       rw (n, f)
 
-  -- its first byte is not `<`: it stays
-  pub one_kept : IsApart (record_in j x) → (get_or j at 0 ≡ 60 → ⊥) → part at (x.end + 1) j ≡ record_bytes (turn_one (record_in j x))
-  unfolding record_in record_of record_bytes turn_one first_byte
+  -- it is not changed: it stays
+  pub one_kept : IsApart (record_in j x) → (x.mark ≡ Changed → ⊥) → part at (x.end + 1) j ≡ record_bytes (turn_one (record_in j x))
+  unfolding record_in record_of record_bytes turn_one
   one_kept apart other = go x.mark refl
     where
       go : (m : Mark) → x.mark ≡ m → part at (x.end + 1) j ≡ record_bytes (turn_one (record_in j x))
@@ -148,27 +143,17 @@ module _ (j : List ℕ) (at : ℕ) (x : Extent) (found : record_at j at ≡ Foun
           let b : (f.0 ≡ 61) × (f.1 ≡ 61) = subst (λ (m : Mark). MarkBytes m f.0 f.1) e (mark-bytes f.0 f.1 x.mark f.4) in
           let last : x.end ≡ x.mid = subst (λ (m : Mark). LastLine m j x.mid x.end) e w.last in
           rw (e, w.place, last, marked-part f.0 f.1 (x.mid + 1) f.3 (omega (arith, w.first.low)), b.0, b.1, ended-bytes j (at + 2) x.mid w.first)
-      go Changed e = absurd (other (found-byte ∙ rw e))
+      go Changed e = absurd (other e)
       go Deleted e = absurd (rw e at apart)
       go Inserted e = absurd (rw e at apart)
 
-  -- its first byte is `<`: its two lines change places
-  pub one-changed : IsApart (record_in j x) → get_or j at 0 ≡ 60
-      → (60 ∷ 62 ∷ part (x.mid + 1) (x.end + 1) j) ++ part (at + 2) (x.mid + 1) j ≡ record_bytes (turn_one (record_in j x))
-  unfolding record_in record_of record_bytes turn_one first_byte
-  one-changed apart is = go x.mark refl
-    where
-      wrong : (m : Mark) → x.mark ≡ m → first_byte (record_of m (part (x.at + 2) x.mid j) (part (x.mid + 1) x.end j)) ≡ 60
-      wrong m e = ap (λ (k : Mark). first_byte (record_of k (part (x.at + 2) x.mid j) (part (x.mid + 1) x.end j))) (sym e) ∙ sym found-byte ∙ is
-
-      go : (m : Mark) → x.mark ≡ m → (60 ∷ 62 ∷ part (x.mid + 1) (x.end + 1) j) ++ part (at + 2) (x.mid + 1) j ≡ record_bytes (turn_one (record_in j x))
-      go Kept e = let z = wrong Kept e in absurd (omega arith)
-      go Changed e =
-          let w = here j at x found in
-          let last : Ended j (x.mid + 1) x.end = changed-last j at x w e in
-          rw (e, w.place, ended-bytes j (x.mid + 1) x.end last, ended-bytes j (at + 2) x.mid w.first)
-      go Deleted e = absurd (rw e at apart)
-      go Inserted e = absurd (rw e at apart)
+  -- it is changed: its two lines change places
+  pub one-changed : x.mark ≡ Changed → (60 ∷ 62 ∷ part (x.mid + 1) (x.end + 1) j) ++ part (at + 2) (x.mid + 1) j ≡ record_bytes (turn_one (record_in j x))
+  unfolding record_in record_of record_bytes turn_one
+  one-changed e =
+      let w = here j at x found in
+      let last : Ended j (x.mid + 1) x.end = changed-last j at x w e in
+      rw (e, w.place, ended-bytes j (x.mid + 1) x.end last, ended-bytes j (at + 2) x.mid w.first)
 
 -- ---- the records that are left
 
@@ -180,12 +165,12 @@ cons-nil r rs h = let z : ◌≡◌ {A = ℕ} 0 1 = cc in omega arith
 
 module _ (j : List ℕ) where
   -- before the end a record is found
-  pub left-found : (at : ℕ) (rs : List Record) → Left j at rs → at < length j → (x : Extent) × (record_at j at ≡ Found x)
+  pub left-found : (at : ℕ) (rs : List Record) → Left j at rs → at < length j → (x : Extent) × (record_at j at ≡ Some x)
   left-found at rs l h = go (record_at j at) refl
     where
-      go : (f : RecordAt) → record_at j at ≡ f → (x : Extent) × (record_at j at ≡ Found x)
-      go (Found x) e = (x, e)
-      go NoRecord e = absurd (none-some rs (sym (nowhere j at h e) ∙ l))
+      go : (f : Option Extent) → record_at j at ≡ f → (x : Extent) × (record_at j at ≡ Some x)
+      go (Some x) e = (x, e)
+      go None e = absurd (none-some rs (sym (nowhere j at h e) ∙ l))
 
   -- where a record is left, it is found
   pub left-first : (at : ℕ) (r : Record) (rs : List Record) → Left j at (r ∷ rs) → at < length j

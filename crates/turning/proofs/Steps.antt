@@ -1,9 +1,10 @@
 -- The two steps of turning a journal round: a stretch, and a kept or changed record. Assumes nothing.
+use Rattle.std.proofs.Common.{Some, None}
 use mathlib.Core.Path.{◌≡◌, sym, ap, subst, ◌∙◌}
 use mathlib.Core.List.{List, ◌∷◌}
 use Prim.Native.Nat.{ℕ, ◌+◌, ◌-◌, ◌≤◌}
 use native.Mathlib.Omega.{arith}
-use lib.ListN.{length, get_or}
+use lib.ListN.{length}
 use Rattle.definitions.specs.Journal.{Record, record_bytes, record_length, journal_length}
 use Rattle.definitions.specs.Joining.{turn_one}
 use Rattle.theorems.specs.Arranged.{IsApart}
@@ -13,8 +14,8 @@ use Rattle.text.proofs.Parts.{part_length}
 use Rattle.text.proofs.Buffer.{laid-length, laid-laid}
 use Rattle.journal.specs.Records.{record_at, record_in, Left}
 use Rattle.journal.specs.Views.{Puts}
+use Rattle.journal.specs.declared.records.Mark.TheVariants.{Changed}
 use Rattle.journal.specs.declared.records.Extent.{Extent}
-use Rattle.journal.specs.declared.records.RecordAt.TheVariants.{Found, NoRecord}
 use Rattle.journal.proofs.Here.{here, nowhere}
 use Rattle.journal.proofs.Left.{none-some, some_is, left-next}
 use Rattle.journal.proofs.Writing.{puts-both}
@@ -71,10 +72,10 @@ module _ (j d : List ℕ) (at : ℕ) (rs : List Record) (l : Left j at rs) (insi
 -- ---- one record
 
 module _ (j d : List ℕ) (at : ℕ) (q : Record) (qs : List Record) (l : Left j at (q ∷ qs)) (apart : IsApart q) (room : at + record_length q ≤ length d) where
-  pub one-nowhere : record_at j at ≡ NoRecord → ⊥
+  pub one-nowhere : record_at j at ≡ None → ⊥
   one-nowhere e = none-some (q ∷ qs) (sym (nowhere j at (left-first j at q qs l) e) ∙ l)
 
-  module _ (x : Extent) (found : record_at j at ≡ Found x) where
+  module _ (x : Extent) (found : record_at j at ≡ Some x) where
     is : q ≡ record_in j x
     is = let n = left-next j at (q ∷ qs) x l found in (cons-is q (record_in j x) qs n.0 n.2).0
 
@@ -91,35 +92,37 @@ module _ (j d : List ℕ) (at : ℕ) (q : Record) (qs : List Record) (l : Left j
         let same : record_in j x ≡ p = sym is ∙ (cons-is q p qs ps (some_is (q ∷ qs) (p ∷ ps) (sym l ∙ k))).0 in
         subst (λ (z : List ℕ). Puts z d at d' r) (e ∙ ap (λ (z : Record). record_bytes (turn_one z)) same) h
 
-    pub kept-asks : (at ≤ x.end + 1) × (x.end + 1 ≤ length j) × (at + (x.end + 1 - at) ≤ length d)
+    pub kept-asks : (at ≤ x.end + 1) × (x.end + 1 ≤ length j) × (at + length (part at (x.end + 1) j) ≤ length d)
     kept-asks =
         let w = here j at x found in
-        (omega (arith, w.first.low, w.order), omega (arith, w.inside), omega (arith, w.first.low, w.order, end-room))
+        let inside : x.end + 1 ≤ length j = omega (arith, w.inside) in
+        (omega (arith, w.first.low, w.order), inside, omega (arith, w.first.low, w.order, end-room, part_length j at (x.end + 1) inside))
 
-    pub kept-done : (get_or j at 0 ≡ 60 → ⊥) → (d' : List ℕ) (r : ℕ) → Puts (part at (x.end + 1) j) d at d' r
+    pub kept-done : (x.mark ≡ Changed → ⊥) → (d' : List ℕ) (r : ℕ) → Puts (part at (x.end + 1) j) d at d' r
         → (p : Record) (ps : List Record) → Left j at (p ∷ ps) → Puts (record_bytes (turn_one p)) d at d' r
     kept-done other d' r h = told (part at (x.end + 1) j) d' r (one_kept j at x found apart_in other) h
 
-    module _ (mark : get_or j at 0 ≡ 60) where
-      pub new-asks : (x.mid + 1 ≤ x.end + 1) × (x.end + 1 ≤ length j) × (at + 2 + (x.end + 1 - (x.mid + 1)) ≤ length d)
+    module _ (mark : x.mark ≡ Changed) where
+      new-long : length (part (x.mid + 1) (x.end + 1) j) ≡ x.end + 1 - (x.mid + 1)
+      new-long = part_length j (x.mid + 1) (x.end + 1) (let w = here j at x found in omega (arith, w.inside))
+
+      pub new-asks : (x.mid + 1 ≤ x.end + 1) × (x.end + 1 ≤ length j) × (at + 2 + length (part (x.mid + 1) (x.end + 1) j) ≤ length d)
       new-asks =
           let w = here j at x found in
-          (omega (arith, w.order), omega (arith, w.inside), omega (arith, w.first.low, w.order, end-room))
-
-      new-long : length (part (x.mid + 1) (x.end + 1) j) ≡ x.end + 1 - (x.mid + 1)
-      new-long = part_length j (x.mid + 1) (x.end + 1) new-asks.1
+          (omega (arith, w.order), omega (arith, w.inside), omega (arith, w.first.low, w.order, end-room, new-long))
 
       new-room : at + length (60 ∷ 62 ∷ part (x.mid + 1) (x.end + 1) j) ≤ length d
-      new-room = omega (arith, new-asks.2, new-long)
+      new-room = omega (arith, new-asks.2)
 
       module _ (d₁ : List ℕ) (next : ℕ) (new : Puts (60 ∷ 62 ∷ part (x.mid + 1) (x.end + 1) j) d at d₁ next) where
-        pub old-asks : (at + 2 ≤ x.mid + 1) × (x.mid + 1 ≤ length j) × (next + (x.mid + 1 - (at + 2)) ≤ length d₁)
+        pub old-asks : (at + 2 ≤ x.mid + 1) × (x.mid + 1 ≤ length j) × (next + length (part (at + 2) (x.mid + 1) j) ≤ length d₁)
         old-asks =
             let w = here j at x found in
             let long : length d₁ ≡ length d = ap length new.1 ∙ laid-length d at (60 ∷ 62 ∷ part (x.mid + 1) (x.end + 1) j) new-room in
-            (omega (arith, w.first.low), omega (arith, w.order, w.inside), omega (arith, new.0, new-long, long, w.first.low, w.order, end-room))
+            let inside : x.mid + 1 ≤ length j = omega (arith, w.order, w.inside) in
+            (omega (arith, w.first.low), inside, omega (arith, new.0, new-long, long, w.first.low, w.order, end-room, part_length j (at + 2) (x.mid + 1) inside))
 
         pub changed-done : (d₂ : List ℕ) (r : ℕ) → Puts (part (at + 2) (x.mid + 1) j) d₁ next d₂ r
             → (p : Record) (ps : List Record) → Left j at (p ∷ ps) → Puts (record_bytes (turn_one p)) d at d₂ r
         changed-done d₂ r old =
-            told _ d₂ r (one-changed j at x found apart_in mark) (puts-both (60 ∷ 62 ∷ part (x.mid + 1) (x.end + 1) j) (part (at + 2) (x.mid + 1) j) d d₁ d₂ at next r new-room new old)
+            told _ d₂ r (one-changed j at x found mark) (puts-both (60 ∷ 62 ∷ part (x.mid + 1) (x.end + 1) j) (part (at + 2) (x.mid + 1) j) d d₁ d₂ at next r new-room new old)

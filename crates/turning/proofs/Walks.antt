@@ -1,19 +1,18 @@
 -- The loops over a row: looking for its end, and writing its lines. Assumes nothing.
+use Rattle.std.proofs.Common.{Some, None}
 use mathlib.Core.Path.{◌≡◌, refl, sym, ap, ◌∙◌}
 use mathlib.Core.List.{List, [], ◌∷◌, ◌++◌}
-use Prim.Native.Nat.{ℕ, ◌+◌, ◌-◌, ◌≤◌, ◌<◌}
+use Prim.Native.Nat.{ℕ, ◌+◌, ◌≤◌, ◌<◌}
 use native.Mathlib.Nat.{add-zero}
 use native.Mathlib.Omega.{arith}
 use lib.ListN.{length, get_or, length-append}
 use Rattle.definitions.specs.Journal.{Record, journal_length}
 use Rattle.text.specs.Lines.{part}
 use Rattle.text.specs.Buffer.{laid}
-use Rattle.text.proofs.Parts.{part_length}
 use Rattle.text.proofs.Buffer.{laid_none, laid-length, laid-laid}
 use Rattle.journal.specs.Records.{record_at, record_in, Left}
 use Rattle.journal.specs.Views.{Puts}
 use Rattle.journal.specs.declared.records.Extent.{Extent}
-use Rattle.journal.specs.declared.records.RecordAt.TheVariants.{Found, NoRecord}
 use Rattle.journal.proofs.Here.{here, nowhere}
 use Rattle.journal.proofs.Left.{none-some, some_is, left_end, left-next}
 use Rattle.turning.specs.Rows.{row_of, row_bytes}
@@ -39,7 +38,7 @@ module _ (b : ℕ) (j : List ℕ) (at : ℕ) where
   }
 
   module _ (i : ℕ) (s : Within b j at i) where
-    pub within-nowhere : i < length j → record_at j i ≡ NoRecord → ⊥
+    pub within-nowhere : i < length j → record_at j i ≡ None → ⊥
     within-nowhere h e = none-some s.qs (sym (nowhere j i h e) ∙ s.left)
 
     -- the row does not go on
@@ -65,7 +64,7 @@ module _ (b : ℕ) (j : List ℕ) (at : ℕ) where
     pub within-other : i < length j → (get_or j i 0 ≡ b → ⊥) → (rs : List Record) → Left j at rs → i ≡ at + journal_length (row_of b rs)
     within-other h e = no_more (other_none h e)
 
-    module _ (x : Extent) (found : record_at j i ≡ Found x) (is : get_or j i 0 ≡ b) where
+    module _ (x : Extent) (found : record_at j i ≡ Some x) (is : get_or j i 0 ≡ b) where
       abbrev rest : List Record
       rest = (left-next j i s.qs x s.left found).0
 
@@ -117,7 +116,7 @@ module _ (b c : ℕ) (j d₀ : List ℕ) (from out : ℕ) where
         → (at ≡ from + journal_length (row_of b rs)) × (d ≡ laid d₀ out (row_bytes c (row_of b rs)))
     writes-other h e rs l = (within-other b j from at s.row h e rs l, none_left (other_none b j from at s.row h e) rs l)
 
-    module _ (x : Extent) (found : record_at j at ≡ Found x) (is : get_or j at 0 ≡ b) where
+    module _ (x : Extent) (found : record_at j at ≡ Some x) (is : get_or j at 0 ≡ b) where
       abbrev line : List ℕ
       line = c ∷ c ∷ part (at + 2) (x.mid + 1) j
 
@@ -135,11 +134,11 @@ module _ (b c : ℕ) (j d₀ : List ℕ) (from out : ℕ) where
       writes-room = omega (arith, s.room, long)
 
       -- what `put_marked` asks for
-      pub writes-asks : (at + 2 ≤ x.mid + 1) × (x.mid + 1 ≤ length j) × (next + 2 + (x.mid + 1 - (at + 2)) ≤ length d)
+      pub writes-asks : (at + 2 ≤ x.mid + 1) × (x.mid + 1 ≤ length j) × (next + 2 + length (part (at + 2) (x.mid + 1) j) ≤ length d)
       writes-asks =
           let w = here j at x found in
           let inside : x.mid + 1 ≤ length j = omega (arith, w.order, w.inside) in
-          (omega (arith, w.first.low), inside, omega (arith, writes-room, part_length j (at + 2) (x.mid + 1) inside))
+          (omega (arith, w.first.low), inside, omega (arith, writes-room))
 
       pub writes-next : (d' : List ℕ) (next' : ℕ) → Puts (c ∷ c ∷ part (at + 2) (x.mid + 1) j) d next d' next' → Writes b c j d₀ from out (x.end + 1) next' d'
       unfolding within-next

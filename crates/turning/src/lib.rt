@@ -14,10 +14,11 @@ ghost use Rattle.journal.specs.Reading.{answered};
 ghost use Rattle.turning.specs.Rows.{row_of, row_bytes, stretch_length, stretch_turned};
 
 use joinable::joinable;
-use journal::records::RecordAt;
-use journal::{Reading, marks, records};
+use journal::records::Mark;
+use journal::{Refusal, marks, records};
 
 // The place after the row of the byte b at `at`.
+// The byte is looked at before the record is read: gone through by `Records`, each kept record would be read three times in vain.
 fn row_end(b: u8, j: &[u8], at: usize) -> usize
     requires { (rs : List Record) × Left j.now at rs }
     ensures { (rs : List Record) → Left j.now at rs → result ≡ at + journal_length (row_of b rs) }
@@ -27,8 +28,7 @@ fn row_end(b: u8, j: &[u8], at: usize) -> usize
         if j[i] != b {
             return i;
         }
-        let found = records::record_at(j, i);
-        let RecordAt::Found(x) = found else {
+        let Some(x) = records::record_at(j, i) else {
             return i;
         };
         i = x.end + 1;
@@ -47,11 +47,10 @@ fn put_row(b: u8, c: u8, j: &[u8], from: usize, dest: &mut [u8], out: usize) -> 
         if j[at] != b {
             return at;
         }
-        let found = records::record_at(j, at);
-        let RecordAt::Found(x) = found else {
+        let Some(x) = records::record_at(j, at) else {
             return at;
         };
-        next = marks::put_marked(c, c, j, at + 2, x.mid + 1, dest, next);
+        next = marks::put_marked([c, c], &j[at + 2..x.mid + 1], dest, next);
         at = x.end + 1;
     }
     at
@@ -62,9 +61,9 @@ fn turn_stretch(j: &[u8], at: usize, dest: &mut [u8]) -> usize
     requires { (rs : List Record) × Left j.now at rs × (at ≤ length j.now) × (length j.now ≤ length dest.old) }
     ensures { (rs : List Record) → Left j.now at rs → (result ≡ at + stretch_length rs) × (dest.new ≡ laid dest.old at (stretch_turned rs)) }
 {
-    let left = row_end(45, j, at);
-    let came = put_row(43, 45, j, left, dest, at);
-    put_row(45, 43, j, at, dest, at + (came - left));
+    let left = row_end(b'-', j, at);
+    let came = put_row(b'+', b'-', j, left, dest, at);
+    put_row(b'-', b'+', j, at, dest, at + (came - left));
     came
 }
 
@@ -73,18 +72,14 @@ fn turn_one(j: &[u8], at: usize, dest: &mut [u8]) -> usize
     requires { (q : Record) × (qs : List Record) × Left j.now at (q ∷ qs) × IsApart q × (at + record_length q ≤ length dest.old) }
     ensures { (q : Record) (qs : List Record) → Left j.now at (q ∷ qs) → Puts (record_bytes (turn_one q)) dest.old at dest.new result }
 {
-    let found = records::record_at(j, at);
-    let RecordAt::Found(x) = found else {
+    let Some(x) = records::record_at(j, at) else {
         return at;
     };
-    let mid = x.mid + 1;
-    let end = x.end + 1;
-    // `<` (60) begins a changed record.
-    if j[at] != 60 {
-        return marks::put_line(j, at, end, dest, at);
+    if x.mark == Mark::Changed {
+        let next = marks::put_marked([b'<', b'>'], &j[x.mid + 1..x.end + 1], dest, at);
+        return marks::put_line(&j[at + 2..x.mid + 1], dest, next);
     }
-    let next = marks::put_marked(60, 62, j, mid, end, dest, at);
-    marks::put_line(j, at + 2, mid, dest, next)
+    marks::put_line(&j[at..x.end + 1], dest, at)
 }
 
 // Turns all records of a journal round: each stretch, and the kept or changed record after it.
@@ -102,15 +97,15 @@ fn turn_all(j: &[u8], dest: &mut [u8])
 }
 
 // Checks 11, then 10, then writes.
-pub fn turn(j: &[u8], dest: &mut [u8]) -> Reading
+pub fn turn(j: &[u8], dest: &mut [u8]) -> Result<usize, Refusal>
     ensures { answered result dest.new ≡ turn_to j.now dest.old }
 {
     if !joinable(j) {
-        return Reading::Malformed;
+        return Err(Refusal::Malformed);
     }
     if dest.len() < j.len() {
-        return Reading::Short;
+        return Err(Refusal::Short);
     }
     turn_all(j, dest);
-    Reading::Wrote(j.len())
+    Ok(j.len())
 }

@@ -3,9 +3,10 @@ ghost use Rattle.std.specs.Prelude.{◌≡◌};
 ghost use Rattle.definitions.specs.Listing.{number_of, length_of, bytes_of};
 ghost use Rattle.vectors.specs.Cases.{made_to};
 
+use crate::Room;
 use crate::writing::{write_bytes, write_number};
 use cases::buffers::fill;
-use cases::fields::{bytes_at, field, number_at};
+use cases::fields::{bytes_at, number_at, through_field};
 use std::io;
 
 // What is made of journals.
@@ -17,35 +18,36 @@ pub enum Work {
 }
 
 // Runs the case of joining of the line.
-pub fn join_case<R: Print>(
-    rt: &R,
-    line: &[u8],
-    j: &mut [u8],
-    k: &mut [u8],
-    dest: &mut [u8],
-    hex: &mut [u8],
-) -> io::Result<()> {
-    let n = bytes_at(line, 0, j);
-    let m = bytes_at(line, 1, k);
+pub fn join_case<R: Print>(rt: &R, line: &[u8], lent: &mut Room) -> io::Result<()> {
+    let n = bytes_at(line, 0, &mut lent.first);
+    let m = bytes_at(line, 1, &mut lent.second);
     let room = number_at(line, 2);
-    let given = field(line, 2).end;
-    rt.write_all(&line[0..given])?;
-    run_one(rt, Work::Join, &j[0..n], &k[0..m], room, dest, hex)
+    rt.write_all(through_field(line, 2))?;
+    run_one(
+        rt,
+        Work::Join,
+        &lent.first[..n],
+        &lent.second[..m],
+        room,
+        &mut lent.buffer,
+        &mut lent.hex,
+    )
 }
 
 // Runs the case of turning round of the line.
-pub fn turn_case<R: Print>(
-    rt: &R,
-    line: &[u8],
-    j: &mut [u8],
-    dest: &mut [u8],
-    hex: &mut [u8],
-) -> io::Result<()> {
-    let n = bytes_at(line, 0, j);
+pub fn turn_case<R: Print>(rt: &R, line: &[u8], lent: &mut Room) -> io::Result<()> {
+    let n = bytes_at(line, 0, &mut lent.first);
     let room = number_at(line, 1);
-    let given = field(line, 1).end;
-    rt.write_all(&line[0..given])?;
-    run_one(rt, Work::Turn, &j[0..n], b"", room, dest, hex)
+    rt.write_all(through_field(line, 1))?;
+    run_one(
+        rt,
+        Work::Turn,
+        &lent.first[..n],
+        b"",
+        room,
+        &mut lent.buffer,
+        &mut lent.hex,
+    )
 }
 
 // Does the work with a destination of `room` bytes, each 7, writes what it got, and ends the line.
@@ -63,7 +65,7 @@ fn run_one<R: Print>(
     }
     fill(dest);
     let mut len: usize = 0;
-    let number = make(work, j, k, &mut dest[0..room], &mut len);
+    let number = make(work, j, k, &mut dest[..room], &mut len);
     write_number(rt, number as u64)?;
     write_number(rt, len as u64)?;
     write_bytes(rt, len, dest, 7, hex)?;

@@ -7,7 +7,6 @@ mod runs; // runs.rt: a case of the editor
 mod sides; // sides.rt: a case of the readers of journals
 mod writing; // writing.rt: the numbers and bytes of an answer
 
-use cases::fields::next_line;
 use cases::files::read_file;
 use std::io;
 use std::rt::Files;
@@ -20,8 +19,18 @@ const BUFFER: usize = 20480;
 
 const WORDS: usize = 512;
 
-// What the cases of a file are for.
-#[derive(Clone, Copy)]
+// Room for what a case lends and for hexadecimal digits. Two tables, scripts or journals are given; the buffer is for a journal or for what is read out of one.
+#[derive(Drop)]
+pub struct Room {
+    pub first: [u8; BYTES],
+    pub second: [u8; BYTES],
+    pub work: [u32; WORDS],
+    pub buffer: [u8; BUFFER],
+    pub hex: [u8; 40960],
+}
+
+// What the cases of a file are for: an enum, as `run_file` takes it, so that the programs need not know of `Room`.
+#[derive(Clone, Copy, Debug, PartialEq, Eq)]
 pub enum For {
     Editor,
     Readers,
@@ -38,61 +47,32 @@ pub fn run_file<R: Files + Print + Eprint + AllocGlobal>(
     let Ok(name) = from_utf8(path) else {
         return eprintln!(rt; "a file's name is no text");
     };
+    match cases {
+        For::Editor => run_lines(rt, name, runs::run_case),
+        For::Readers => run_lines(rt, name, sides::run_case),
+        For::Joining => run_lines(rt, name, journals::join_case),
+        For::Turning => run_lines(rt, name, journals::turn_case),
+    }
+}
+
+// Runs `run` on each line of the file.
+fn run_lines<R, F>(rt: &R, name: &str, run: F) -> io::Result<()>
+where
+    R: Files + Print + Eprint + AllocGlobal,
+    F: Fn(&R, &[u8], &mut Room) -> io::Result<()>,
+    requires { F.IsAlwaysCallable run }
+{
     let mut file = [0u8; 393216];
     let n = read_file(rt, name, &mut file)?.unwrap_or(0);
-    let mut table = [0u8; BYTES];
-    let mut script = [0u8; BYTES];
-    let mut work = [0u32; WORDS];
-    let mut buffer = [0u8; BUFFER];
-    let mut hex = [0u8; 40960];
-    run_cases(
-        rt,
-        cases,
-        &file[0..n],
-        &mut table,
-        &mut script,
-        &mut work,
-        &mut buffer,
-        &mut hex,
-    )
-}
-
-// Runs the cases, with room for what a case lends and for hexadecimal digits. Journals that are given lie where table and script do; the buffer is for a journal
-// or for what is read out of one.
-fn run_cases<R: Print>(
-    rt: &R,
-    cases: For,
-    s: &[u8],
-    table: &mut [u8],
-    script: &mut [u8],
-    work: &mut [u32],
-    buffer: &mut [u8],
-    hex: &mut [u8],
-) -> io::Result<()> {
-    let mut at: usize = 0;
-    while at < s.len() {
-        let next = next_line(s, at);
-        run_case(rt, cases, &s[at..next], table, script, work, buffer, hex)?;
-        at = next;
+    let mut room = Room {
+        first: [0; BYTES],
+        second: [0; BYTES],
+        work: [0; WORDS],
+        buffer: [0; BUFFER],
+        hex: [0; 40960],
+    };
+    for line in file[..n].split_inclusive(|b| *b == b'\n') {
+        run(rt, line, &mut room)?;
     }
     Ok(())
-}
-
-// Runs the case of the line.
-fn run_case<R: Print>(
-    rt: &R,
-    cases: For,
-    line: &[u8],
-    table: &mut [u8],
-    script: &mut [u8],
-    work: &mut [u32],
-    buffer: &mut [u8],
-    hex: &mut [u8],
-) -> io::Result<()> {
-    match cases {
-        For::Editor => runs::run_case(rt, line, table, script, work, buffer, hex),
-        For::Readers => sides::run_case(rt, line, table, buffer, hex),
-        For::Joining => journals::join_case(rt, line, table, script, buffer, hex),
-        For::Turning => journals::turn_case(rt, line, table, buffer, hex),
-    }
 }

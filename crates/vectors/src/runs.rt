@@ -3,42 +3,33 @@
 ghost use Rattle.std.specs.Prelude.{◌≡◌};
 ghost use Rattle.vectors.specs.Cases.{rest_after};
 
+use crate::Room;
 use crate::writing::{write_bytes, write_number};
 use cases::buffers::fill;
-use cases::fields::{bytes_at, field, number_at};
+use cases::fields::{bytes_at, number_at, through_field};
 use std::io;
 
 // Runs the case of the line.
-pub fn run_case<R: Print>(
-    rt: &R,
-    line: &[u8],
-    table: &mut [u8],
-    script: &mut [u8],
-    work: &mut [u32],
-    journal: &mut [u8],
-    hex: &mut [u8],
-) -> io::Result<()> {
-    let n = bytes_at(line, 0, table);
-    let m = bytes_at(line, 1, script);
-    let given = field(line, 4).end;
-    rt.write_all(&line[0..given])?;
+pub fn run_case<R: Print>(rt: &R, line: &[u8], lent: &mut Room) -> io::Result<()> {
+    let n = bytes_at(line, 0, &mut lent.first);
+    let m = bytes_at(line, 1, &mut lent.second);
+    rt.write_all(through_field(line, 4))?;
     let words = number_at(line, 3);
     let room = number_at(line, 4);
-    if work.len() < words {
-        return rt.write_all(b" no room\n");
-    }
-    if journal.len() < room {
+    if lent.work.len() < words || lent.buffer.len() < room {
         return rt.write_all(b" no room\n");
     }
     let budget = number_at(line, 2);
+    let work = &mut lent.work[..];
+    let buffer = &mut lent.buffer[..];
     run_one(
         rt,
-        &table[0..n],
-        &script[0..m],
+        &lent.first[..n],
+        &lent.second[..m],
         budget as u32,
-        &mut work[0..words],
-        &mut journal[0..room],
-        hex,
+        &mut work[..words],
+        &mut buffer[..room],
+        &mut lent.hex,
     )
 }
 
@@ -55,11 +46,9 @@ fn run_one<R: Print>(
     fill(journal);
     let mut answer = [0u64; 5];
     let number = zed::zed_run(table, script, budget, work, journal, &mut answer);
-    write_number(rt, answer[0])?;
-    write_number(rt, answer[1])?;
-    write_number(rt, answer[2])?;
-    write_number(rt, answer[3])?;
-    write_number(rt, answer[4])?;
+    for n in answer {
+        write_number(rt, n)?;
+    }
     write_bytes(rt, answer[3] as usize, journal, rest_after(number), hex)?;
     rt.write_all(b"\n")
 }
@@ -68,14 +57,8 @@ fn run_one<R: Print>(
 fn rest_after(number: u64) -> u8
     ensures { result ≡ rest_after number }
 {
-    if number == 0 {
-        return 0;
+    match number {
+        1..=9 | 33 | 34 => 7,
+        _ => 0,
     }
-    if number == 33 {
-        return 7;
-    }
-    if number == 34 {
-        return 7;
-    }
-    if number < 10 { 7 } else { 0 }
 }

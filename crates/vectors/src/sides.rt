@@ -3,9 +3,10 @@ ghost use Rattle.std.specs.Prelude.{◌≡◌};
 ghost use Rattle.definitions.specs.Listing.{number_of, length_of, bytes_of};
 ghost use Rattle.vectors.specs.Cases.{read_to};
 
+use crate::Room;
 use crate::writing::{write_bytes, write_number};
 use cases::buffers::fill;
-use cases::fields::{bytes_at, field, number_at};
+use cases::fields::{bytes_at, number_at, through_field};
 use std::io;
 
 #[derive(Clone, Copy)]
@@ -15,32 +16,21 @@ pub enum Side {
     Listing,
 }
 
-// Runs the case of the line.
-pub fn run_case<R: Print>(
-    rt: &R,
-    line: &[u8],
-    j: &mut [u8],
-    dest: &mut [u8],
-    hex: &mut [u8],
-) -> io::Result<()> {
-    let size = bytes_at(line, 0, j);
+// Runs the case of the line: each reader on its journal.
+pub fn run_case<R: Print>(rt: &R, line: &[u8], lent: &mut Room) -> io::Result<()> {
+    let size = bytes_at(line, 0, &mut lent.first);
     let room = number_at(line, 1);
-    let given = field(line, 1).end;
-    rt.write_all(&line[0..given])?;
-    run_readers(rt, &j[0..size], room, dest, hex)
-}
-
-// Runs each reader on a journal, and ends the line.
-fn run_readers<R: Print>(
-    rt: &R,
-    j: &[u8],
-    room: usize,
-    dest: &mut [u8],
-    hex: &mut [u8],
-) -> io::Result<()> {
-    run_reader(rt, Side::Old, j, room, dest, hex)?;
-    run_reader(rt, Side::New, j, room, dest, hex)?;
-    run_reader(rt, Side::Listing, j, room, dest, hex)?;
+    rt.write_all(through_field(line, 1))?;
+    for side in [Side::Old, Side::New, Side::Listing] {
+        run_reader(
+            rt,
+            side,
+            &lent.first[..size],
+            room,
+            &mut lent.buffer,
+            &mut lent.hex,
+        )?;
+    }
     rt.write_all(b"\n")
 }
 
@@ -58,7 +48,7 @@ fn run_reader<R: Print>(
     }
     fill(dest);
     let mut len: usize = 0;
-    let number = read(side, j, &mut dest[0..room], &mut len);
+    let number = read(side, j, &mut dest[..room], &mut len);
     write_number(rt, number as u64)?;
     write_number(rt, len as u64)?;
     write_bytes(rt, len, dest, 7, hex)

@@ -16,11 +16,11 @@ pub fn write_bytes<R: Print>(
     hex: &mut [u8],
 ) -> io::Result<()> {
     rt.write_all(b" ")?;
-    if buffer.len() < len {
+    let Some((written, after)) = buffer.split_at_checked(len) else {
         return rt.write_all(b"too long");
-    }
-    write_hex(rt, &buffer[0..len], hex)?;
-    if all_are(&buffer[len..], rest) {
+    };
+    write_hex(rt, written, hex)?;
+    if all_are(after, rest) {
         return Ok(());
     }
     rt.write_all(b" touched")

@@ -1,4 +1,5 @@
 -- WORD's string read up to a place: what the words then hold, and what is left. Assumes nothing.
+use Rattle.std.specs.Prelude.{Result, Ok, Err}
 use mathlib.Core.Path.{◌≡◌, refl, sym, ap, ◌∙◌}
 use mathlib.Core.Bool.{Bool, true, false, ◌&&◌, ◌||◌, or-false, or_assoc}
 use mathlib.Core.List.{List, [], ◌∷◌}
@@ -9,12 +10,12 @@ use lib.Seq.{sets, length-sets}
 use lib.Dec.{leb, ltb}
 use borrow.Author.Tests.{leb-true}
 use Rattle.definitions.specs.Bytes.{all_text}
-use Rattle.definitions.specs.WordSet.{Named, is_named, is_word_byte, FirstName, first_name, Names, all_names, misused_at, add_name, names_from}
+use Rattle.definitions.specs.WordSet.{Named, is_named, is_word_byte, FirstName, misused, first_name, Names, all_names, misused_at, add_name, names_from}
 use Rattle.wordset.specs.Sets.{in_set}
-use Rattle.wordset.specs.Decoding.{with_bytes, name_of, ThreePut, DecodedAs}
+use Rattle.wordset.specs.Decoding.{with_bytes, misused-here, name_of, ThreePut, DecodedAs}
 use Rattle.wordset.specs.Laws.{written-set}
 use Rattle.wordset.specs.declared.Name.{Name}
-use Rattle.wordset.specs.declared.Decoded.{Decoded}
+use Rattle.wordset.specs.declared.Misused.{Misused}
 use Rattle.wordset.proofs.Setting.{leb-iff, no_bytes, none-set, in_bytes, sets_over, put-bytes}
 use Rattle.wordset.proofs.Naming.{string, string-none, string-cons, string-on, text-drop, Bytes, Told, told, names-on, names-misused}
 
@@ -39,15 +40,15 @@ module _ (w : List ℕ) (k : ℕ) where
   left-on w' x more (misused_at p) (all_names ys) h = h
   left-on w' x more (misused_at p) (misused_at q) h = h
 
-  left-none : (ns : Names) → Left w k ns (all_names []) → DecodedAs ns w k Decoded.Set
+  left-none : (ns : Names) → Left w k ns (all_names []) → DecodedAs ns w k (Ok tt)
   unfolding Left DecodedAs is_word_byte
   left-none (all_names xs) h = (refl, λ i c. (sym (h c ∙ or-false (in_set w k c))) i)
   left-none (misused_at p) h = absurd h
 
-  left-misused : (q : ℕ) (ns : Names) → Left w k ns (misused_at q) → DecodedAs ns w k (Decoded.Misused q)
+  left-misused : (q : ℕ) (ns : Names) → Left w k ns (misused_at q) → DecodedAs ns w k (Err (misused-here q))
   unfolding Left DecodedAs
   left-misused q (all_names xs) h = absurd h
-  left-misused q (misused_at p) h = ap Decoded.Misused (sym h)
+  left-misused q (misused_at p) h = ap (λ p. Err (misused-here p)) (sym h)
 
 -- ---- read up to place i; w₀: the words before the first name
 
@@ -92,7 +93,7 @@ module _ (w₀ : List ℕ) (k : ℕ) (s : List ℕ) (from to : ℕ) (w : List �
   read_length = put-length w₀ k w read.put
 
   -- nothing is left
-  pub read_all : to ≤ i → DecodedAs (names_from from 0 (string s to from)) w k Decoded.Set
+  pub read_all : to ≤ i → DecodedAs (names_from from 0 (string s to from)) w k (Ok tt)
   unfolding names_from
   read_all end = left-none w k (names_from from 0 (string s to from)) (rw (string-none s to i end) at read.left)
 
@@ -100,59 +101,60 @@ module _ (w₀ : List ℕ) (k : ℕ) (s : List ℕ) (from to : ℕ) (w : List �
     abbrev first : FirstName
     first = first_name (get_or s i 0) (string s to (suc i))
 
-    told_at : (r : Name) → r ≡ name_of first → Told first (length (string s to (suc i))) r
-    told_at r e = rw e (told (get_or s i 0) (string s to (suc i)) (rw (string-cons s to i here fits) at read.text))
+    told_at : (r : Result Name Misused) → r ≡ name_of i first → Told i first (length (string s to (suc i))) r
+    told_at r e = rw e (told i (get_or s i 0) (string s to (suc i)) (rw (string-cons s to i here fits) at read.text))
+
+    first-room : length (string s to (suc i)) ≡ to - suc i
+    first-room = simp (length-take, length-drop) (omega arith)
 
     -- a `-` or `"` is misused, within the string
-    module _ (m : ℕ) (e : Name.Misused m ≡ name_of first) where
-      pub misused-within : i + m < to
+    module _ (m : Misused) (e : Err m ≡ name_of i first) where
+      pub read-misused : DecodedAs (names_from from 0 (string s to from)) w k (Err m)
       unfolding Told
-      misused-within =
-          let long : length (string s to (suc i)) ≡ to - suc i = simp (length-take, length-drop) (omega arith) in
-          let less = (told_at (Name.Misused m) e).1 in
-          omega arith
+      read-misused = go (told_at (Err m) e)
+        where
+          go : (n : ℕ) × (m.at ≡ i + n) × (first ≡ misused n) × (n ≤ length (string s to (suc i)))
+              → DecodedAs (names_from from 0 (string s to from)) w k (Err m)
+          go (n, place, is-misused, within) =
+              let is : names_from i 0 (string s to i) ≡ misused_at m.at =
+              ap (names_from i 0) (string-cons s to i here fits) ∙ names-misused i (get_or s i 0) (string s to (suc i)) n is-misused
+              ∙ ap misused_at (sym place) in
+              left-misused w k m.at (names_from from 0 (string s to from)) (rw is at read.left)
 
-      pub read-misused : DecodedAs (names_from from 0 (string s to from)) w k (Decoded.Misused (i + m))
+    module _ (n : Name) (e : Ok n ≡ name_of i first) where
+      bytes-at : Bytes first (length (string s to (suc i))) n.first n.last n.len
       unfolding Told
-      read-misused =
-          let is : names_from i 0 (string s to i) ≡ misused_at (i + m) =
-          ap (names_from i 0) (string-cons s to i here fits) ∙ names-misused i (get_or s i 0) (string s to (suc i)) m (told_at (Name.Misused m) e).0 in
-          left-misused w k (i + m) (names_from from 0 (string s to from)) (rw is at read.left)
-
-    module _ (x y n : ℕ) (e : Name.Bytes x y n ≡ name_of first) where
-      bytes-at : Bytes first (length (string s to (suc i))) x y n
-      unfolding Told
-      bytes-at = told_at (Name.Bytes x y n) e
+      bytes-at = told_at (Ok n) e
 
       -- it names bytes of text, and lies within the string
-      pub bytes-text : (32 ≤ x) × (y < 128)
+      pub bytes-text : (32 ≤ n.first) × (n.last < 128)
       bytes-text = (bytes-at.low, bytes-at.high)
 
-      pub bytes-within : (i < i + n) × (i + n ≤ to)
+      pub bytes-within : (i < i + n.len) × (i + n.len ≤ to)
       bytes-within = go bytes-at
         where
-          go : Bytes first (length (string s to (suc i))) x y n → (i < i + n) × (i + n ≤ to)
-          go b = let long : length (string s to (suc i)) ≡ to - suc i = simp (length-take, length-drop) (omega arith) in omega arith
+          go : Bytes first (length (string s to (suc i))) n.first n.last n.len → (i < i + n.len) × (i + n.len ≤ to)
+          go b = let long = first-room in omega arith
 
       -- a name more
-      pub read-on : (w' : List ℕ) → w' ≡ with_bytes w k x (suc y - x) → ReadTo w₀ k s from to w' (i + n)
+      pub read-on : (w' : List ℕ) → w' ≡ with_bytes w k n.first (suc n.last - n.first) → ReadTo w₀ k s from to w' (i + n.len)
       read-on w' is = go bytes-at
         where
-          go : Bytes first (length (string s to (suc i))) x y n → ReadTo w₀ k s from to w' (i + n)
+          go : Bytes first (length (string s to (suc i))) n.first n.last n.len → ReadTo w₀ k s from to w' (i + n.len)
           go b =
-              let long : length (string s to (suc i)) ≡ to - suc i = simp (length-take, length-drop) (omega arith) in
-              let n-is : n ≡ suc b.more = b.long in
-              let place : i + n ≡ i + suc b.more = omega arith in
-              let next : suc i + b.more ≡ i + n = omega arith in
-              let on : names_from i 0 (string s to i) ≡ add_name b.named (names_from (i + n) 0 (string s to (i + n))) =
+              let long = first-room in
+              let n-is : n.len ≡ suc b.more = b.long in
+              let place : i + n.len ≡ i + suc b.more = omega arith in
+              let next : suc i + b.more ≡ i + n.len = omega arith in
+              let on : names_from i 0 (string s to i) ≡ add_name b.named (names_from (i + n.len) 0 (string s to (i + n.len))) =
               ap (names_from i 0) (string-cons s to i here fits) ∙ names-on i (get_or s i 0) (string s to (suc i)) b.named b.more b.is
               ∙ rw (← place, string-on s to (suc i) b.more, next) in
               let more : (c : ℕ) → in_set w' k c ≡ (in_set w k c || is_named b.named c) =
-              λ c. rw is (in_bytes k c (suc y - x) w x (rw read_length read.room) b.low (omega arith) ∙ ap (λ (t : Bool). in_set w k c || t) (counted x y c ∙ sym (b.same c))) in
+              λ c. rw is (in_bytes k c (suc n.last - n.first) w n.first (rw read_length read.room) b.low (omega arith) ∙ ap (λ (t : Bool). in_set w k c || t) (counted n.first n.last c ∙ sym (b.same c))) in
               record {
                 within = omega arith;
                 room = read.room;
-                put = rw is (put-bytes w₀ k (suc y - x) w x read.room b.low (omega arith) read.put);
-                text = rw (string-on s to i n) at (text-drop n (string s to i) read.text);
-                left = left-on w k w' b.named more (names_from from 0 (string s to from)) (names_from (i + n) 0 (string s to (i + n))) (rw on at read.left);
+                put = rw is (put-bytes w₀ k (suc n.last - n.first) w n.first read.room b.low (omega arith) read.put);
+                text = rw (string-on s to i n.len) at (text-drop n.len (string s to i) read.text);
+                left = left-on w k w' b.named more (names_from from 0 (string s to from)) (names_from (i + n.len) 0 (string s to (i + n.len))) (rw on at read.left);
               }

@@ -1,13 +1,15 @@
 -- Sets in three words: what words hold that are written, and what a set holds with bytes added to it. Assumes nothing.
 use mathlib.Core.Path.{◌≡◌, refl, sym, ap, ap₂, ◌∙◌}
 use mathlib.Core.Bool.{Bool, true, false, cond, not, ◌&&◌, ◌||◌, or-false, or_assoc, and-false, false≢true}
-use mathlib.Core.List.{List, [], ◌∷◌}
+use mathlib.Core.List.{List, [], ◌∷◌, append_assoc}
 use Prim.Native.Nat.{ℕ, zero, suc, ◌+◌, ◌-◌, ◌/◌, ◌%◌, ◌^◌, ◌≤◌, ◌<◌}
 use native.Mathlib.Nat.{not-suc-le-zero, add-zero}
 use native.Mathlib.Numerals.{add-one}
 use native.Mathlib.Omega.{arith}
-use lib.ListN.{length, get_or, set, length-set}
-use lib.Seq.{sets, set-set, set_comm, get_or-set_same, get_or-set_other}
+use lib.ListN.{length, take, drop, get_or, set, length-set}
+use borrow.Rule.Slice.PartMut.{put_mid}
+use Rattle.std.proofs.lemmas.List.Edits.{sets-eq}
+use lib.Seq.{sets, drop-drop, set-set, set_comm, get_or-set_same, get_or-set_other}
 use lib.Bits.{bit_or, or_lt}
 use lib.Pow.{pow-lt}
 use lib.Dec.{eqb, leb, ltb}
@@ -187,6 +189,11 @@ module _ (w : List ℕ) (k b y : ℕ) where
       rw none
 
 -- ---- which words are written
+
+-- a part that is copied over
+pub three-put : (w : List ℕ) (k n : ℕ) (vs us : List ℕ) → length vs ≡ 3 → k + 3 ≤ length w → n ≡ 3 → us ≡ vs → put_mid k n w us ≡ sets w k vs
+three-put w k n vs us three fits is same =
+    rw (same, is, sets-eq vs w k (omega arith), three) (sym (append_assoc (take k w) vs (drop (k + 3) w) ∙ rw (drop-drop 3 k w)))
 
 pub set_below : (vs l : List ℕ) (i j v : ℕ) → j < i → set (sets l i vs) j v ≡ sets (set l j v) i vs
 set_below [] l i j v h = refl

@@ -8,7 +8,8 @@ ghost use Rattle.zed.specs.Values.{values, run_of};
 ghost use Rattle.definitions.specs.Listing.{number_of, length_of, bytes_of, old_side_to, new_side_to, listing_to};
 ghost use Rattle.definitions.specs.Joining.{join_to, turn_to};
 
-use journal::Reading;
+use journal::Refusal;
+use run::values::Values;
 
 // Runs the script on the table; the journal goes into `journal`, and number, steps, furthest line, the journal's length and place into `answer`.
 pub fn zed_run(
@@ -24,7 +25,7 @@ pub fn zed_run(
     ensures journal { journal.new ≡ buffer_after journal.old (run_of table.now script.now budget work.old journal.old) }
 {
     let a = run::run(table, script, budget, work, journal);
-    let v = run::values::of(a);
+    let v = Values::from(a);
     let number = v.number as u64;
     let steps = v.steps as u64;
     let furthest = v.furthest as u64;
@@ -80,7 +81,7 @@ pub fn zed_turn(j: &[u8], dest: &mut [u8], len: &mut usize) -> u32
 }
 
 // The number of a reader's answer; its length goes into `len`.
-fn answer(r: Reading, len: &mut usize) -> u32
+fn answer(r: Result<usize, Refusal>, len: &mut usize) -> u32
     ensures value { result ≡ reading_number r }
     ensures len_after { len.new ≡ reading_length r }
 {

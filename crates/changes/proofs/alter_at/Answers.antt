@@ -12,19 +12,19 @@ pub splice_current-requires : goal.splice_current-requires
 splice_current-requires c = let w = c.requires in
     (has-less _ (omega arith) w.0, omega arith, w.1, whole-text _ w.2)
 
-pub returns-then-kind-eq0 : goal.returns-then-kind-eq0
-returns-then-kind-eq0 c = altered-after _ _ _ _ _ _ _ _ c.point_after-q.ensures c.if-kind-eq0.true c.splice_current.ensures
+pub returns-in-After : goal.returns-in-After
+returns-in-After c = altered-after _ _ _ _ _ _ _ _ c.point_after-q.ensures c.in-After.is c.splice_current.ensures
 
-pub splice_current-requires-then-kind-eq1 : goal.splice_current-requires-then-kind-eq1
-splice_current-requires-then-kind-eq1 c = let w = c.requires in
+pub splice_current-requires-in-Before : goal.splice_current-requires-in-Before
+splice_current-requires-in-Before c = let w = c.requires in
     (has-less _ (omega arith) w.0, omega arith, w.1, whole-text _ w.2)
 
-pub returns-then-kind-eq1 : goal.returns-then-kind-eq1
-returns-then-kind-eq1 c = altered-before _ _ _ _ _ _ _ _ c.point_after-q.ensures c.if-kind-eq1.true c.splice_current-then-kind-eq1.ensures
+pub returns-in-Before : goal.returns-in-Before
+returns-in-Before c = altered-before _ _ _ _ _ _ _ _ c.point_after-q.ensures c.in-Before.is c.splice_current-in-Before.ensures
 
-pub splice_current-requires-2 : goal.splice_current-requires-2
-splice_current-requires-2 c = let w = c.requires in
+pub splice_current-requires-in-Exchange : goal.splice_current-requires-in-Exchange
+splice_current-requires-in-Exchange c = let w = c.requires in
     (has-less _ (omega arith) w.0, omega arith, w.1, whole-text _ w.2)
 
-pub returns : goal.returns
-returns c = altered-exchange _ _ _ _ _ _ _ _ c.point_after-q.ensures c.if-kind-eq0.false c.if-kind-eq1.false c.splice_current-2.ensures
+pub returns-in-Exchange : goal.returns-in-Exchange
+returns-in-Exchange c = altered-exchange _ _ _ _ _ _ _ _ c.point_after-q.ensures c.in-Exchange.is c.splice_current-in-Exchange.ensures

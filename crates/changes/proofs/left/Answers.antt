@@ -1,3 +1,5 @@
+use Rattle.std.specs.Prelude.{Ok}
+use mathlib.Core.Path.{ap}
 use Rattle.changes.proofs.Commands.{left-eof, left-start, left-on}
 use Rattle.changes.proofs.left.Goals as goal
 
@@ -8,4 +10,4 @@ pub returns-then-st-eq0 : goal.returns-then-st-eq0
 returns-then-st-eq0 c = λ x e t h. left-start x e t h c.if-at-j.false c.if-st-eq0.true
 
 pub returns : goal.returns
-returns c = λ x e t h. left-on x e t h c.if-at-j.false c.if-st-eq0.false _ c.point_to.ensures
+returns c = λ x e t h. left-on x e t h c.if-at-j.false c.if-st-eq0.false _ (ap Ok c.point_to.ensures)

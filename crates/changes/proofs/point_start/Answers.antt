@@ -1,3 +1,5 @@
+use Rattle.std.specs.Prelude.{Ok}
+use mathlib.Core.Path.{ap}
 use Rattle.changes.proofs.Commands.{start-eof, start-on}
 use Rattle.changes.proofs.point_start.Goals as goal
 
@@ -5,4 +7,4 @@ pub returns-then-at-j : goal.returns-then-at-j
 returns-then-at-j c = λ x e t h. start-eof x e t h c.if-at-j.true
 
 pub returns : goal.returns
-returns c = λ x e t h. start-on x e t h c.if-at-j.false _ c.point_to.ensures
+returns c = λ x e t h. start-on x e t h c.if-at-j.false _ (ap Ok c.point_to.ensures)

@@ -5,10 +5,10 @@ use Rattle.control.proofs.Moving.{looks-as}
 use Rattle.control.proofs.look.Goals as goal
 
 pub kind_of-requires : goal.kind_of-requires
-kind_of-requires c = let p = c.requires in in-search p.0.0 _ p.0.1 _ p.0.2 p.1 p.0.3
+kind_of-requires c = let p = c.requires.0 in in-search p.0 _ p.1 _ _ _ p.2 p.3
 
 pub place_of-requires : goal.place_of-requires
-place_of-requires c = let p = c.requires in in-search p.0.0 _ p.0.1 _ p.0.2 p.1 p.0.3
+place_of-requires c = let p = c.requires.0 in in-search p.0 _ p.1 _ _ _ p.2 p.3
 
 pub returns : goal.returns
-returns c = (look-shows _ _ c.requires.1 _ (c.look_of.ensures ∙ ap look_by c.kind_of.ensures) _ c.place_of.ensures _ c.stand-yes.ensures, looks-as _ _ _ (c.look_of.ensures ∙ ap look_by c.kind_of.ensures) _ c.place_of.ensures _ c.stand-yes.ensures)
+returns c = ((λ s end from h. look-shows s _ end _ _ _ _ (c.look_of.ensures ∙ ap look_by c.kind_of.ensures) _ c.place_of.ensures from h), looks-as _ _ _ _ _ (c.look_of.ensures ∙ ap look_by c.kind_of.ensures) _ c.place_of.ensures)

@@ -7,5 +7,5 @@ use Rattle.gap.proofs.shift_up.Goals as goal
 pub returns : goal.returns
 returns c =
     let a = c.args in
-    let k = c.lesser-k in
-    c.clear.ensures ∙ rw c.copy_up.ensures (up-copied a.j.now a.lo a.f a.b k.result (omega arith) (omega arith) (omega arith) c.requires.3 k.ensures)
+    let k = c.min-k in
+    c.clear.ensures ∙ rw c.copy_within.ensures.after (up-copied a.j.now a.lo a.f a.b k.result (omega arith) (omega arith) (omega arith) c.requires.3 k.ensures)

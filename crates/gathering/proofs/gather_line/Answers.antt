@@ -1,13 +1,23 @@
 -- `gathering::gather_line` meets its contract. Assumes nothing.
-use native.Mathlib.Omega.{arith}
+use Rattle.std.proofs.Common.{◌≡◌, ◌<◌, length, get_or, rules}
 use Rattle.gathering.proofs.Passes.{none-gathered, minus-gathered, other-gathered}
 use Rattle.gathering.proofs.gather_line.Goals as goal
 
-pub returns-then-s-eq0 : goal.returns-then-s-eq0
-returns-then-s-eq0 c = none-gathered c.args.s.now (omega arith)
+pub returns-in-Some-eq45 : goal.returns-in-Some-eq45
+returns-in-Some-eq45 c =
+    let s = c.args.s.now in
+    let some : 0 < length s = search rules in
+    let minus : get_or s 0 0 ≡ 45 = search rules in
+    minus-gathered s some c.requires minus
 
-pub returns-then-s-eq45 : goal.returns-then-s-eq45
-returns-then-s-eq45 c = minus-gathered c.args.s.now (omega arith) c.requires c.if-s-eq45.true
+pub returns-in_default : goal.returns-in_default
+returns-in_default c =
+    let s = c.args.s.now in
+    let some : 0 < length s = search rules in
+    let other : get_or s 0 0 ≡ 45 → ⊥ = search rules in
+    other-gathered s some c.requires other
 
-pub returns : goal.returns
-returns c = other-gathered c.args.s.now (omega arith) c.requires c.if-s-eq45.false
+pub returns-in_default-2 : goal.returns-in_default-2
+returns-in_default-2 c =
+    let none : length c.args.s.now ≡ 0 = search rules in
+    none-gathered c.args.s.now none

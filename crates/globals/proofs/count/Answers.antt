@@ -14,4 +14,4 @@ loop-n-preserved c = counted-one _ _ c.loop-n.invariant (omega arith) c.if-w-top
 
 pub returns : goal.returns
 returns c = let l = c.loop-n in
-    (counted-all _ _ l.invariant (omega arith), l.invariant.few)
+    (omega (arith, l.invariant.few, counted-all _ _ l.invariant (omega arith)), omega arith)

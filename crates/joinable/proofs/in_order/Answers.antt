@@ -1,45 +1,30 @@
 -- `joinable::in_order` meets its contract. The loop's invariant is `Ordered`. Assumes nothing.
 use mathlib.Core.Path.{sym, ap, ◌∙◌}
 use mathlib.Core.Bool.{◌&&◌}
-use native.Mathlib.Omega.{arith}
-use Rattle.journal.proofs.Here.{ends-after}
-use Rattle.joinable.proofs.Order.{ordered-start, ordered-nowhere, ordered_end, ordered-wrong, ordered-next}
+use Rattle.joinable.proofs.Order.{ordered-start, ordered_end, ordered-wrong, ordered-next}
 use Rattle.joinable.proofs.in_order.Goals as goal
 
-pub loop-at-init : goal.loop-at-init
-loop-at-init c = (omega arith, ordered-start c.args.j.now c.requires.0 c.requires.1)
-
-pub returns-in_default : goal.returns-in_default
-returns-in_default c =
-    let l = c.loop-at in
-    let j = c.args.j.now in
-    absurd (ordered-nowhere j l.at l.came l.invariant.1 (omega arith) (sym c.record_at-found.ensures ∙ c.in_default.is))
+pub loop-x-init : goal.loop-x-init
+loop-x-init c =
+    let f = c.from_start-x-items in
+    rw c.into_iter-x-iterator.ensures.into_iter_gives (f.ensures.bytes, rw f.ensures.start (ordered-start c.args.j.now c.requires.0 c.requires.1))
 
 pub returns-then-came-is_left : goal.returns-then-came-is_left
 returns-then-came-is_left c =
-    let l = c.loop-at in
-    ordered-wrong c.args.j.now l.at l.came l.invariant.1 c.in-Found.x (sym c.record_at-found.ensures ∙ c.in-Found.is)
+    let l = c.loop-x in
+    ordered-wrong c.args.j.now l.x-iterator.at l.came l.invariant.1 c.in-Some.x (rw l.invariant.0 at c.in-Some.ensures.steps.0)
     (sym (ap (λ t. l.came && t) c.is_left.ensures) ∙ c.if-came-is_left.true)
 
-pub overflow_add-at : goal.overflow_add-at
-overflow_add-at c =
-    omega (arith, ends-after c.args.j.now c.loop-at.at c.in-Found.x (sym c.record_at-found.ensures ∙ c.in-Found.is))
-
-pub loop-at-smaller : goal.loop-at-smaller
-loop-at-smaller c =
-    omega (arith, ends-after c.args.j.now c.loop-at.at c.in-Found.x (sym c.record_at-found.ensures ∙ c.in-Found.is))
-
-pub loop-at-preserved : goal.loop-at-preserved
-loop-at-preserved c =
-    let l = c.loop-at in
-    let j = c.args.j.now in
-    let e = sym c.record_at-found.ensures ∙ c.in-Found.is in (
-      omega (arith, ends-after j l.at c.in-Found.x e),
-      ordered-next j l.at l.came l.invariant.1 c.in-Found.x e
-          (sym (ap (λ t. l.came && t) c.is_left.ensures) ∙ c.if-came-is_left.false) c.came_after-came.result c.came_after-came.ensures,
+pub loop-x-preserved : goal.loop-x-preserved
+loop-x-preserved c =
+    let l = c.loop-x in
+    let n = c.in-Some.ensures.steps in (
+      ap (λ s. s.now) n.1 ∙ l.invariant.0,
+      ordered-next c.args.j.now l.x-iterator.at l.came l.invariant.1 c.in-Some.x (rw l.invariant.0 at n.0)
+          (sym (ap (λ t. l.came && t) c.is_left.ensures) ∙ c.if-came-is_left.false) _ c.came_after-came.result n.2 c.came_after-came.ensures,
     )
 
 pub returns : goal.returns
 returns c =
-    let l = c.loop-at in
-    ordered_end c.args.j.now l.at l.came l.invariant.1 (omega arith)
+    let l = c.loop-x in
+    ordered_end c.args.j.now l.x-iterator.at l.came l.invariant.1 (rw l.invariant.0 at c.in-None.ensures.steps.0)

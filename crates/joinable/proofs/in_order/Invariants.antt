@@ -1,11 +1,7 @@
 -- `joinable::in_order` meets its contract. The loop's invariant is `Ordered`. Assumes nothing.
-use Prim.Native.Nat.{◌-◌, ◌≤◌}
-use lib.ListN.{length}
+use mathlib.Core.Path.{◌≡◌}
 use Rattle.joinable.proofs.Order.{Ordered}
 use Rattle.joinable.proofs.in_order.Given as goal
 
-abbrev pub invariant-loop-at : goal.invariant-loop-at
-invariant-loop-at l = (l.at ≤ length l.j) × Ordered l.j l.at l.came
-
-abbrev pub decreases-loop-at : goal.decreases-loop-at
-decreases-loop-at l = length l.j - l.at
+abbrev pub invariant-loop-x : goal.invariant-loop-x
+invariant-loop-x l = (l.x-iterator.j.now ≡ l.j) × Ordered l.j l.x-iterator.at l.came

@@ -8,6 +8,3 @@ use Rattle.leads.proofs.first_lead.Given as goal
 
 abbrev pub invariant-loop-b : goal.invariant-loop-b
 invariant-loop-b l = (l.b ≤ 128) × ((p : Pattern) → Reads l.pattern p → first_lead p 32 96 ≡ first_lead p l.b (128 - l.b))
-
-abbrev pub decreases-loop-b : goal.decreases-loop-b
-decreases-loop-b l = 128 - l.b

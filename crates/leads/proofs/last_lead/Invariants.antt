@@ -6,8 +6,5 @@ use Rattle.marks.specs.Sweeping.{Reads}
 use Rattle.leads.specs.Leading.{last_lead}
 use Rattle.leads.proofs.last_lead.Given as goal
 
-abbrev pub invariant-loop-n : goal.invariant-loop-n
-invariant-loop-n l = (l.n ≤ 128) × ((p : Pattern) → Reads l.pattern p → last_lead p 128 ≡ last_lead p l.n)
-
-abbrev pub decreases-loop-n : goal.decreases-loop-n
-decreases-loop-n l = l.n
+abbrev pub invariant-loop-b : goal.invariant-loop-b
+invariant-loop-b l = (l.b ≤ 128) × ((p : Pattern) → Reads l.pattern p → last_lead p 128 ≡ last_lead p l.b)

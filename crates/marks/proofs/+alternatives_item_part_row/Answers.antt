@@ -92,7 +92,7 @@ pub item-returns : goal.item-returns
 unfolding never
 item-returns t c =
     let there = sym c.is_next.ensures ∙ c.if-not-is_next.false in
-    many-flows there (mark-inside there c.requires) c.least-again.ensures c.part-body.ensures _ c.least.ensures
+    many-flows there (mark-inside there c.requires) c.min-again.ensures c.part-body.ensures _ c.min.ensures
 
 pub part-single-requires : goal.part-single-requires
 part-single-requires t c = (c.requires, sym c.is_next.ensures ∙ c.if-not-is_next.true)

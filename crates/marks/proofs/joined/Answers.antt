@@ -8,4 +8,4 @@ pub returns : goal.returns
 unfolding both
 returns c =
     let h = c.args.h in
-    ap₂ {C = Flow} (λ v w. record { at = h.at; slot = h.slot; old = v; new = w }) c.least.ensures c.least-2.ensures
+    ap₂ {C = Flow} (λ v w. record { at = h.at; slot = h.slot; old = v; new = w }) c.min.ensures c.min-2.ensures

@@ -34,7 +34,4 @@ overflow_add-result-2 c =
 pub returns : goal.returns
 returns c =
     let a = c.args in
-    let o = c.old_span in
-    let n = c.new_span in
-    let t = c.texts_of in
-    met-line a.j.now a.k.now a.x a.y o.result n.result o.ensures n.ensures t.result t.ensures (sym c.is_middle.ensures ∙ c.if-not-is_middle.false)
+    met-line a.j.now a.k.now a.x a.y _ _ c.old_span.ensures c.new_span.ensures (sym c.is_middle.ensures ∙ c.if-not-is_middle.false)

@@ -4,6 +4,7 @@ use native.Mathlib.Omega.{arith}
 use Rattle.patterns.proofs.Places.{next-within}
 use Rattle.needs.proofs.Looping.{row-there, alternatives-begin, alternatives-end, another-there, another-past, alternatives-on, row-begins, row_ends, item-there, item-past, row_on}
 use Rattle.needs.proofs.Parts.{once-there, once-needs, body-there, many-needs, inner-there, close-inside, bracket-needs}
+use Rattle.needs.proofs.Joining.{or-later}
 use Rattle.marks.proofs.Places.{ends-inside}
 use Rattle.needs.proofs.+alternatives_item_part_row.Goals as goal
 
@@ -101,7 +102,7 @@ pub row-loop-next-preserved : goal.row-loop-next-preserved
 row-loop-next-preserved t c =
     let loop = c.loop-next in
     let more = sym c.ends_row.ensures ∙ c.loop-next-test.true in
-    row_on loop.invariant more c.item-next.ensures c.requires _ c.later_byte.ensures
+    row_on loop.invariant more c.item-next.ensures c.requires _ (c.or.ensures ∙ or-later c.loop-next.g.byte c.item-next.result.byte)
 
 pub row-returns : goal.row-returns
 row-returns t c = row_ends c.loop-next.invariant (sym c.ends_row.ensures ∙ c.loop-next-test.false)

@@ -17,11 +17,11 @@ decreases-part l = 4 * (length l.s.now - l.at)
 abbrev pub decreases-row : goal.decreases-row
 decreases-row l = 4 * (length l.s.now - l.at) + 2
 
-abbrev pub invariant-alternatives-loop-next : goal.invariant-alternatives-loop-next
-invariant-alternatives-loop-next l = Onward l.s 4 (λ n c. read_alternatives n l.deep c) l.at l.i l.blank
+abbrev pub invariant-alternatives-loop-one : goal.invariant-alternatives-loop-one
+invariant-alternatives-loop-one l = Onward l.s 4 (λ n c. read_alternatives n l.deep c) l.at l.i l.blank
 
-abbrev pub decreases-alternatives-loop-next : goal.decreases-alternatives-loop-next
-decreases-alternatives-loop-next l = length l.s - l.i
+abbrev pub decreases-alternatives-loop-one : goal.decreases-alternatives-loop-one
+decreases-alternatives-loop-one l = length l.s - l.i
 
 abbrev pub invariant-row-loop-at : goal.invariant-row-loop-at
 invariant-row-loop-at l = Onward l.s 3 (λ n c. read_row n l.deep c) l.at l.i l.blank

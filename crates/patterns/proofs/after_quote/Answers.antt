@@ -7,4 +7,4 @@ pub returns-then-at-s : goal.returns-then-at-s
 returns-then-at-s c = quote-none _ _ (omega arith)
 
 pub returns : goal.returns
-returns c = quote-some _ _ (omega arith)
+returns c = rw c.solid.ensures (quote-some _ _ (omega arith))

@@ -11,10 +11,10 @@ returns-then-not-is_next c = not-closed _ _ (sym c.is_next.ensures ∙ c.if-not-
 pub returns-then-blank : goal.returns-then-blank
 returns-then-blank c = closed-blank _ _ (sym c.is_next.ensures ∙ c.if-not-is_next.false) c.if-blank.true
 
-pub overflow_add-result : goal.overflow_add-result
-overflow_add-result c =
+pub overflow_add-at : goal.overflow_add-at
+overflow_add-at c =
     let within = next-within _ _ 41 (omega arith) (sym c.is_next.ensures ∙ c.if-not-is_next.false) in
     omega (arith, within)
 
 pub returns : goal.returns
-returns c = closed _ _ (sym c.is_next.ensures ∙ c.if-not-is_next.false) c.if-blank.false
+returns c = rw c.solid.ensures (closed _ _ (sym c.is_next.ensures ∙ c.if-not-is_next.false) c.if-blank.false)

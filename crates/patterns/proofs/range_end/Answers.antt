@@ -8,7 +8,7 @@ pub returns-then-s-at : goal.returns-then-s-at
 returns-then-s-at c = range_none _ _ _ (omega arith)
 
 pub returns-then-is_range : goal.returns-then-is_range
-returns-then-is_range c = range-is _ _ _ (omega arith) (sym c.is_range.ensures ∙ c.if-is_range.true)
+returns-then-is_range c = rw c.solid.ensures (range-is _ _ _ (omega arith) (sym c.is_range.ensures ∙ c.if-is_range.true))
 
 pub returns : goal.returns
 returns c = range_other _ _ _ (omega arith) (sym c.is_range.ensures ∙ c.if-is_range.false)

@@ -18,8 +18,8 @@ returns-then-to-st c =
     let far = c.if-to-st.true in
     λ e d t stands h. nothing_read _ d _ e t h (omega (arith, c.lesser-to.ensures))
 
-pub read_lines-r-requires : goal.read_lines-r-requires
-read_lines-r-requires c =
+pub read_lines-requires : goal.read_lines-requires
+read_lines-requires c =
     let less = c.if-to-st.false in
     let w = first-asks c.args.a _ (omega (arith, c.lesser-to.ensures)) c.to_source-first.ensures c.lesser-last.ensures c.requires.1.0 c.requires.1.1 c.requires.1.2 in
     (c.requires.0, w.0, w.1)
@@ -31,37 +31,37 @@ come_back-requires c =
       walks = c.to_source-first.ensures;
       same = c.to_source-first.auto.j;
       last_is = c.lesser-last.ensures;
-      reads = c.read_lines-r.ensures;
-    }) c.in-On.is c.requires.0.0 c.requires.1.0 c.requires.1.1 c.requires.0.1 c.requires.1.2
+      reads = c.read_lines.ensures;
+    }) c.in-Ok.is c.requires.0.0 c.requires.1.0 c.requires.1.1 c.requires.0.1 c.requires.1.2
 
-pub come_back-requires-in-Stop : goal.come_back-requires-in-Stop
-come_back-requires-in-Stop c =
+pub come_back-requires-in-Err : goal.come_back-requires-in-Err
+come_back-requires-in-Err c =
     stop-asks (record {
       less = let z = c.if-to-st.false in omega (arith, c.lesser-to.ensures);
       walks = c.to_source-first.ensures;
       same = c.to_source-first.auto.j;
       last_is = c.lesser-last.ensures;
-      reads = c.read_lines-r.ensures;
-    }) _ c.in-Stop.is c.requires.0.0 c.requires.1.0 c.requires.1.1 c.requires.0.1 c.requires.1.2
+      reads = c.read_lines.ensures;
+    }) _ c.in-Err.is c.requires.0.0 c.requires.1.0 c.requires.1.1 c.requires.0.1 c.requires.1.2
 
-pub returns-in-On : goal.returns-in-On
-returns-in-On c =
+pub returns-in-Ok : goal.returns-in-Ok
+returns-in-Ok c =
     let b = c.come_back.ensures in
     came-back (record {
       less = let z = c.if-to-st.false in omega (arith, c.lesser-to.ensures);
       walks = c.to_source-first.ensures;
       same = c.to_source-first.auto.j;
       last_is = c.lesser-last.ensures;
-      reads = c.read_lines-r.ensures;
-    }) b.0 b.2 c.in-On.is (b.1 ∙ c.lesser-to.ensures)
+      reads = c.read_lines.ensures;
+    }) b.0 b.2 c.in-Ok.is (b.1 ∙ c.lesser-to.ensures)
 
-pub returns-in-Stop : goal.returns-in-Stop
-returns-in-Stop c =
-    let b = c.come_back-in-Stop.ensures in
+pub returns-in-Err : goal.returns-in-Err
+returns-in-Err c =
+    let b = c.come_back-in-Err.ensures in
     came-stopped (record {
       less = let z = c.if-to-st.false in omega (arith, c.lesser-to.ensures);
       walks = c.to_source-first.ensures;
       same = c.to_source-first.auto.j;
       last_is = c.lesser-last.ensures;
-      reads = c.read_lines-r.ensures;
-    }) b.0 b.2 _ c.in-Stop.is b.1
+      reads = c.read_lines.ensures;
+    }) b.0 b.2 _ c.in-Err.is b.1

@@ -1,14 +1,7 @@
--- `rows::by_bytes` meets its contract. The loop's invariant: the next such line from i on is the one from `at` on. Assumes nothing.
-use mathlib.Core.Path.{◌≡◌}
-use mathlib.Core.Bool.{false}
-use Prim.Native.Nat.{◌-◌, ◌≤◌}
-use lib.ListN.{length}
-use lib.Dec.{eqb}
+-- `rows::by_bytes`: the next such line after the byte before place i is the one after place `at`.
+use Rattle.std.proofs.Common.{◌≡◌, ◌-◌, ◌≤◌, false, length, eqb}
 use Rattle.rows.proofs.Places.{next_from}
 use Rattle.rows.proofs.by_bytes.Given as goal
 
 abbrev pub invariant-loop-i : goal.invariant-loop-i
-invariant-loop-i l = (l.i ≤ length l.s) × (next_from (λ b. eqb b l.c) false l.s l.at ≡ next_from (λ b. eqb b l.c) false l.s l.i)
-
-abbrev pub decreases-loop-i : goal.decreases-loop-i
-decreases-loop-i l = length l.s - l.i
+invariant-loop-i l = (l.i - 1 ≤ length l.s) × (next_from (λ b. eqb b l.c) false l.s l.at ≡ next_from (λ b. eqb b l.c) false l.s (l.i - 1))

@@ -4,4 +4,4 @@ use Rattle.run.proofs.refused.Goals as goal
 
 pub returns : goal.returns
 unfolding refused_by
-returns c = rw (c.number.ensures, c.place.ensures)
+returns c = rw c.from.ensures

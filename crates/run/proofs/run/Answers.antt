@@ -1,10 +1,8 @@
 -- `run::run` meets its contract. Assumes nothing.
 use mathlib.Core.Path.{sym, ◌∙◌}
 use native.Mathlib.Omega.{arith}
-use Rattle.answers.proofs.Taking.{no-done}
 use Rattle.strings.proofs.Lines.{script-short}
 use Rattle.run.proofs.Whole.{not-script, small-work, runnable, read-items, refused-script}
-use borrow.Enum.Refused.{opened}
 use Rattle.run.proofs.run.Goals as goal
 
 pub returns-then-not-is_script : goal.returns-then-not-is_script
@@ -16,20 +14,18 @@ overflow_add-script c = omega (arith, script-short _ (sym c.is_script.ensures �
 pub returns-then-work-script : goal.returns-then-work-script
 returns-then-work-script c = small-work _ _ _ _ _ (sym c.is_script.ensures ∙ c.if-not-is_script.false) c.if-work-script.true
 
-pub read_script-decoded-requires : goal.read_script-decoded-requires
-read_script-decoded-requires c = ((sym c.is_script.ensures ∙ c.if-not-is_script.false), c.if-work-script.false)
+pub read_script-requires : goal.read_script-requires
+read_script-requires c = ((sym c.is_script.ensures ∙ c.if-not-is_script.false), c.if-work-script.false)
 
-pub returns-in_default : goal.returns-in_default
-returns-in_default c =
-    refused-script _ _ _ _ _ (sym c.is_script.ensures ∙ c.if-not-is_script.false) c.if-work-script.false _ (no-done c.read_script-decoded.ensures (opened c.in_default.in_default-own.keys2)) _
-    c.refused.ensures
+pub returns-in-Err : goal.returns-in-Err
+returns-in-Err c = refused-script _ _ _ _ _ (sym c.is_script.ensures ∙ c.if-not-is_script.false) c.if-work-script.false _ c.in-Err.ensures _ c.refused.ensures
 
 pub run_decoded-requires : goal.run_decoded-requires
 run_decoded-requires c =
-    let z = runnable _ _ _ _ (sym c.is_script.ensures ∙ c.if-not-is_script.false) c.read_script-decoded.ensures c.in-Done.is in
+    let z = runnable _ _ _ (sym c.is_script.ensures ∙ c.if-not-is_script.false) c.in-Ok.ensures in
     ((z.0, z.2), omega arith)
 
-pub returns : goal.returns
-returns c =
-    let z = runnable _ _ _ _ (sym c.is_script.ensures ∙ c.if-not-is_script.false) c.read_script-decoded.ensures c.in-Done.is in
+pub returns-in-Ok : goal.returns-in-Ok
+returns-in-Ok c =
+    let z = runnable _ _ _ (sym c.is_script.ensures ∙ c.if-not-is_script.false) c.in-Ok.ensures in
     read-items _ _ _ _ _ (sym c.is_script.ensures ∙ c.if-not-is_script.false) c.if-work-script.false z.0 z.1 _ _ (c.run_decoded.ensures z.0 z.2)

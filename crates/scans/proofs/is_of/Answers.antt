@@ -1,3 +1,4 @@
+-- `scans::is_of` meets its contract. Assumes nothing.
 use borrow.Author.Tests.{eq-eqb, ne_eqb}
 use Rattle.scans.specs.Leading.{is_of}
 use Rattle.scans.proofs.is_of.Goals as goal
@@ -24,8 +25,8 @@ returns-else-b-a c = rw (c.in-Either.is, ne_eqb _ _ c.if-b-a.false)
 
 pub returns-then-b-a-2 : goal.returns-then-b-a-2
 unfolding is_of
-returns-then-b-a-2 c = rw (c.in-Neither.is, eq-eqb _ _ c.if-b-a-2.true)
+returns-then-b-a-2 c = rw (c.in-Neither.is, ne_eqb _ _ c.if-b-a-2.true)
 
 pub returns-else-b-a-2 : goal.returns-else-b-a-2
 unfolding is_of
-returns-else-b-a-2 c = rw (c.in-Neither.is, ne_eqb _ _ c.if-b-a-2.false)
+returns-else-b-a-2 c = rw (c.in-Neither.is, eq-eqb _ _ c.if-b-a-2.false)

@@ -1,29 +1,25 @@
 -- `script::read_script` meets its contract. Assumes nothing.
-use Rattle.script.proofs.WholeScript.{begins, goes_on, ends}
 use mathlib.Core.Path.{refl, ◌∙◌}
-use native.Mathlib.Omega.{arith}
-use Rattle.answers.proofs.Taking.{no_more}
-use borrow.Enum.Refused.{opened}
+use Rattle.answers.proofs.Taking.{passed}
+use Rattle.script.proofs.WholeScript.{begins, goes_on, ends, refuses}
 use Rattle.script.proofs.read_script.Goals as goal
 
 pub loop-next-init : goal.loop-next-init
-loop-next-init c = (begins _ _ c.requires.0 c.requires.1, refl)
+loop-next-init c = let e = c.reader_at-reader.ensures in (rw e.1 (begins _ _ c.requires.0 c.requires.1), rw e.0, refl)
 
-pub read_round-round-requires : goal.read_round-round-requires
-read_round-round-requires c = (c.loop-next.invariant.0.acc, c.loop-next.invariant.0.stands)
-
-pub shape_of-w-in_default : goal.shape_of-w-in_default
-shape_of-w-in_default c = c.read_round-round.auto.w ∙ c.loop-next.invariant.1
+pub returns-in_err-next : goal.returns-in_err-next
+returns-in_err-next c =
+    let inv = c.loop-next.invariant in
+    rw (passed _ _ c.from_residual.ensures.1) (refuses _ _ c.read_next.new.w _ _ _ inv.0 _ (rw inv.1 at c.in_err-next.ensures.1.0))
 
 pub returns-in_default : goal.returns-in_default
-returns-in_default c = let g = c.loop-next.invariant.0 in ends _ _ _ _ _ _ g _ (no_more (c.read_round-round.ensures.0 g.acc g.stands) (opened c.in_default.in_default-own.keys2))
-
-pub loop-next-smaller : goal.loop-next-smaller
-loop-next-smaller c =
-    let g = goes_on _ _ _ _ _ _ c.loop-next.invariant.0 _ _ c.read_round-round.ensures _ _ c.in-More.is in
-    omega (arith, g.1, g.2)
+returns-in_default c =
+    let inv = c.loop-next.invariant in
+    let t = rw c.in_default.is at c.in_ok-next.ensures in
+    ends _ _ _ _ _ _ inv.0 (rw inv.1 at t.1.0)
 
 pub loop-next-preserved : goal.loop-next-preserved
 loop-next-preserved c =
-    let g = goes_on _ _ _ _ _ _ c.loop-next.invariant.0 _ _ c.read_round-round.ensures _ _ c.in-More.is in
-    (g.0, c.read_round-round.auto.w ∙ c.loop-next.invariant.1)
+    let inv = c.loop-next.invariant in
+    let t = rw c.in-Some.is at c.in_ok-next.ensures in
+    ((goes_on _ _ _ _ _ _ inv.0 _ _ (rw inv.1 at t.1)).0, rw t.0 inv.1, c.read_next.auto.w ∙ inv.2)

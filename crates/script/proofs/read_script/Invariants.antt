@@ -7,7 +7,7 @@ use mathlib.Core.Path.{◌≡◌}
 use Rattle.script.proofs.read_script.Given as goal
 
 abbrev pub invariant-loop-next : goal.invariant-loop-next
-invariant-loop-next l = Going l.s l.w l.st l.at (read_script l.s) × (length l.w ≡ length l.initial.w)
+invariant-loop-next l = Going l.s l.w l.st l.reader.at (read_script l.s) × (l.reader.script.now ≡ l.s) × (length l.w ≡ length l.initial.w)
 
 abbrev pub decreases-loop-next : goal.decreases-loop-next
-decreases-loop-next l = length l.s - l.at
+decreases-loop-next l = length l.s - l.reader.at

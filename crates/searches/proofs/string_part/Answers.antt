@@ -1,17 +1,16 @@
 -- `searches::string_part` meets its contract. Assumes nothing.
-use Rattle.answers.proofs.Taking.{is-string, no-string, up-search}
+use Rattle.answers.proofs.Taking.{passed}
 use Rattle.searches.proofs.Strings.{ordered, can_write, string-parsed, string-refused}
-use borrow.Enum.Refused.{opened}
 use Rattle.searches.proofs.string_part.Goals as goal
 
-pub returns-in_default : goal.returns-in_default
-returns-in_default c = up-search (no-string c.qualified_string-string.ensures (opened c.in_default.in_default-own.keys2)) (string-refused c.args.s.now c.args.at)
+pub returns-in_err-string : goal.returns-in_err-string
+returns-in_err-string c = rw (passed _ _ c.from_residual.ensures.1) (string-refused c.args.s.now c.args.at _ _ c.in_err-string.ensures)
 
-pub overflow_sub-end : goal.overflow_sub-end
-overflow_sub-end c = ordered c.args.s.now c.args.w.now c.args.at c.args.k c.requires _ _ _ _ (is-string c.qualified_string-string.ensures c.in-OneString.is)
+pub overflow_sub-part : goal.overflow_sub-part
+overflow_sub-part c = ordered c.args.s.now c.args.w.now c.args.at c.args.k c.requires _ _ _ _ c.in_ok-string.ensures
 
-pub put_string-requires : goal.put_string-requires
-put_string-requires c = can_write c.args.s.now c.args.w.now c.args.at c.args.k c.requires _ _ _ _ (is-string c.qualified_string-string.ensures c.in-OneString.is)
+pub put_string-m-requires : goal.put_string-m-requires
+put_string-m-requires c = can_write c.args.s.now c.args.w.now c.args.at c.args.k c.requires _ _ _ _ c.in_ok-string.ensures
 
 pub returns : goal.returns
-returns c = string-parsed c.args.s.now c.args.w.now c.args.at c.args.k c.requires _ _ _ _ (is-string c.qualified_string-string.ensures c.in-OneString.is) _ _ c.put_string.ensures.0 c.put_string.ensures.1
+returns c = string-parsed c.args.s.now c.args.w.now c.args.at c.args.k c.requires _ _ _ _ c.in_ok-string.ensures _ _ c.put_string-m.ensures.0 c.put_string-m.ensures.1

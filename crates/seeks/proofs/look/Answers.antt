@@ -2,7 +2,7 @@ use Rattle.seeks.proofs.Finding.{look-eof, look-found, look-not}
 use Rattle.seeks.proofs.look.Goals as goal
 
 pub returns-then-at-j : goal.returns-then-at-j
-returns-then-at-j c = λ se e x t w g h. look-eof _ _ se _ e x t h.shows c.if-at-j.true _ c.eof_number.ensures
+returns-then-at-j c = λ se e x t w g h. look-eof _ _ se _ e x t h.shows c.if-at-j.true _ c.stop_at_eof.ensures
 
 pub found-requires : goal.found-requires
 found-requires c = let p = c.requires.1.1 in (p.0, p.1, p.2.shows)

@@ -1,5 +1,6 @@
 use Rattle.definitions.specs.Edit.{go_ahead}
 use Rattle.reading.specs.Carrying.{DoesPartBy}
+use Rattle.editor.proofs.Parts.{handed}
 use Rattle.seeks.proofs.Finding.{reserve-in, none-goes, some-goes, on-eof, on_line, on-stop}
 use Rattle.seeks.proofs.look_on.Goals as goal
 use Rattle.seeks.proofs.look_on.Goals.{then-none_stands, else-none_stands}
@@ -15,22 +16,22 @@ returns-then-at-j c =
       | then-none_stands w ↦ none-goes _ _ _ _ _ _ w.j-is w.r-is _ c.none_stands.ensures w.if-none_stands.true w.go_ahead-r.ensures
       | else-none_stands w ↦ some-goes _ _ _ _ _ _ w.j-is w.r-is w.go_ahead-r-else-none_stands.ensures
     ] in
-    on-eof _ _ _ _ _ _ went _ c.in-On.is c.if-at-j.true
+    on-eof _ _ _ _ _ _ went _ c.in_ok-s.was c.if-at-j.true
 
-pub returns-else-at-j : goal.returns-else-at-j
-returns-else-at-j c =
+pub returns : goal.returns
+returns c =
     let a = c.args in
     let went : DoesPartBy a.script.now a.words.now a.j.now a.st go_ahead c.if-none_stands.j c.if-none_stands.r = elim c.if-none_stands.branch [
       | then-none_stands w ↦ none-goes _ _ _ _ _ _ w.j-is w.r-is _ c.none_stands.ensures w.if-none_stands.true w.go_ahead-r.ensures
       | else-none_stands w ↦ some-goes _ _ _ _ _ _ w.j-is w.r-is w.go_ahead-r-else-none_stands.ensures
     ] in
-    on_line _ _ _ _ _ _ went _ c.in-On.is c.if-at-j.false
+    on_line _ _ _ _ _ _ went _ c.in_ok-s.was c.if-at-j.false
 
-pub returns-in-Stop : goal.returns-in-Stop
-returns-in-Stop c =
+pub returns-in_err-s : goal.returns-in_err-s
+returns-in_err-s c =
     let a = c.args in
     let went : DoesPartBy a.script.now a.words.now a.j.now a.st go_ahead c.if-none_stands.j c.if-none_stands.r = elim c.if-none_stands.branch [
       | then-none_stands w ↦ none-goes _ _ _ _ _ _ w.j-is w.r-is _ c.none_stands.ensures w.if-none_stands.true w.go_ahead-r.ensures
       | else-none_stands w ↦ some-goes _ _ _ _ _ _ w.j-is w.r-is w.go_ahead-r-else-none_stands.ensures
     ] in
-    on-stop _ _ _ _ _ _ went _ _ c.in-Stop.is
+    rw (handed _ _ c.from_residual.ensures.1) (on-stop _ _ _ _ _ _ went _ _ c.in_err-s.was)

@@ -2,6 +2,7 @@
 use mathlib.Core.Path.{refl, sym, ◌∙◌}
 use Rattle.items.proofs.Meaning.{first-in}
 use Rattle.globals.proofs.Standing.{keeps-only}
+use Rattle.editor.proofs.Parts.{handed}
 use Rattle.steps.proofs.Globals.{below-stands, reserve-below, same-only, forgot-only, named-only, item-few, names-room, leaves-carried, global-added, global-not, all-cancelled, words-named, command-on, command-stops}
 use Rattle.steps.proofs.command.Goals as goal
 
@@ -36,13 +37,13 @@ returns-then-kind-eq-WORD_SET c =
     let kind = c.kind_of-kind.ensures in
     let this = c.if-kind-eq-WORD_SET.true in record { commanded = words-named _ _ _ _ kind _ _ _ _ this c.name_words.ensures; only_carried = named-only _ _ _ (names-room _ _ _ _ kind this p.0 p.1 p.2 p.3.0 p.3.1) c.name_words.ensures }
 
-pub perform-r-requires : goal.perform-r-requires
-perform-r-requires c =
+pub perform-requires : goal.perform-requires
+perform-requires c =
     let p = c.requires in
     ((p.0.1, p.0.2.command), below-stands _ _ _ p.0.3, leaves-carried p.0.2.command _ c.kind_of-kind.ensures (sym c.is_global.ensures ∙ c.if-is_global.false) c.if-kind-eq-CANCEL.false c.if-kind-eq-WORD_SET.false, p.1)
 
-pub returns-in-On : goal.returns-in-On
-returns-in-On c = record { commanded = command-on _ _ _ _ c.kind_of-kind.ensures _ _ _ (sym c.is_global.ensures ∙ c.if-is_global.false) c.if-kind-eq-CANCEL.false c.if-kind-eq-WORD_SET.false _ _ c.perform-r.ensures _ c.in-On.is; only_carried = same-only _ }
+pub returns : goal.returns
+returns c = record { commanded = command-on _ _ _ _ c.kind_of-kind.ensures _ _ _ (sym c.is_global.ensures ∙ c.if-is_global.false) c.if-kind-eq-CANCEL.false c.if-kind-eq-WORD_SET.false _ _ c.perform.ensures _ c.in_ok-s.was; only_carried = same-only _ }
 
-pub returns-in-Stop : goal.returns-in-Stop
-returns-in-Stop c = record { commanded = command-stops _ _ _ _ c.kind_of-kind.ensures _ _ _ (sym c.is_global.ensures ∙ c.if-is_global.false) c.if-kind-eq-CANCEL.false c.if-kind-eq-WORD_SET.false _ _ c.perform-r.ensures _ _ c.in-Stop.is; only_carried = same-only _ }
+pub returns-in_err-s : goal.returns-in_err-s
+returns-in_err-s c = record { commanded = rw (handed _ _ c.from_residual.ensures.1) (command-stops _ _ _ _ c.kind_of-kind.ensures _ _ _ (sym c.is_global.ensures ∙ c.if-is_global.false) c.if-kind-eq-CANCEL.false c.if-kind-eq-WORD_SET.false _ _ c.perform.ensures _ _ c.in_err-s.was); only_carried = same-only _ }

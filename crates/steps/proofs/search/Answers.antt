@@ -1,11 +1,9 @@
 -- `steps::search` meets its contract. Assumes nothing.
 use mathlib.Core.Path.{refl}
-use mathlib.Core.Logic.{⊎_elim}
 use native.Mathlib.Omega.{arith}
 use Rattle.steps.proofs.Globals.{below-stands}
 use Rattle.steps.proofs.Views.{asks-look, search-inside, search-words}
-use Rattle.steps.proofs.Searches.{after-search, is_found, is-unfound}
-use borrow.Enum.Refused.{opened}
+use Rattle.steps.proofs.Searches.{after-search, is_stopped, is_found, is-unfound}
 use Rattle.steps.proofs.search.Goals as goal
 
 pub overflow_add-k : goal.overflow_add-k
@@ -22,10 +20,16 @@ pub returns-in_default : goal.returns-in_default
 returns-in_default c =
     let p = c.requires in
     after-search _ _ _ _ _ _ _ _ _ refl c.seek-r.result _ p.1 _ c.search_end-m.ensures c.seek-r.ensures
-    _ (is_found _ (λ u q. ⊎_elim (λ z. omega arith) (λ z. omega arith) (rw q at (opened c.in_default.in_default-own.keys2))))
+    _ (is_stopped _ _ c.in_default.is)
+
+pub returns-then-last : goal.returns-then-last
+returns-then-last c =
+    let p = c.requires in
+    after-search _ _ _ _ _ _ _ _ _ refl c.seek-r.result _ p.1 _ c.search_end-m.ensures c.seek-r.ensures
+    _ (is_found _ _ c.in-Ok.is c.if-last.true)
 
 pub returns : goal.returns
 returns c =
     let p = c.requires in
     after-search _ _ _ _ _ _ _ _ _ refl c.seek-r.result _ p.1 _ c.search_end-m.ensures c.seek-r.ensures
-    _ (is-unfound _ _ c.in-No.is)
+    _ (is-unfound _ _ c.in-Ok.is c.if-last.false)

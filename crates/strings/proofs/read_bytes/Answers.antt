@@ -4,31 +4,31 @@ use Rattle.text.specs.Lines.{part}
 use Rattle.strings.proofs.Forming.{is-fault, is-pattern, plain-bytes, fault-bytes, pattern-bytes, fault-within}
 use Rattle.strings.proofs.read_bytes.Goals as goal
 
-pub overflow_add-result : goal.overflow_add-result
-overflow_add-result c =
+pub overflow_add-part : goal.overflow_add-part
+overflow_add-part c =
     let a = c.args in
-    let string = part a.start a.end a.s.now in
-    omega (arith, fault-within a.s.now a.start a.end _ c.requires.1 c.requires.2 (is-fault string c.read.ensures _ c.in-Fault.is))
+    let string = part a.part.start a.part.end a.s.now in
+    omega (arith, fault-within a.s.now a.part.start a.part.end _ c.requires.1 c.requires.2 (is-fault string c.in-Err.ensures))
 
-pub with_leads-requires : goal.with_leads-requires
-with_leads-requires c =
+pub with_leads-quals-requires : goal.with_leads-quals-requires
+with_leads-quals-requires c =
     let a = c.args in
-    let pattern = is-pattern (part a.start a.end a.s.now) c.read.ensures c.in-Pattern.is in
+    let pattern = is-pattern (part a.part.start a.part.end a.s.now) c.in-Ok.ensures in
     (c.requires.0, c.if-q.true, pattern)
 
-pub returns-in-Fault : goal.returns-in-Fault
-returns-in-Fault c =
+pub returns-in-Err : goal.returns-in-Err
+returns-in-Err c =
     let a = c.args in
-    let string = part a.start a.end a.s.now in
-    fault-bytes a.s.now a.q a.start a.end a.next c.if-q.true _ (is-fault string c.read.ensures _ c.in-Fault.is)
+    let string = part a.part.start a.part.end a.s.now in
+    rw c.at.ensures (fault-bytes a.s.now a.q a.part.start a.part.end a.next c.if-q.true _ (is-fault string c.in-Err.ensures))
 
-pub returns-in-Pattern : goal.returns-in-Pattern
-returns-in-Pattern c =
+pub returns-in-Ok : goal.returns-in-Ok
+returns-in-Ok c =
     let a = c.args in
-    let pattern = is-pattern (part a.start a.end a.s.now) c.read.ensures c.in-Pattern.is in
-    pattern-bytes a.s.now a.q a.start a.end a.next c.if-q.true pattern.0 _ pattern.1 c.with_leads.ensures
+    let pattern = is-pattern (part a.part.start a.part.end a.s.now) c.in-Ok.ensures in
+    pattern-bytes a.s.now a.q a.part.start a.part.end a.next c.if-q.true pattern.0 _ pattern.1 c.with_leads-quals.ensures
 
 pub returns : goal.returns
 returns c =
     let a = c.args in
-    plain-bytes a.s.now a.q a.start a.end a.next c.requires.0 c.if-q.false
+    plain-bytes a.s.now a.q a.part.start a.part.end a.next c.requires.0 c.if-q.false

@@ -13,7 +13,7 @@ returns-then-wants_bytes c =
     let then1 = c.if-end-start in
     let wants-bytes = c.wants_bytes in
     let then2 = c.if-wants_bytes in
-    λ from y h. wants-more c.args.s.now from y c.args.at c.args.q h _ string-end.ensures.text then1.true (sym wants-bytes.ensures ∙ then2.true)
+    λ from y h. rw c.at.ensures (wants-more c.args.s.now from y c.args.at c.args.q h _ string-end.ensures.text then1.true (sym wants-bytes.ensures ∙ then2.true))
 
 pub read_bytes-requires : goal.read_bytes-requires
 read_bytes-requires c =
@@ -26,6 +26,6 @@ returns c =
     let joined1 = c.if-end-start in
     let past-delimiter = c.past_delimiter in
     λ from y h. elim joined1.branch [
-      | then-end-start+else-wants_bytes w ↦ quoted-empty c.args.s.now from y c.args.at c.args.q h _ string-end.ensures.text _ string-end.ensures.place past-delimiter.ensures.place string-end.ensures.within.0 past-delimiter.ensures.within.0 past-delimiter.ensures.within.1 (sym w.wants_bytes.ensures ∙ w.if-wants_bytes.false) c.read_bytes.ensures
-      | else-end-start w ↦ quoted-bytes c.args.s.now from y c.args.at c.args.q h _ string-end.ensures.text _ string-end.ensures.place past-delimiter.ensures.place string-end.ensures.within.0 past-delimiter.ensures.within.0 past-delimiter.ensures.within.1 w.if-end-start.false c.read_bytes.ensures
+      | then-end-start+else-wants_bytes w ↦ quoted-empty c.args.s.now from y c.args.at c.args.q h _ string-end.ensures.text _ string-end.ensures.place past-delimiter.ensures.place string-end.ensures.within.0 past-delimiter.ensures.within.0 past-delimiter.ensures.within.1 _ (sym w.wants_bytes.ensures ∙ w.if-wants_bytes.false) c.read_bytes.ensures
+      | else-end-start w ↦ quoted-bytes c.args.s.now from y c.args.at c.args.q h _ string-end.ensures.text _ string-end.ensures.place past-delimiter.ensures.place string-end.ensures.within.0 past-delimiter.ensures.within.0 past-delimiter.ensures.within.1 _ w.if-end-start.false c.read_bytes.ensures
     ]

@@ -1,20 +1,23 @@
 -- `strings::two_strings` meets its contract. Assumes nothing.
-use Rattle.answers.proofs.Taking.{is-qualifiers, no-qualifiers, up-strings}
-use Rattle.strings.proofs.Quoting.{both_read, both-refused}
-use borrow.Enum.Refused.{opened}
+use mathlib.Core.Path.{refl}
+use Rattle.answers.proofs.Taking.{passed}
+use Rattle.strings.proofs.Quoting.{both_read, both-refused, second-refused}
 use Rattle.strings.proofs.two_strings.Goals as goal
 
-pub returns-in_default : goal.returns-in_default
-returns-in_default c = up-strings (no-qualifiers c.read_qualifiers-quals.ensures (opened c.in_default.in_default-own.keys2)) (both-refused c.args.s.now c.args.at)
+pub returns-in_err-quals : goal.returns-in_err-quals
+returns-in_err-quals c = rw (passed _ _ c.from_residual.ensures.1) (both-refused c.args.s.now c.args.at _ _ c.in_err-quals.ensures)
 
 pub read_string-requires : goal.read_string-requires
-read_string-requires c = (_, _, is-qualifiers c.read_qualifiers-quals.ensures c.in-Qualifiers.is)
+read_string-requires c = (_, _, c.in_ok-quals.ensures)
+
+pub returns-in_err-first : goal.returns-in_err-first
+returns-in_err-first c = rw (passed _ _ c.from_residual-in_err-first.ensures.1) (second-refused c.args.s.now c.args.at _ _ c.in_ok-quals.ensures _ _ (c.in_err-first.ensures _ _ c.in_ok-quals.ensures))
 
 pub bounds-s-open : goal.bounds-s-open
-bounds-s-open c = (is-qualifiers c.read_qualifiers-quals.ensures c.in-Qualifiers.is).1.inside
+bounds-s-open c = c.in_ok-quals.ensures.1.inside
 
 pub with_second-requires : goal.with_second-requires
-with_second-requires c = (_, _, _, c.read_string.ensures _ _ (is-qualifiers c.read_qualifiers-quals.ensures c.in-Qualifiers.is))
+with_second-requires c = (_, _, _, c.in_ok-first.ensures _ _ c.in_ok-quals.ensures)
 
 pub returns : goal.returns
-returns c = both_read c.args.s.now c.args.at _ _ (is-qualifiers c.read_qualifiers-quals.ensures c.in-Qualifiers.is) c.read_string.ensures c.with_second.ensures
+returns c = both_read c.args.s.now c.args.at _ _ c.in_ok-quals.ensures _ refl _ _ (c.with_second.ensures _ _ _ (c.in_ok-first.ensures _ _ c.in_ok-quals.ensures))

@@ -20,20 +20,20 @@ pub is_same-requires : goal.is_same-requires
 is_same-requires c =
     let k = kept-asks c.args.j.now c.args.at c.requires.1 in
     let e = c.record_end-end.ensures in
-    let small = grows-small _ _ c.args.j.now c.args.at _ _ c.pass_text-left.ensures _ c.in-Text.is c.requires.0 c.requires.1 in
+    let small = grows-small _ _ c.args.j.now c.args.at _ _ c.pass_text-left.ensures _ c.in-Ok.is c.requires.0 c.requires.1 in
     (omega (arith, k.1, e), omega (arith, k.2, e), omega (arith, small, c.pass_text-left.auto.line))
 
 pub returns-then-is_same : goal.returns-then-is_same
 returns-then-is_same c =
-    let small = grows-small _ _ c.args.j.now c.args.at _ _ c.pass_text-left.ensures _ c.in-Text.is c.requires.0 c.requires.1 in
-    grows-bytes _ _ c.args.j.now c.args.at _ _ c.pass_text-left.ensures _ c.in-Text.is (omega (arith, small, c.pass_text-left.auto.line)) _ (ap (λ (i : ℕ). i - 1) c.record_end-end.ensures) _ (sym c.is_same.ensures ∙ c.if-is_same.true) 0 refl
+    let small = grows-small _ _ c.args.j.now c.args.at _ _ c.pass_text-left.ensures _ c.in-Ok.is c.requires.0 c.requires.1 in
+    grows-bytes _ _ c.args.j.now c.args.at _ _ c.pass_text-left.ensures _ c.in-Ok.is (omega (arith, small, c.pass_text-left.auto.line)) _ (ap (λ (i : ℕ). i - 1) c.record_end-end.ensures) _ (sym c.is_same.ensures ∙ c.if-is_same.true) 0 refl
 
 pub overflow_add-result : goal.overflow_add-result
 overflow_add-result c =
-    let small = grows-small _ _ c.args.j.now c.args.at _ _ c.pass_text-left.ensures _ c.in-Text.is c.requires.0 c.requires.1 in
+    let small = grows-small _ _ c.args.j.now c.args.at _ _ c.pass_text-left.ensures _ c.in-Ok.is c.requires.0 c.requires.1 in
     omega (arith, small)
 
 pub returns : goal.returns
 returns c =
-    let small = grows-small _ _ c.args.j.now c.args.at _ _ c.pass_text-left.ensures _ c.in-Text.is c.requires.0 c.requires.1 in
-    grows-bytes _ _ c.args.j.now c.args.at _ _ c.pass_text-left.ensures _ c.in-Text.is (omega (arith, small, c.pass_text-left.auto.line)) _ (ap (λ (i : ℕ). i - 1) c.record_end-end.ensures) _ (sym c.is_same.ensures ∙ c.if-is_same.false) _ refl
+    let small = grows-small _ _ c.args.j.now c.args.at _ _ c.pass_text-left.ensures _ c.in-Ok.is c.requires.0 c.requires.1 in
+    grows-bytes _ _ c.args.j.now c.args.at _ _ c.pass_text-left.ensures _ c.in-Ok.is (omega (arith, small, c.pass_text-left.auto.line)) _ (ap (λ (i : ℕ). i - 1) c.record_end-end.ensures) _ (sym c.is_same.ensures ∙ c.if-is_same.false) _ refl

@@ -16,15 +16,15 @@ returns-then-none_stands c =
 pub returns-then-st : goal.returns-then-st
 returns-then-st c = λ e d t stands h. eof-passed _ e d t h c.if-st.true
 
-pub measure-n-requires : goal.measure-n-requires
-measure-n-requires c =
+pub measure-requires : goal.measure-requires
+measure-requires c =
     let more = c.if-st.false in
     (c.requires.0, (rest-asks c.to_source-first.ensures (omega arith) c.requires.1.0 c.requires.1.1 c.requires.1.2).0)
 
-pub returns-then-n-ne0 : goal.returns-then-n-ne0
-returns-then-n-ne0 c =
+pub returns-in-Err : goal.returns-in-Err
+returns-in-Err c =
     let more = c.if-st.false in
-    rest-stops c.to_source-first.ensures (omega arith) c.to_source-first.auto.j _ _ _ c.measure-n.ensures c.if-n-ne0.true
+    rest-stops c.to_source-first.ensures (omega arith) c.to_source-first.auto.j _ _ _ c.measure.ensures _ c.in-Err.is
 
 pub read_lines-requires : goal.read_lines-requires
 read_lines-requires c =
@@ -32,7 +32,7 @@ read_lines-requires c =
     let w = rest-asks c.to_source-first.ensures (omega arith) c.requires.1.0 c.requires.1.1 c.requires.1.2 in
     (c.requires.0, w.0, w.1)
 
-pub returns : goal.returns
-returns c =
+pub returns-in-Ok : goal.returns-in-Ok
+returns-in-Ok c =
     let more = c.if-st.false in
-    rest-passes c.to_source-first.ensures (omega arith) c.to_source-first.auto.j _ _ _ c.measure-n.ensures c.if-n-ne0.false _ _ c.read_lines.ensures
+    rest-passes c.to_source-first.ensures (omega arith) c.to_source-first.auto.j _ _ _ c.measure.ensures _ c.in-Ok.is _ _ c.read_lines.ensures

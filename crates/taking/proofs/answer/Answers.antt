@@ -2,8 +2,8 @@ use native.Mathlib.Omega.{arith}
 use Rattle.taking.proofs.Leaves.{answers-none, answers_at, answers-fit}
 use Rattle.taking.proofs.answer.Goals as goal
 
-pub returns-then-best-eq65535 : goal.returns-then-best-eq65535
-returns-then-best-eq65535 c = answers-none _ c.if-best-eq65535.true
+pub returns-then-best-eq-NEVER : goal.returns-then-best-eq-NEVER
+returns-then-best-eq-NEVER c = answers-none _ c.if-best-eq-NEVER.true
 
 pub overflow_sub-result : goal.overflow_sub-result
 overflow_sub-result c = answers-fit _ c.requires (omega arith)

@@ -2,8 +2,8 @@ use native.Mathlib.Omega.{arith}
 use Rattle.taking.proofs.Leaves.{none-better, last-better, old-better, new-better}
 use Rattle.taking.proofs.better.Goals as goal
 
-pub returns-then-start-eq65535 : goal.returns-then-start-eq65535
-returns-then-start-eq65535 c = none-better _ _ _ _ c.if-start-eq65535.true
+pub returns-then-start-eq-NEVER : goal.returns-then-start-eq-NEVER
+returns-then-start-eq-NEVER c = none-better _ _ _ _ c.if-start-eq-NEVER.true
 
 pub returns-then-last : goal.returns-then-last
 returns-then-last c = last-better _ _ _ _ (omega arith) c.if-last.true

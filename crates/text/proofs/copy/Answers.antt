@@ -1,7 +1,6 @@
--- `text::copy` meets its contract: a whole copy. Assumes nothing.
-use Rattle.std.proofs.Common.{◌∙◌}
-use Rattle.text.proofs.Buffer.{laid-paste}
+-- `text::copy` meets its contract. Assumes nothing.
+use Rattle.text.proofs.Buffer.{laid-lent}
 use Rattle.text.proofs.copy.Goals as goal
 
 pub returns : goal.returns
-returns c = c.copy_in.ensures ∙ laid-paste _ _ _
+returns c = rw c.copy_from_slice.ensures.after (laid-lent c.args.dest.now c.args.at c.args.src.now)

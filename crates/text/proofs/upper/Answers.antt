@@ -12,4 +12,4 @@ overflow_sub-result c = search (rules, taken-within)
 
 pub returns : goal.returns
 unfolding is_small
-returns c = upper-taken c.args.b
+returns c = rw c.from.ensures (upper-taken c.args.b)

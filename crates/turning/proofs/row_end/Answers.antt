@@ -1,7 +1,7 @@
 -- `turning::row_end` meets its contract. The loop's invariant is `Within`. Assumes nothing.
-use mathlib.Core.Path.{sym, ◌∙◌}
+use mathlib.Core.Path.{sym}
 use native.Mathlib.Omega.{arith}
-use Rattle.journal.proofs.Here.{ends-after}
+use Rattle.journal.proofs.Here.{in-places}
 use Rattle.turning.proofs.Walks.{within-start, within-nowhere, within_end, within-other, within-next}
 use Rattle.turning.proofs.row_end.Goals as goal
 
@@ -18,21 +18,19 @@ pub returns-in_default : goal.returns-in_default
 returns-in_default c =
     let a = c.args in
     let l = c.loop-i in
-    absurd (within-nowhere a.b a.j.now a.at l.i l.invariant (omega arith) (sym c.record_at-found.ensures ∙ c.in_default.is))
+    absurd (within-nowhere a.b a.j.now a.at l.i l.invariant (omega arith) (sym c.in_default.ensures))
 
 pub overflow_add-i : goal.overflow_add-i
-overflow_add-i c =
-    omega (arith, ends-after c.args.j.now c.loop-i.i c.in-Found.x (sym c.record_at-found.ensures ∙ c.in-Found.is))
+overflow_add-i c = omega (arith, in-places _ _ _ (sym c.in-Some.ensures))
 
 pub loop-i-smaller : goal.loop-i-smaller
-loop-i-smaller c =
-    omega (arith, ends-after c.args.j.now c.loop-i.i c.in-Found.x (sym c.record_at-found.ensures ∙ c.in-Found.is))
+loop-i-smaller c = omega (arith, in-places _ _ _ (sym c.in-Some.ensures))
 
 pub loop-i-preserved : goal.loop-i-preserved
 loop-i-preserved c =
     let a = c.args in
     let l = c.loop-i in
-    within-next a.b a.j.now a.at l.i l.invariant c.in-Found.x (sym c.record_at-found.ensures ∙ c.in-Found.is) c.if-j-i.false
+    within-next a.b a.j.now a.at l.i l.invariant c.in-Some.x (sym c.in-Some.ensures) c.if-j-i.false
 
 pub returns : goal.returns
 returns c =

@@ -1,7 +1,7 @@
 -- `wordset::decode` meets its contract. The loop's invariant: the string is read up to i. Assumes nothing.
-use mathlib.Core.Path.{sym, ◌∙◌}
 use native.Mathlib.Omega.{arith}
-use Rattle.wordset.proofs.Reading.{read_none, put-over, put-length, read_all, misused-within, read-misused, bytes-text, bytes-within, read-on}
+use Rattle.std.proofs.lemmas.Result.{err_from_is_err_and}
+use Rattle.wordset.proofs.Reading.{read_none, put-over, put-length, read_all, read-misused, bytes-text, bytes-within, read-on}
 use Rattle.wordset.proofs.decode.Goals as goal
 
 pub loop-i-init : goal.loop-i-init
@@ -15,8 +15,8 @@ put_bytes-requires c =
     let a = c.args in
     let l = c.loop-i in
     let w₀ = c.put_three.new.w in
-    let e = sym c.in-Bytes.is ∙ c.name_at.ensures in
-    let text = bytes-text w₀ a.k a.s.now a.from a.to l.w l.i (omega arith) l.invariant (omega arith) c.in-Bytes.x c.in-Bytes.y c.in-Bytes.n e in
+    let e = c.in_ok-name.ensures in
+    let text = bytes-text w₀ a.k a.s.now a.from a.to l.w l.i (omega arith) l.invariant (omega arith) _ e in
     let long = put-length w₀ a.k l.w l.invariant.put in
     (omega arith, text.0, text.1)
 
@@ -25,8 +25,8 @@ overflow_add-i c =
     let a = c.args in
     let l = c.loop-i in
     let w₀ = c.put_three.new.w in
-    let e = sym c.in-Bytes.is ∙ c.name_at.ensures in
-    let within = bytes-within w₀ a.k a.s.now a.from a.to l.w l.i (omega arith) l.invariant (omega arith) c.in-Bytes.x c.in-Bytes.y c.in-Bytes.n e in
+    let e = c.in_ok-name.ensures in
+    let within = bytes-within w₀ a.k a.s.now a.from a.to l.w l.i (omega arith) l.invariant (omega arith) _ e in
     omega (arith, within.1)
 
 pub loop-i-smaller : goal.loop-i-smaller
@@ -34,8 +34,8 @@ loop-i-smaller c =
     let a = c.args in
     let l = c.loop-i in
     let w₀ = c.put_three.new.w in
-    let e = sym c.in-Bytes.is ∙ c.name_at.ensures in
-    let within = bytes-within w₀ a.k a.s.now a.from a.to l.w l.i (omega arith) l.invariant (omega arith) c.in-Bytes.x c.in-Bytes.y c.in-Bytes.n e in
+    let e = c.in_ok-name.ensures in
+    let within = bytes-within w₀ a.k a.s.now a.from a.to l.w l.i (omega arith) l.invariant (omega arith) _ e in
     omega (arith, within.0, within.1)
 
 pub loop-i-preserved : goal.loop-i-preserved
@@ -43,35 +43,17 @@ loop-i-preserved c =
     let a = c.args in
     let l = c.loop-i in
     let w₀ = c.put_three.new.w in
-    let e = sym c.in-Bytes.is ∙ c.name_at.ensures in
-    read-on w₀ a.k a.s.now a.from a.to l.w l.i (omega arith) l.invariant (omega arith) c.in-Bytes.x c.in-Bytes.y c.in-Bytes.n e
+    let e = c.in_ok-name.ensures in
+    read-on w₀ a.k a.s.now a.from a.to l.w l.i (omega arith) l.invariant (omega arith) _ e
     c.put_bytes.new.w c.put_bytes.ensures
 
-pub overflow_add-result : goal.overflow_add-result
-overflow_add-result c =
+pub returns-in_err-name : goal.returns-in_err-name
+returns-in_err-name c =
     let a = c.args in
     let l = c.loop-i in
     let w₀ = c.put_three.new.w in
-    let e = sym c.in-Misused.is ∙ c.name_at.ensures in
-    let within = misused-within w₀ a.k a.s.now a.from a.to l.w l.i (omega arith) l.invariant (omega arith) c.in-Misused.m e in
-    omega (arith, within)
-
-pub shape_of-w-in-Misused : goal.shape_of-w-in-Misused
-shape_of-w-in-Misused c =
-    let a = c.args in
-    let l = c.loop-i in
-    let w₀ = c.put_three.new.w in
-    put-length a.w.now a.k l.w (put-over a.w.now a.k w₀ c.put_three.ensures l.w l.invariant.put)
-
-pub returns-in-Misused : goal.returns-in-Misused
-returns-in-Misused c =
-    let a = c.args in
-    let l = c.loop-i in
-    let w₀ = c.put_three.new.w in
-    let e = sym c.in-Misused.is ∙ c.name_at.ensures in (
-      put-over a.w.now a.k w₀ c.put_three.ensures l.w l.invariant.put,
-      read-misused w₀ a.k a.s.now a.from a.to l.w l.i (omega arith) l.invariant (omega arith) c.in-Misused.m e,
-    )
+    let p = err_from_is_err_and c.from_residual.result c.from_residual.ensures.1 in
+    (put-over a.w.now a.k w₀ c.put_three.ensures l.w l.invariant.put, rw (p.1, p.2) (read-misused w₀ a.k a.s.now a.from a.to l.w l.i (omega arith) l.invariant (omega arith) _ c.in_err-name.ensures))
 
 pub shape_of-w : goal.shape_of-w
 shape_of-w c =

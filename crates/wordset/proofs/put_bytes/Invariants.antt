@@ -7,6 +7,3 @@ use Rattle.wordset.proofs.put_bytes.Given as goal
 
 abbrev pub invariant-loop-b : goal.invariant-loop-b
 invariant-loop-b l = (l.x ≤ l.b) × (length l.w ≡ length l.initial.w) × (with_bytes l.initial.w l.k l.x (suc l.y - l.x) ≡ with_bytes l.w l.k l.b (suc l.y - l.b))
-
-abbrev pub decreases-loop-b : goal.decreases-loop-b
-decreases-loop-b l = suc l.y - l.b

@@ -4,5 +4,5 @@ use Rattle.zed.proofs.zed_run.Goals as goal
 
 pub returns : goal.returns
 returns c =
-    let e = handed _ _ _ _ _ _ _ c.run-a.ensures _ c.of-v.ensures in
+    let e = handed _ _ _ _ _ _ _ c.run-a.ensures _ c.from-v.ensures in
     record { number = e.0; answer = e.1.0; journal = e.1.1 }

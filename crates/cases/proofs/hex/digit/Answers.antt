@@ -1,19 +1,25 @@
-use mathlib.Core.Path.{sym}
-use native.Mathlib.Omega.{arith}
-use Rattle.cases.proofs.Digits.{digit_low, digit-decimal, digit-between, digit-letter, digit-high}
+-- `cases::hex::digit` meets its contract. Assumes nothing.
+use Rattle.std.proofs.Common.{rules}
+use borrow.Author.Tests.{tests}
+use Rattle.cases.specs.Hex.{digit_of}
 use Rattle.cases.proofs.hex.digit.Goals as goal
 
-pub returns-then-b-lt48 : goal.returns-then-b-lt48
-returns-then-b-lt48 c = (sym (digit_low _ c.if-b-lt48.true), omega arith)
+pub returns-in-48-to-57 : goal.returns-in-48-to-57
+unfolding digit_of
+returns-in-48-to-57 c = search (rules, tests)
 
-pub returns-then-b-le57 : goal.returns-then-b-le57
-returns-then-b-le57 c = (sym (digit-decimal _ (omega arith) (omega arith)), omega arith)
+pub returns-in-97-to-102 : goal.returns-in-97-to-102
+unfolding digit_of
+returns-in-97-to-102 c = search (rules, tests)
 
-pub returns-then-b-lt97 : goal.returns-then-b-lt97
-returns-then-b-lt97 c = (sym (digit-between _ (omega arith) (omega arith)), omega arith)
+pub returns-in_default : goal.returns-in_default
+unfolding digit_of
+returns-in_default c = search (rules, tests)
 
-pub returns-then-b-le102 : goal.returns-then-b-le102
-returns-then-b-le102 c = (sym (digit-letter _ (omega arith) (omega arith)), omega arith)
+pub returns-in_default-2 : goal.returns-in_default-2
+unfolding digit_of
+returns-in_default-2 c = search (rules, tests)
 
-pub returns : goal.returns
-returns c = (sym (digit-high _ (omega arith)), omega arith)
+pub returns-in_default-3 : goal.returns-in_default-3
+unfolding digit_of
+returns-in_default-3 c = search (rules, tests)

@@ -7,16 +7,16 @@ pub returns-then-at-j : goal.returns-then-at-j
 returns-then-at-j c = finds-eof _ _ _ _ _ c.if-at-j.true
 
 pub current_line-line-requires : goal.current_line-line-requires
-current_line-line-requires c = let w = c.requires.1 in
+current_line-line-requires c = let w = c.requires.0 in
     ((w.0, w.1, w.2.shows, w.2.old), c.if-at-j.false)
 
 pub find-found-requires : goal.find-found-requires
 find-found-requires c = let w = c.requires in
-    let fits = line-fits c.if-at-j.false _ c.current_line-line.ensures w.1 in
-    (w.0, fits.0, w.5, fits.1, omega (arith, part_length c.args.script.now c.args.from c.args.to w.3, w.4))
+    let fits = line-fits c.if-at-j.false _ c.current_line-line.ensures w.0 in
+    (fits.0, w.4, fits.1, omega (arith, part_length c.args.script.now c.args.from c.args.to w.2, w.3))
 
-pub returns-in-At : goal.returns-in-At
-returns-in-At c = finds-on _ _ _ _ _ c.if-at-j.false _ c.current_line-line.ensures _ c.find-found.ensures _ _ c.in-At.is
+pub returns-in-Some : goal.returns-in-Some
+returns-in-Some c = finds-on _ _ _ _ _ c.if-at-j.false _ c.current_line-line.ensures _ c.find-found.ensures _ c.in-Some.is
 
-pub returns-in-Nothing : goal.returns-in-Nothing
-returns-in-Nothing c = finds-none _ _ _ _ _ c.if-at-j.false _ c.current_line-line.ensures _ c.find-found.ensures c.in-Nothing.is
+pub returns-in-None : goal.returns-in-None
+returns-in-None c = finds-none _ _ _ _ _ c.if-at-j.false _ c.current_line-line.ensures _ c.find-found.ensures c.in-None.is

@@ -1,11 +1,7 @@
-use mathlib.Core.Path.{◌≡◌}
-use Prim.Native.Nat.{◌-◌, ◌≤◌}
-use lib.ListN.{length}
+-- `closing::ending::end_lines`: the bytes that were passed are ended.
+use Rattle.std.proofs.Common.{◌≡◌}
 use Rattle.closing.proofs.Closing.{ended_to}
 use Rattle.closing.proofs.ending.end_lines.Given as goal
 
-abbrev pub invariant-loop-i : goal.invariant-loop-i
-invariant-loop-i l = (l.i ≤ l.n) × (l.j ≡ ended_to l.i l.initial.j) × (length l.j ≡ length l.initial.j)
-
-abbrev pub decreases-loop-i : goal.decreases-loop-i
-decreases-loop-i l = l.n - l.i
+abbrev pub invariant-loop-b : goal.invariant-loop-b
+invariant-loop-b l = l.b-items ≡ ended_to l.b-index l.initial.b-items

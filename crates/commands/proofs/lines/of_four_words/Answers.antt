@@ -1,6 +1,7 @@
 use Prim.Native.Nat.{◌+◌}
 use mathlib.Core.Path.{sym, ◌∙◌}
 use native.Mathlib.Omega.{arith}
+use Rattle.editor.proofs.Parts.{passed-on}
 use Rattle.items.proofs.Meaning.{first-in}
 use Rattle.commands.proofs.Performed.{plain-replace, plain-insert, plainly, words-room}
 use Rattle.commands.proofs.Lined.{four-in, replaces-as, lines-as}
@@ -45,17 +46,20 @@ number_of-requires c = first-in _ _ _ _ c.requires.3 c.requires.0
 pub none_stands-requires : goal.none_stands-requires
 none_stands-requires c = words-room c.requires.1
 
-pub replace_span-r-requires : goal.replace_span-r-requires
-replace_span-r-requires c = (c.requires.2, (four-in _ _ _ _ c.requires.3 c.requires.4 c.requires.5 c.requires.0).1)
+pub replace_span-requires : goal.replace_span-requires
+replace_span-requires c = (c.requires.2, (four-in _ _ _ _ c.requires.3 c.requires.4 c.requires.5 c.requires.0).1)
+
+pub returns-in_err-replace_span : goal.returns-in_err-replace_span
+returns-in_err-replace_span c = rw (passed-on _ _ _ c.in_err-replace_span.was c.from_residual.ensures.1) (replaces-as _ _ _ _ c.requires.3 _ _ _ _ _ _ _ c.span_from.ensures c.number_of.ensures c.span_through-through.ensures c.if-kind-eq-REPLACE.true (plainly _ _ _ (plain-replace _ _ _) (sym c.none_stands.ensures ∙ c.if-none_stands.true) c.replace_span.ensures))
 
 pub returns-then-none_stands : goal.returns-then-none_stands
-returns-then-none_stands c = rw c.anew.ensures (replaces-as _ _ _ _ c.requires.3 _ _ _ _ _ _ _ c.span_from.ensures c.number_of.ensures c.span_through-through.ensures c.if-kind-eq-REPLACE.true (plainly _ _ _ (plain-replace _ _ _) (sym c.none_stands.ensures ∙ c.if-none_stands.true) c.replace_span-r.ensures))
+returns-then-none_stands c = rw (← c.in_ok-replace_span.was) (replaces-as _ _ _ _ c.requires.3 _ _ _ _ _ _ _ c.span_from.ensures c.number_of.ensures c.span_through-through.ensures c.if-kind-eq-REPLACE.true (plainly _ _ _ (plain-replace _ _ _) (sym c.none_stands.ensures ∙ c.if-none_stands.true) c.replace_span.ensures))
 
-pub replace_span-requires : goal.replace_span-requires
-replace_span-requires c = (c.requires.1, c.requires.2, (four-in _ _ _ _ c.requires.3 c.requires.4 c.requires.5 c.requires.0).1)
+pub replace_span-requires-then-kind-eq-REPLACE : goal.replace_span-requires-then-kind-eq-REPLACE
+replace_span-requires-then-kind-eq-REPLACE c = (c.requires.1, c.requires.2, (four-in _ _ _ _ c.requires.3 c.requires.4 c.requires.5 c.requires.0).1)
 
 pub returns-then-kind-eq-REPLACE : goal.returns-then-kind-eq-REPLACE
-returns-then-kind-eq-REPLACE c = replaces-as _ _ _ _ c.requires.3 _ _ _ _ _ _ _ c.span_from-then-kind-eq-REPLACE.ensures c.number_of.ensures c.span_through-through.ensures c.if-kind-eq-REPLACE.true c.replace_span.ensures
+returns-then-kind-eq-REPLACE c = replaces-as _ _ _ _ c.requires.3 _ _ _ _ _ _ _ c.span_from-then-kind-eq-REPLACE.ensures c.number_of.ensures c.span_through-through.ensures c.if-kind-eq-REPLACE.true c.replace_span-then-kind-eq-REPLACE.ensures
 
 pub none_stands-requires-2 : goal.none_stands-requires-2
 none_stands-requires-2 c = words-room c.requires.1

@@ -2,6 +2,7 @@ use Prim.Native.Nat.{◌+◌}
 use mathlib.Core.Path.{refl, sym, ◌∙◌}
 use native.Mathlib.Omega.{arith}
 use Rattle.items.specs.Ends.{is_one_word}
+use Rattle.editor.proofs.Parts.{passed-on}
 use Rattle.items.proofs.Meaning.{first-in, second-in}
 use Rattle.commands.proofs.Performed.{anyhow, plain-move, plain-delete, plainly, plainly-joins, words-room, without-table, ready-shown, ready-text}
 use Rattle.commands.proofs.Lined.{string-in, moves-as, string-as, joins-as, deletes-as}
@@ -61,17 +62,20 @@ returns-then-kind-eq-DELETE c = without-table _ _ (deletes-as _ _ _ _ c.requires
 pub none_stands-requires-then-kind-eq-JOIN : goal.none_stands-requires-then-kind-eq-JOIN
 none_stands-requires-then-kind-eq-JOIN c = words-room c.requires.1
 
-pub join-r-requires : goal.join-r-requires
-join-r-requires c = (ready-shown c.requires.2, string-in _ _ _ _ c.requires.3 c.requires.4 c.if-kind-eq-MOVE.false c.if-kind-eq-DELETE.false _ refl _ c.string_start-from.ensures _ c.string_length-n.ensures c.requires.0)
+pub join-requires : goal.join-requires
+join-requires c = (ready-shown c.requires.2, string-in _ _ _ _ c.requires.3 c.requires.4 c.if-kind-eq-MOVE.false c.if-kind-eq-DELETE.false _ refl _ c.string_start-from.ensures _ c.string_length-n.ensures c.requires.0)
+
+pub returns-in_err-join : goal.returns-in_err-join
+returns-in_err-join c = rw (passed-on _ _ _ c.in_err-join.was c.from_residual.ensures.1) (joins-as _ _ _ _ c.requires.3 _ _ _ _ _ c.string_start-from.ensures _ c.string_length-n.ensures _ c.if-kind-eq-JOIN.true (plainly-joins _ _ _ (sym c.none_stands-then-kind-eq-JOIN.ensures ∙ c.if-none_stands-3.true) c.join.ensures))
 
 pub returns-then-none_stands-3 : goal.returns-then-none_stands-3
-returns-then-none_stands-3 c = rw c.anew.ensures (joins-as _ _ _ _ c.requires.3 _ _ _ _ _ c.string_start-from.ensures _ c.string_length-n.ensures _ c.if-kind-eq-JOIN.true (plainly-joins _ _ _ (sym c.none_stands-then-kind-eq-JOIN.ensures ∙ c.if-none_stands-3.true) c.join-r.ensures))
+returns-then-none_stands-3 c = rw (← c.in_ok-join.was) (joins-as _ _ _ _ c.requires.3 _ _ _ _ _ c.string_start-from.ensures _ c.string_length-n.ensures _ c.if-kind-eq-JOIN.true (plainly-joins _ _ _ (sym c.none_stands-then-kind-eq-JOIN.ensures ∙ c.if-none_stands-3.true) c.join.ensures))
 
-pub join-requires : goal.join-requires
-join-requires c = (c.requires.1, ready-shown c.requires.2, string-in _ _ _ _ c.requires.3 c.requires.4 c.if-kind-eq-MOVE.false c.if-kind-eq-DELETE.false _ refl _ c.string_start-from.ensures _ c.string_length-n.ensures c.requires.0)
+pub join-requires-then-kind-eq-JOIN : goal.join-requires-then-kind-eq-JOIN
+join-requires-then-kind-eq-JOIN c = (c.requires.1, ready-shown c.requires.2, string-in _ _ _ _ c.requires.3 c.requires.4 c.if-kind-eq-MOVE.false c.if-kind-eq-DELETE.false _ refl _ c.string_start-from.ensures _ c.string_length-n.ensures c.requires.0)
 
 pub returns-then-kind-eq-JOIN : goal.returns-then-kind-eq-JOIN
-returns-then-kind-eq-JOIN c = joins-as _ _ _ _ c.requires.3 _ _ _ _ _ c.string_start-from.ensures _ c.string_length-n.ensures _ c.if-kind-eq-JOIN.true c.join.ensures
+returns-then-kind-eq-JOIN c = joins-as _ _ _ _ c.requires.3 _ _ _ _ _ c.string_start-from.ensures _ c.string_length-n.ensures _ c.if-kind-eq-JOIN.true c.join-then-kind-eq-JOIN.ensures
 
 pub insert_line-requires : goal.insert_line-requires
 insert_line-requires c = (ready-text c.requires.2, string-in _ _ _ _ c.requires.3 c.requires.4 c.if-kind-eq-MOVE.false c.if-kind-eq-DELETE.false _ refl _ c.string_start-from.ensures _ c.string_length-n.ensures c.requires.0)

@@ -1,17 +1,22 @@
-use Rattle.editor.proofs.Parts.{moved-shown}
+use Rattle.editor.proofs.Parts.{moved-shown, passed-on}
 use Rattle.commands.proofs.FirstRead.{here-unread, here-read}
 use Rattle.commands.proofs.passing.delete_here.Goals as goal
 
-pub returns-in_default : goal.returns-in_default
-returns-in_default c = λ e x t s h. here-unread x _ _ e t _ _ c.in_default.is (c.read_span-read.ensures e x t s h)
+pub returns-in_err-s : goal.returns-in_err-s
+returns-in_err-s c = λ e x t s h. rw (passed-on _ _ _ c.in_err-s.was c.from_residual.ensures.1) (here-unread x _ _ e t _ _ c.in_err-s.was (c.read_span.ensures e x t s h))
 
-pub delete_here-r-requires : goal.delete_here-r-requires
-delete_here-r-requires c =
-    let r = c.read_span-read in
+pub delete_here-requires : goal.delete_here-requires
+delete_here-requires c =
+    let r = c.read_span in
     let w = c.requires in
-    moved-shown _ c.in-On.is (r.ensures w.1.0 w.0.0 w.1.1 w.0.1 w.1.2)
+    moved-shown _ c.in_ok-s.was (r.ensures w.1.0 w.0.0 w.1.1 w.0.1 w.1.2)
+
+pub returns-in_err-delete_here : goal.returns-in_err-delete_here
+returns-in_err-delete_here c =
+    let r = c.read_span in
+    λ e x t s h. rw (passed-on _ _ _ c.in_err-delete_here.was c.from_residual-in_err-delete_here.ensures.1) (here-read x _ _ e t _ _ _ c.in_ok-s.was (r.ensures e x t s h) r.auto.j c.delete_here.ensures)
 
 pub returns : goal.returns
 returns c =
-    let r = c.read_span-read in
-    λ e x t s h. rw c.anew.ensures (here-read x _ _ e t _ _ _ c.in-On.is (r.ensures e x t s h) r.auto.j c.delete_here-r.ensures)
+    let r = c.read_span in
+    λ e x t s h. rw (← c.in_ok-delete_here.was) (here-read x _ _ e t _ _ _ c.in_ok-s.was (r.ensures e x t s h) r.auto.j c.delete_here.ensures)

@@ -16,28 +16,31 @@ pub overflow_add-depth : goal.overflow_add-depth
 overflow_add-depth c = let p = c.requires in omega (arith, opening-in p.0 _ _ _ _ _ p.1 p.2 p.3 p.4 p.5)
 
 pub times_at-n-requires : goal.times_at-n-requires
-times_at-n-requires c = let p = c.requires in (omega (arith, opening-in p.0 _ _ _ _ _ p.1 p.2 p.3 p.4 p.5), opening-two p.0 _ _ _ _ _ p.1 p.2 p.3 p.4 p.5 (ap way_by (sym c.kind_of-kind.ensures) ∙ sym c.way_of-way.ensures ∙ c.if-way-eq-COUNTING.true))
+times_at-n-requires c = let p = c.requires in (omega (arith, opening-in p.0 _ _ _ _ _ p.1 p.2 p.3 p.4 p.5), opening-two p.0 _ _ _ _ _ p.1 p.2 p.3 p.4 p.5 (ap way_by (sym c.kind_of-kind.ensures) ∙ sym c.way_of.ensures ∙ c.in-Counting.is))
 
-pub returns-then-n-eq0 : goal.returns-then-n-eq0
-returns-then-n-eq0 c = (kept-none _ _, (λ s place o items frames h. start_none _ _ _ _ _ _ _ c.kind_of-kind.ensures c.way_of-way.ensures _ s place _ c.times_at-n.ensures c.if-n-eq0.true c.if-way-eq-COUNTING.true _ c.stand.ensures refl o items frames h), is-as _ _ _ _ _ (opens-none _ _ _ _ _ _ _ c.kind_of-kind.ensures c.way_of-way.ensures c.if-way-eq-COUNTING.true _ c.times_at-n.ensures c.if-n-eq0.true _ c.stand.ensures) refl refl)
-
-pub overflow_sub-n : goal.overflow_sub-n
-overflow_sub-n c = omega (arith, c.if-n-eq0.false)
+pub returns-else-n-gt0 : goal.returns-else-n-gt0
+returns-else-n-gt0 c = (kept-none _ _, (λ s place o items frames h. start_none _ _ _ _ _ _ _ c.kind_of-kind.ensures c.way_of.ensures _ s place _ c.times_at-n.ensures (omega (arith, c.if-n-gt0.false)) c.in-Counting.is _ c.stand.ensures refl o items frames h), is-as _ _ _ _ _ (opens-none _ _ _ _ _ _ _ c.kind_of-kind.ensures c.way_of.ensures c.in-Counting.is _ c.times_at-n.ensures (omega (arith, c.if-n-gt0.false)) _ c.stand.ensures) refl refl)
 
 pub push-requires : goal.push-requires
-push-requires c = let p = c.requires in omega (arith, opening-in p.0 _ _ _ _ _ p.1 p.2 p.3 p.4 p.5, opening-few p.0 _ _ _ _ _ p.1 p.2 p.3 p.4 p.5 (ap way_by (sym c.kind_of-kind.ensures) ∙ sym c.way_of-way.ensures ∙ c.if-way-eq-COUNTING.true) _ c.times_at-n.ensures)
+push-requires c = let p = c.requires in omega (arith, opening-in p.0 _ _ _ _ _ p.1 p.2 p.3 p.4 p.5, opening-few p.0 _ _ _ _ _ p.1 p.2 p.3 p.4 p.5 (ap way_by (sym c.kind_of-kind.ensures) ∙ sym c.way_of.ensures ∙ c.in-Counting.is) _ c.times_at-n.ensures)
 
-pub returns-then-way-eq-COUNTING : goal.returns-then-way-eq-COUNTING
-returns-then-way-eq-COUNTING c = (kept-written _ _ _ _ _ c.push.ensures (omega arith) (let p = c.requires in omega (arith, opening-in p.0 _ _ _ _ _ p.1 p.2 p.3 p.4 p.5)), (λ s place o items frames h. start-times _ _ _ _ _ _ _ c.kind_of-kind.ensures c.way_of-way.ensures _ s place _ _ c.push.ensures _ c.place_of-place.ensures _ c.stand-yes.ensures _ c.times_at-n.ensures c.if-n-eq0.false refl c.if-way-eq-COUNTING.true c.wants.ensures o items frames h), is-as _ _ _ _ _ (opens-times _ _ _ _ _ _ _ c.kind_of-kind.ensures c.way_of-way.ensures _ c.place_of-place.ensures _ c.stand-yes.ensures c.if-way-eq-COUNTING.true _ c.times_at-n.ensures c.if-n-eq0.false) c.wants.ensures c.push.ensures)
+pub returns-then-n-gt0 : goal.returns-then-n-gt0
+returns-then-n-gt0 c = (kept-written _ _ _ _ _ c.push.ensures (omega arith) (let p = c.requires in omega (arith, opening-in p.0 _ _ _ _ _ p.1 p.2 p.3 p.4 p.5)), (λ s place o items frames h. start-times _ _ _ _ _ _ _ c.kind_of-kind.ensures c.way_of.ensures _ s place _ _ c.push.ensures _ c.place_of-place.ensures _ c.stand-yes.ensures _ c.times_at-n.ensures (λ z. omega (arith, z, c.if-n-gt0.true)) refl c.in-Counting.is c.wants.ensures o items frames h), is-as _ _ _ _ _ (opens-times _ _ _ _ _ _ _ c.kind_of-kind.ensures c.way_of.ensures _ c.place_of-place.ensures _ c.stand-yes.ensures c.in-Counting.is _ c.times_at-n.ensures (λ z. omega (arith, z, c.if-n-gt0.true))) c.wants.ensures c.push.ensures)
 
-pub push-requires-2 : goal.push-requires-2
-push-requires-2 c = let p = c.requires in omega (arith, opening-in p.0 _ _ _ _ _ p.1 p.2 p.3 p.4 p.5)
+pub push-requires-in-Branching : goal.push-requires-in-Branching
+push-requires-in-Branching c = let p = c.requires in omega (arith, opening-in p.0 _ _ _ _ _ p.1 p.2 p.3 p.4 p.5)
 
-pub returns-then-way-eq-BRANCHING : goal.returns-then-way-eq-BRANCHING
-returns-then-way-eq-BRANCHING c = (kept-written _ _ _ _ _ c.push-2.ensures (omega arith) (let p = c.requires in omega (arith, opening-in p.0 _ _ _ _ _ p.1 p.2 p.3 p.4 p.5)), (λ s place o items frames h. start-branch _ _ _ _ _ _ _ c.kind_of-kind.ensures c.way_of-way.ensures _ s place _ 0 c.push-2.ensures _ c.place_of-place.ensures _ c.stand-yes.ensures _ _ c.wants-then-way-eq-BRANCHING.ensures c.if-way-eq-BRANCHING.true c.test_of.ensures c.stand-no.ensures o items frames h), is-as _ _ _ _ _ (opens-branch _ _ _ _ _ _ _ c.kind_of-kind.ensures c.way_of-way.ensures _ c.place_of-place.ensures _ c.stand-yes.ensures _ c.test_of.ensures _ c.if-way-eq-BRANCHING.true c.stand-no.ensures) c.wants-then-way-eq-BRANCHING.ensures c.push-2.ensures)
+pub push-requires-in-Looping : goal.push-requires-in-Looping
+push-requires-in-Looping c = let p = c.requires in omega (arith, opening-in p.0 _ _ _ _ _ p.1 p.2 p.3 p.4 p.5)
 
-pub returns-then-way-eq-LOOPING : goal.returns-then-way-eq-LOOPING
-returns-then-way-eq-LOOPING c = (kept-written _ _ _ _ _ c.push-2.ensures (omega arith) (let p = c.requires in omega (arith, opening-in p.0 _ _ _ _ _ p.1 p.2 p.3 p.4 p.5)), (λ s place o items frames h. start_loop _ _ _ _ _ _ _ c.kind_of-kind.ensures c.way_of-way.ensures _ s place _ 0 c.push-2.ensures _ c.place_of-place.ensures _ c.stand-yes.ensures _ _ c.wants-then-way-eq-LOOPING.ensures c.if-way-eq-LOOPING.true c.test_of-then-way-eq-LOOPING.ensures c.stand-no-then-way-eq-LOOPING.ensures o items frames h), is-as _ _ _ _ _ (opens-loop _ _ _ _ _ _ _ c.kind_of-kind.ensures c.way_of-way.ensures _ c.place_of-place.ensures _ c.stand-yes.ensures _ c.test_of-then-way-eq-LOOPING.ensures _ c.if-way-eq-LOOPING.true c.stand-no-then-way-eq-LOOPING.ensures) c.wants-then-way-eq-LOOPING.ensures c.push-2.ensures)
+pub push-requires-in_default : goal.push-requires-in_default
+push-requires-in_default c = let p = c.requires in omega (arith, opening-in p.0 _ _ _ _ _ p.1 p.2 p.3 p.4 p.5)
 
-pub returns : goal.returns
-returns c = (kept-written _ _ _ _ _ c.push-2.ensures (omega arith) (let p = c.requires in omega (arith, opening-in p.0 _ _ _ _ _ p.1 p.2 p.3 p.4 p.5)), (λ s place o items frames h. start-round _ _ _ _ _ _ _ c.kind_of-kind.ensures c.way_of-way.ensures _ s place _ 0 c.push-2.ensures _ c.place_of-place.ensures _ c.stand-yes.ensures c.if-way-eq-COUNTING.false c.if-way-eq-BRANCHING.false c.if-way-eq-LOOPING.false c.wants-2.ensures o items frames h), is-as _ _ _ _ _ (opens-round _ _ _ _ _ _ _ c.kind_of-kind.ensures c.way_of-way.ensures _ c.place_of-place.ensures _ c.stand-yes.ensures c.if-way-eq-COUNTING.false c.if-way-eq-BRANCHING.false c.if-way-eq-LOOPING.false) c.wants-2.ensures c.push-2.ensures)
+pub returns-in-Branching : goal.returns-in-Branching
+returns-in-Branching c = (kept-written _ _ _ _ _ c.push-in-Branching.ensures (omega arith) (let p = c.requires in omega (arith, opening-in p.0 _ _ _ _ _ p.1 p.2 p.3 p.4 p.5)), (λ s place o items frames h. start-branch _ _ _ _ _ _ _ c.kind_of-kind.ensures c.way_of.ensures _ s place _ 0 c.push-in-Branching.ensures _ c.place_of-place.ensures _ c.stand-yes.ensures _ _ c.wants-in-Branching.ensures c.in-Branching.is c.test_of.ensures c.stand-no.ensures o items frames h), is-as _ _ _ _ _ (opens-branch _ _ _ _ _ _ _ c.kind_of-kind.ensures c.way_of.ensures _ c.place_of-place.ensures _ c.stand-yes.ensures _ c.test_of.ensures _ c.in-Branching.is c.stand-no.ensures) c.wants-in-Branching.ensures c.push-in-Branching.ensures)
+
+pub returns-in-Looping : goal.returns-in-Looping
+returns-in-Looping c = (kept-written _ _ _ _ _ c.push-in-Looping.ensures (omega arith) (let p = c.requires in omega (arith, opening-in p.0 _ _ _ _ _ p.1 p.2 p.3 p.4 p.5)), (λ s place o items frames h. start_loop _ _ _ _ _ _ _ c.kind_of-kind.ensures c.way_of.ensures _ s place _ 0 c.push-in-Looping.ensures _ c.place_of-place.ensures _ c.stand-yes.ensures _ _ c.wants-in-Looping.ensures c.in-Looping.is c.test_of-in-Looping.ensures c.stand-no-in-Looping.ensures o items frames h), is-as _ _ _ _ _ (opens-loop _ _ _ _ _ _ _ c.kind_of-kind.ensures c.way_of.ensures _ c.place_of-place.ensures _ c.stand-yes.ensures _ c.test_of-in-Looping.ensures _ c.in-Looping.is c.stand-no-in-Looping.ensures) c.wants-in-Looping.ensures c.push-in-Looping.ensures)
+
+pub returns-in_default : goal.returns-in_default
+returns-in_default c = (kept-written _ _ _ _ _ c.push-in_default.ensures (omega arith) (let p = c.requires in omega (arith, opening-in p.0 _ _ _ _ _ p.1 p.2 p.3 p.4 p.5)), (λ s place o items frames h. start-round _ _ _ _ _ _ _ c.kind_of-kind.ensures c.way_of.ensures _ s place _ 0 c.push-in_default.ensures _ c.place_of-place.ensures _ c.stand-yes.ensures c.in_default.not-Counting c.in_default.not-Branching c.in_default.not-Looping c.wants-in_default.ensures o items frames h), is-as _ _ _ _ _ (opens-round _ _ _ _ _ _ _ c.kind_of-kind.ensures c.way_of.ensures _ c.place_of-place.ensures _ c.stand-yes.ensures c.in_default.not-Counting c.in_default.not-Branching c.in_default.not-Looping) c.wants-in_default.ensures c.push-in_default.ensures)

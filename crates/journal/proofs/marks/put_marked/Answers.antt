@@ -1,13 +1,9 @@
 -- `journal::marks::put_marked` meets its contract. The mark, then the line. Assumes nothing.
 use native.Mathlib.Omega.{arith}
-use Rattle.text.specs.Lines.{part}
-use Rattle.text.proofs.Parts.{part_length}
-use Rattle.journal.proofs.Writing.{marked-done}
+use Rattle.journal.proofs.Writing.{puts-both}
 use Rattle.journal.proofs.marks.put_marked.Goals as goal
 
 pub returns : goal.returns
 returns c =
     let a = c.args in
-    marked-done a.a a.b (part a.from a.to a.j.now) a.dest.now c.copy.new.dest _ a.out _
-    (omega (arith, c.requires.2, part_length a.j.now a.from a.to c.requires.1))
-    c.copy.ensures c.put_line.ensures
+    puts-both a.mark a.line.now a.dest.now _ _ a.out _ _ (omega arith) c.put_line-next.ensures c.put_line.ensures

@@ -1,60 +1,30 @@
 -- `journal::records::record_at` meets its contract. One law for each way out. Assumes nothing.
-use Prim.Native.Nat.{◌+◌}
 use mathlib.Core.Path.{sym, ◌∙◌}
 use native.Mathlib.Omega.{arith}
 use Rattle.text.proofs.Ends.{ended}
-use Rattle.journal.proofs.Places.{mark-there, no-mark, no-first, no_second, found-kept, found-changed, found-deleted, found-inserted}
+use Rattle.journal.proofs.Places.{is-changed, is-other, mark-there, no-mark, no-first, no_second, found-changed, found-other}
 use Rattle.journal.proofs.records.record_at.Goals as goal
 
-pub returns-in_default : goal.returns-in_default
-returns-in_default c =
-    let a = c.args in
-    sym (no-mark a.j.now a.at (sym c.mark_at-found.ensures ∙ c.in_default.is))
+pub returns-in_err-mark : goal.returns-in_err-mark
+returns-in_err-mark c = c.from_residual.ensures ∙ sym (no-mark _ _ (sym c.in_err-mark.ensures))
 
 pub overflow_add-at : goal.overflow_add-at
-overflow_add-at c =
-    let a = c.args in
-    let w = mark-there a.j.now a.at c.in-Is.mark (sym c.mark_at-found.ensures ∙ c.in-Is.is) in
-    omega (arith, w.2)
+overflow_add-at c = let w = mark-there c.args.j.now c.args.at _ (sym c.in_ok-mark.ensures) in omega (arith, w.2)
 
-pub returns-in_default-first : goal.returns-in_default-first
-returns-in_default-first c =
-    let a = c.args in
-    sym (no-first a.j.now a.at c.in-Is.mark (sym c.mark_at-found.ensures ∙ c.in-Is.is)
-    (sym c.line_end-first.ensures ∙ c.in_default-first.is))
+pub returns-in_err-mid : goal.returns-in_err-mid
+returns-in_err-mid c = c.from_residual-in_err-mid.ensures ∙ sym (no-first _ _ _ (sym c.in_ok-mark.ensures) (sym c.in_err-mid.ensures))
 
 pub overflow_add-mid : goal.overflow_add-mid
-overflow_add-mid c =
-    let a = c.args in
-    let w = ended a.j.now (a.at + 2) c.in-At.mid (sym c.line_end-first.ensures ∙ c.in-At.is) in
-    omega arith
+overflow_add-mid c = let w = ended _ _ _ (sym c.in_ok-mid.ensures) in omega arith
 
-pub returns-in_default-second : goal.returns-in_default-second
-returns-in_default-second c =
-    let a = c.args in
-    sym (no_second a.j.now a.at c.in-Is.mark (sym c.mark_at-found.ensures ∙ c.in-Is.is) c.in-At.mid (sym c.line_end-first.ensures ∙ c.in-At.is)
-    c.in-Changed.is (sym c.line_end-second.ensures ∙ c.in_default-second.is))
+pub returns-in_err-end : goal.returns-in_err-end
+returns-in_err-end c =
+    c.from_residual-in_err-end.ensures
+    ∙ sym (no_second _ _ _ (sym c.in_ok-mark.ensures) _ (sym c.in_ok-mid.ensures) (is-changed _ c.if-eq.ensures) (sym c.in_err-end.ensures))
 
-pub returns-in-Kept : goal.returns-in-Kept
-returns-in-Kept c =
-    let a = c.args in
-    sym (found-kept a.j.now a.at c.in-Is.mark (sym c.mark_at-found.ensures ∙ c.in-Is.is) c.in-At.mid (sym c.line_end-first.ensures ∙ c.in-At.is)
-    c.in-Kept.is)
+pub returns-then-eq : goal.returns-then-eq
+returns-then-eq c =
+    sym (found-changed _ _ _ (sym c.in_ok-mark.ensures) _ (sym c.in_ok-mid.ensures) (is-changed _ c.if-eq.ensures) _ (sym c.in_ok-end.ensures))
 
-pub returns-in-At-second : goal.returns-in-At-second
-returns-in-At-second c =
-    let a = c.args in
-    sym (found-changed a.j.now a.at c.in-Is.mark (sym c.mark_at-found.ensures ∙ c.in-Is.is) c.in-At.mid (sym c.line_end-first.ensures ∙ c.in-At.is)
-    c.in-Changed.is c.in-At-second.end (sym c.line_end-second.ensures ∙ c.in-At-second.is))
-
-pub returns-in-Deleted : goal.returns-in-Deleted
-returns-in-Deleted c =
-    let a = c.args in
-    sym (found-deleted a.j.now a.at c.in-Is.mark (sym c.mark_at-found.ensures ∙ c.in-Is.is) c.in-At.mid (sym c.line_end-first.ensures ∙ c.in-At.is)
-    c.in-Deleted.is)
-
-pub returns-in-Inserted : goal.returns-in-Inserted
-returns-in-Inserted c =
-    let a = c.args in
-    sym (found-inserted a.j.now a.at c.in-Is.mark (sym c.mark_at-found.ensures ∙ c.in-Is.is) c.in-At.mid (sym c.line_end-first.ensures ∙ c.in-At.is)
-    c.in-Inserted.is)
+pub returns : goal.returns
+returns c = sym (found-other _ _ _ (sym c.in_ok-mark.ensures) _ (sym c.in_ok-mid.ensures) (is-other _ c.if-eq.ensures))

@@ -1,9 +1,6 @@
-use mathlib.Core.Path.{sym}
-use Rattle.lexer.proofs.OneByte.{digit_low, digit-from}
+use Rattle.definitions.specs.Bytes.{is_digit}
 use Rattle.lexer.proofs.bytes.is_digit.Goals as goal
 
-pub returns-then-b-lt48 : goal.returns-then-b-lt48
-returns-then-b-lt48 c = sym (digit_low _ c.if-b-lt48.true)
-
 pub returns : goal.returns
-returns c = sym (digit-from _ c.if-b-lt48.false)
+unfolding is_digit
+returns c = c.is_ascii_digit.ensures.value

@@ -7,7 +7,7 @@ pub returns-then-b-eq10 : goal.returns-then-b-eq10
 returns-then-b-eq10 c = end_line _ _ _ c.skip_spaces-i.ensures.place (omega arith) (omega arith) (sym c.next_byte-b.ensures ∙ c.if-b-eq10.true)
 
 pub returns-then-b-ne92 : goal.returns-then-b-ne92
-returns-then-b-ne92 c = end-other _ _ _ c.skip_spaces-i.ensures.place (omega arith) (omega arith) (λ e. c.if-b-eq10.false (c.next_byte-b.ensures ∙ e)) (λ e. c.if-b-ne92.true (c.next_byte-b.ensures ∙ e))
+returns-then-b-ne92 c = rw c.at.ensures (end-other _ _ _ c.skip_spaces-i.ensures.place (omega arith) (omega arith) (λ e. c.if-b-eq10.false (c.next_byte-b.ensures ∙ e)) (λ e. c.if-b-ne92.true (c.next_byte-b.ensures ∙ e)))
 
 pub returns-then-e-s : goal.returns-then-e-s
 returns-then-e-s c =

@@ -17,4 +17,4 @@ overflow_add-result c = omega (arith, letters-room c.args.left c.args.n (omega a
 pub returns : goal.returns
 returns c =
     let a = c.args in
-    ap (λ (u : ℕ). a.n * 256 + u) (c.wide.ensures ∙ c.upper.ensures) ∙ sym (letter-counts a.left a.n a.b (omega arith))
+    ap (λ (u : ℕ). a.n * 256 + u) (c.from.ensures ∙ c.upper.ensures) ∙ sym (letter-counts a.left a.n a.b (omega arith))

@@ -1,21 +1,17 @@
 use mathlib.Core.Path.{sym, ◌∙◌}
 use native.Mathlib.Omega.{arith}
-use Rattle.answers.proofs.Taking.{is_number, no_number, up-two}
+use Rattle.answers.proofs.Taking.{passed}
 use Rattle.lexer.proofs.Spans.{span_none, span-first, span_last, span-both}
-use borrow.Enum.Refused.{opened}
 use Rattle.lexer.proofs.targets.line_span.Goals as goal
 
 pub returns-then-not-starts_target : goal.returns-then-not-starts_target
 returns-then-not-starts_target c = span_none _ _ _ c.skip_spaces-i.ensures.place (omega arith) (omega arith) (sym c.starts_target.ensures ∙ c.if-not-starts_target.true)
 
-pub returns-in_default : goal.returns-in_default
-returns-in_default c = up-two (no_number c.target-first.ensures (opened c.in_default.in_default-own.keys2)) (span-first _ _ _ c.skip_spaces-i.ensures.place (omega arith) (omega arith) (sym c.starts_target.ensures ∙ c.if-not-starts_target.false))
+pub returns-in_err-first : goal.returns-in_err-first
+returns-in_err-first c = rw (passed _ _ c.from_residual.ensures.1) (span-first _ _ _ c.skip_spaces-i.ensures.place (omega arith) (omega arith) (sym c.starts_target.ensures ∙ c.if-not-starts_target.false) _ _ c.in_err-first.ensures)
 
-pub through-last-requires : goal.through-last-requires
-through-last-requires c = (is_number c.target-first.ensures c.in-Number.is).2
-
-pub returns-in_default-last : goal.returns-in_default-last
-returns-in_default-last c = up-two (no_number c.through-last.ensures (opened c.in_default-last.in_default-last-own.keys2)) (span_last _ _ _ c.skip_spaces-i.ensures.place (omega arith) (omega arith) (sym c.starts_target.ensures ∙ c.if-not-starts_target.false) _ _ (is_number c.target-first.ensures c.in-Number.is))
+pub returns-in_err-last : goal.returns-in_err-last
+returns-in_err-last c = rw (passed _ _ c.from_residual-in_err-last.ensures.1) (span_last _ _ _ c.skip_spaces-i.ensures.place (omega arith) (omega arith) (sym c.starts_target.ensures ∙ c.if-not-starts_target.false) _ _ c.in_ok-first.ensures _ _ c.in_err-last.ensures)
 
 pub returns : goal.returns
-returns c = span-both _ _ _ c.skip_spaces-i.ensures.place (omega arith) (omega arith) (sym c.starts_target.ensures ∙ c.if-not-starts_target.false) _ _ (is_number c.target-first.ensures c.in-Number.is) _ _ (is_number c.through-last.ensures c.in-Number-last.is)
+returns c = span-both _ _ _ c.skip_spaces-i.ensures.place (omega arith) (omega arith) (sym c.starts_target.ensures ∙ c.if-not-starts_target.false) _ _ c.in_ok-first.ensures _ _ c.in_ok-last.ensures

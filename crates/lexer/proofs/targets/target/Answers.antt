@@ -17,4 +17,4 @@ pub returns-then-b-eq42 : goal.returns-then-b-eq42
 returns-then-b-eq42 c = target-eof _ _ (λ e. c.if-b-eq46.false (c.next_byte-b.ensures ∙ e)) (sym c.next_byte-b.ensures ∙ c.if-b-eq42.true)
 
 pub returns : goal.returns
-returns c = target-number _ _ (λ e. c.if-b-eq46.false (c.next_byte-b.ensures ∙ e)) (λ e. c.if-b-eq42.false (c.next_byte-b.ensures ∙ e)) c.number.ensures
+returns c = target-number _ _ _ (λ e. c.if-b-eq46.false (c.next_byte-b.ensures ∙ e)) (λ e. c.if-b-eq42.false (c.next_byte-b.ensures ∙ e)) c.number.ensures

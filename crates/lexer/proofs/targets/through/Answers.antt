@@ -12,7 +12,7 @@ pub returns-then-b-eq42 : goal.returns-then-b-eq42
 returns-then-b-eq42 c = through-eof _ _ _ c.skip_spaces-i.ensures.place (omega arith) (omega arith) (sym c.next_byte-b.ensures ∙ c.if-b-eq42.true)
 
 pub returns-then-is_digit : goal.returns-then-is_digit
-returns-then-is_digit c = through-number _ _ _ c.skip_spaces-i.ensures.place (omega arith) (omega arith) (λ e. c.if-b-eq42.false (c.next_byte-b.ensures ∙ e)) (ap is_digit (sym c.next_byte-b.ensures) ∙ sym c.is_digit.ensures ∙ c.if-is_digit.true) c.number.ensures
+returns-then-is_digit c = through-number _ _ _ c.skip_spaces-i.ensures.place (omega arith) (omega arith) (λ e. c.if-b-eq42.false (c.next_byte-b.ensures ∙ e)) _ (ap is_digit (sym c.next_byte-b.ensures) ∙ sym c.is_digit.ensures ∙ c.if-is_digit.true) c.number.ensures
 
 pub returns : goal.returns
 returns c = through-alone _ _ _ c.skip_spaces-i.ensures.place (omega arith) (omega arith) (λ e. c.if-b-eq42.false (c.next_byte-b.ensures ∙ e)) (ap is_digit (sym c.next_byte-b.ensures) ∙ sym c.is_digit.ensures ∙ c.if-is_digit.false)

@@ -1,10 +1,8 @@
 use native.Mathlib.Omega.{arith}
-use Rattle.lexer.specs.Words.{ElseRead}
 use Rattle.lexer.proofs.ThenElse.{else_is, else-other, else-passed}
 use Rattle.lexer.proofs.words.skip_else.Goals as goal
 
 pub returns-then-w-eq1162629957 : goal.returns-then-w-eq1162629957
-unfolding ElseRead
 returns-then-w-eq1162629957 c = (
   else_is _ _ _ _ _ c.skip_spaces-i.ensures.place c.name-w.ensures.read c.if-w-eq1162629957.true,
   else-passed _ _ _ _ _ c.skip_spaces-i.ensures.place c.name-w.ensures.read _ c.skip_spaces.ensures.place,
@@ -13,5 +11,4 @@ returns-then-w-eq1162629957 c = (
 )
 
 pub returns : goal.returns
-unfolding ElseRead
 returns c = else-other _ _ _ _ _ c.skip_spaces-i.ensures.place c.name-w.ensures.read c.if-w-eq1162629957.false

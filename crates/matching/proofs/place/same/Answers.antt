@@ -9,17 +9,17 @@ use Rattle.matching.proofs.place.same.Goals as goal
 pub loop-k-init : goal.loop-k-init
 loop-k-init c = (omega arith, rw add-zero)
 
-pub returns-then-s-k : goal.returns-then-s-k
-returns-then-s-k c =
+pub returns-then-b-line : goal.returns-then-b-line
+returns-then-b-line c =
     let l = c.loop-k in
     let a = c.args in
-    sym (l.invariant.1 ∙ plain-differs a.s.now a.line.now a.at l.k (omega arith) (omega arith) c.if-s-k.true)
+    sym (l.invariant.1 ∙ plain-differs a.s.now a.line.now a.at l.k (omega arith) (omega arith) c.if-b-line.true)
 
 pub loop-k-preserved : goal.loop-k-preserved
 loop-k-preserved c =
     let l = c.loop-k in
     let a = c.args in
-    (omega arith, l.invariant.1 ∙ plain-agrees a.s.now a.line.now a.at l.k (omega arith) (omega arith) c.if-s-k.false)
+    (omega arith, l.invariant.1 ∙ plain-agrees a.s.now a.line.now a.at l.k (omega arith) (omega arith) c.if-b-line.false)
 
 pub returns : goal.returns
 returns c =

@@ -9,7 +9,7 @@ pub loop-start-init : goal.loop-start-init
 loop-start-init c = right-begins _ _ _ _ _ _ _ _ (search rules)
 
 pub stands-requires : goal.stands-requires
-stands-requires c = omega (arith, right-inside _ _ _ _ _ _ _ _ _ _ c.loop-start.invariant c.requires.1)
+stands-requires c = omega (arith, right-inside _ _ _ _ _ _ _ _ _ _ c.loop-start.invariant c.requires.0)
 
 pub returns-then-k-le1 : goal.returns-then-k-le1
 returns-then-k-le1 c = right-found _ _ _ _ _ _ _ _ _ _ c.loop-start.invariant c.if-k-le1.true (sym c.stands.ensures ∙ c.if-stands.true)
@@ -18,13 +18,13 @@ pub overflow_sub-i-then-stands : goal.overflow_sub-i-then-stands
 overflow_sub-i-then-stands c = c.loop-start.invariant.lo
 
 pub returns-then-i-start : goal.returns-then-i-start
-returns-then-i-start c = right-too-few _ _ _ _ _ _ _ _ _ _ c.loop-start.invariant c.if-k-le1.false (sym c.stands.ensures ∙ c.if-stands.true) _ c.step_of-step.ensures c.if-i-start.true
+returns-then-i-start c = right-too-few _ _ _ _ _ _ _ _ _ _ c.loop-start.invariant c.if-k-le1.false (sym c.stands.ensures ∙ c.if-stands.true) _ c.max-step.ensures c.if-i-start.true
 
 pub loop-start-smaller-then-stands : goal.loop-start-smaller-then-stands
-loop-start-smaller-then-stands c = right-next-falls _ _ _ _ _ _ _ _ _ _ c.loop-start.invariant c.if-k-le1.false (sym c.stands.ensures ∙ c.if-stands.true) _ c.step_of-step.ensures c.if-i-start.false
+loop-start-smaller-then-stands c = right-next-falls _ _ _ _ _ _ _ _ _ _ c.loop-start.invariant c.if-k-le1.false (sym c.stands.ensures ∙ c.if-stands.true) _ c.max-step.ensures c.if-i-start.false
 
 pub loop-start-preserved-then-stands : goal.loop-start-preserved-then-stands
-loop-start-preserved-then-stands c = right-next _ _ _ _ _ _ _ _ _ _ c.loop-start.invariant c.if-k-le1.false (sym c.stands.ensures ∙ c.if-stands.true) _ c.step_of-step.ensures c.if-i-start.false
+loop-start-preserved-then-stands c = right-next _ _ _ _ _ _ _ _ _ _ c.loop-start.invariant c.if-k-le1.false (sym c.stands.ensures ∙ c.if-stands.true) _ c.max-step.ensures c.if-i-start.false
 
 pub returns-then-i-start-2 : goal.returns-then-i-start-2
 returns-then-i-start-2 c = right-missed _ _ _ _ _ _ _ _ _ _ c.loop-start.invariant (sym c.stands.ensures ∙ c.if-stands.false) c.if-i-start-2.true

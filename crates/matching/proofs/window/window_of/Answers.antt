@@ -8,7 +8,7 @@ returns-then-from-eq0 c = whole-window _ _ _ _ (search rules) c.if-from-eq0.true
 pub returns : goal.returns
 returns c =
     cut-window _ _ _ _ (search rules) (search rules) _ _ _ _
-    c.greatest.ensures
-    c.least-start.ensures
-    c.least.ensures
-    c.greatest-end.ensures
+    c.max.ensures
+    c.min-start.ensures
+    c.min.ensures
+    c.max-end.ensures

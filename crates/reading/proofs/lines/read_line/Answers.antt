@@ -13,10 +13,10 @@ pass_record-s-requires c =
     (w.0, kept w.1, map kept w.2, w.3)
 
 pub take_text-requires : goal.take_text-requires
-take_text-requires c = line-asks _ _ _ _ c.pass_text-left.ensures c.pass_record-s.ensures c.in-Text.is c.requires.0 c.requires.1 c.requires.2 c.pass_text-left.auto.line
+take_text-requires c = line-asks _ _ _ _ c.pass_text-left.ensures c.pass_record-s.ensures c.in-Ok.is c.requires.0 c.requires.1 c.requires.2 c.pass_text-left.auto.line
 
-pub returns-in-Long : goal.returns-in-Long
-returns-in-Long c = line-long _ _ _ _ c.pass_text-left.ensures c.pass_record-s.ensures c.in-Long.is
+pub returns-in-Err : goal.returns-in-Err
+returns-in-Err c = line-long _ _ _ _ c.pass_text-left.ensures c.pass_record-s.ensures c.in-Err.is
 
-pub returns-in-Text : goal.returns-in-Text
-returns-in-Text c = line-takes _ _ _ _ c.pass_text-left.ensures c.pass_record-s.ensures c.in-Text.is _ _ c.pass_record-s.auto.j c.take_text.ensures
+pub returns-in-Ok : goal.returns-in-Ok
+returns-in-Ok c = line-takes _ _ _ _ c.pass_text-left.ensures c.pass_record-s.ensures c.in-Ok.is _ _ c.pass_record-s.auto.j c.take_text.ensures

@@ -1,8 +1,8 @@
 -- `run::decoded::run_items` meets its contract. Assumes nothing.
 use mathlib.Core.Path.{refl, ◌∙◌}
 use native.Mathlib.Omega.{arith}
-use Rattle.control.proofs.Pulling.{at-start}
-use Rattle.run.proofs.Going.{going_start, going_done, going-wants, going-late, going-yes, going-no, going-stops, stands-pulled, yes-lines, no_lines}
+use Rattle.control.proofs.Pulling.{at-start, none-yet}
+use Rattle.run.proofs.Going.{going_start, going_done, going-wants, going-late, going-on, going-stops, stands-pulled, went-lines}
 use Rattle.run.proofs.Stepping.{step-came}
 use Rattle.run.proofs.decoded.run_items.Goals as goal
 
@@ -10,7 +10,7 @@ pub loop-x-init : goal.loop-x-init
 loop-x-init c = (
   (λ items e t d r. going_start _ _ items e t (at-start _ _ _ items d.start _ c.start-c.ensures) c.requires.1 d r),
   omega arith,
-  rw c.start-c.ensures (omega arith),
+  none-yet _ _ c.start-c.ensures,
   refl,
   refl,
 )
@@ -36,49 +36,28 @@ shape_of-j-then-made-budget c = c.loop-x.invariant.4
 pub returns-then-made-budget : goal.returns-then-made-budget
 returns-then-made-budget c =
     let start = c.requires.0.0.1 in
-    λ items e t d r. let g = c.loop-x.invariant.0 items e t d r in let h = going-wants g start.form start.start.ready.short _ _ _ _ c.in-Want.is (c.pull-next.ensures.1 _ g.from g.stands) in going-late g _ c.pull-next.ensures.0 _ _ h c.if-made-budget.true
+    λ items e t d r. let g = c.loop-x.invariant.0 items e t d r in let h = going-wants g start.form start.start.ready.short _ _ _ _ c.in-Some.is (c.pull-next.ensures.1 _ g.from g.stands) in going-late g _ c.pull-next.ensures.0 _ _ h c.if-made-budget.true
 
 pub answer_step-r-requires : goal.answer_step-r-requires
 answer_step-r-requires c =
     let start = c.requires.0.0.1 in
     let g = (let p = c.requires in c.loop-x.invariant.0 p.0.0.0 p.2.0 p.2.1 p.0.0.1 p.2.2) in
-    let h = going-wants g start.form start.start.ready.short _ _ _ _ c.in-Want.is (c.pull-next.ensures.1 _ g.from g.stands) in
+    let h = going-wants g start.form start.start.ready.short _ _ _ _ c.in-Some.is (c.pull-next.ensures.1 _ g.from g.stands) in
     (((_, g.from, h.op, h.c₁, h.c₀, h.wants, (g.carries, stands-pulled g _ c.pull-next.ensures.0)), (g.then, g.rest, g.ready)), omega arith, omega (arith, h.shown.few, c.requires.0.1))
 
 pub overflow_add-made : goal.overflow_add-made
 overflow_add-made c =
     let start = c.requires.0.0.1 in
     let g = (let p = c.requires in c.loop-x.invariant.0 p.0.0.0 p.2.0 p.2.1 p.0.0.1 p.2.2) in
-    let h = going-wants g start.form start.start.ready.short _ _ _ _ c.in-Want.is (c.pull-next.ensures.1 _ g.from g.stands) in
+    let h = going-wants g start.form start.start.ready.short _ _ _ _ c.in-Some.is (c.pull-next.ensures.1 _ g.from g.stands) in
     let w = step-came c.args.j.now g h c.pull-next.ensures.0 c.loop-x.invariant.4 (omega arith) _ _ _ c.answer_step-r.ensures.answers_step in
     omega (arith, w.few, c.requires.0.1)
-
-pub loop-x-smaller-in-Yes : goal.loop-x-smaller-in-Yes
-loop-x-smaller-in-Yes c =
-    let start = c.requires.0.0.1 in
-    let g = (let p = c.requires in c.loop-x.invariant.0 p.0.0.0 p.2.0 p.2.1 p.0.0.1 p.2.2) in
-    let h = going-wants g start.form start.start.ready.short _ _ _ _ c.in-Want.is (c.pull-next.ensures.1 _ g.from g.stands) in
-    let w = step-came c.args.j.now g h c.pull-next.ensures.0 c.loop-x.invariant.4 (omega arith) _ _ _ c.answer_step-r.ensures.answers_step in
-    omega (arith, w.began, w.few)
-
-pub loop-x-preserved-in-Yes : goal.loop-x-preserved-in-Yes
-loop-x-preserved-in-Yes c =
-    let start = c.requires.0.0.1 in
-    let g = (let p = c.requires in c.loop-x.invariant.0 p.0.0.0 p.2.0 p.2.1 p.0.0.1 p.2.2) in
-    let h = going-wants g start.form start.start.ready.short _ _ _ _ c.in-Want.is (c.pull-next.ensures.1 _ g.from g.stands) in
-    let w = step-came c.args.j.now g h c.pull-next.ensures.0 c.loop-x.invariant.4 (omega arith) _ _ _ c.answer_step-r.ensures.answers_step in (
-      (λ items e t d r. let g = c.loop-x.invariant.0 items e t d r in let h = going-wants g start.form start.start.ready.short _ _ _ _ c.in-Want.is (c.pull-next.ensures.1 _ g.from g.stands) in going-yes g _ refl _ _ _ _ _ h _ c.answer_step-r.ensures.only_carried (step-came c.args.j.now g h c.pull-next.ensures.0 c.loop-x.invariant.4 (omega arith) _ _ _ c.answer_step-r.ensures.answers_step) _ c.go_on-c.ensures _ c.in-Yes.is),
-      omega (arith, w.few),
-      yes-lines _ c.in-Want.x _ _ c.go_on-c.ensures h.shown.yes_few (omega (arith, w.began, c.loop-x.invariant.2)),
-      c.answer_step-r.auto.w ∙ c.pull-next.auto.w ∙ c.loop-x.invariant.3,
-      c.answer_step-r.auto.j ∙ c.loop-x.invariant.4,
-    )
 
 pub loop-x-smaller : goal.loop-x-smaller
 loop-x-smaller c =
     let start = c.requires.0.0.1 in
     let g = (let p = c.requires in c.loop-x.invariant.0 p.0.0.0 p.2.0 p.2.1 p.0.0.1 p.2.2) in
-    let h = going-wants g start.form start.start.ready.short _ _ _ _ c.in-Want.is (c.pull-next.ensures.1 _ g.from g.stands) in
+    let h = going-wants g start.form start.start.ready.short _ _ _ _ c.in-Some.is (c.pull-next.ensures.1 _ g.from g.stands) in
     let w = step-came c.args.j.now g h c.pull-next.ensures.0 c.loop-x.invariant.4 (omega arith) _ _ _ c.answer_step-r.ensures.answers_step in
     omega (arith, w.began, w.few)
 
@@ -86,22 +65,22 @@ pub loop-x-preserved : goal.loop-x-preserved
 loop-x-preserved c =
     let start = c.requires.0.0.1 in
     let g = (let p = c.requires in c.loop-x.invariant.0 p.0.0.0 p.2.0 p.2.1 p.0.0.1 p.2.2) in
-    let h = going-wants g start.form start.start.ready.short _ _ _ _ c.in-Want.is (c.pull-next.ensures.1 _ g.from g.stands) in
+    let h = going-wants g start.form start.start.ready.short _ _ _ _ c.in-Some.is (c.pull-next.ensures.1 _ g.from g.stands) in
     let w = step-came c.args.j.now g h c.pull-next.ensures.0 c.loop-x.invariant.4 (omega arith) _ _ _ c.answer_step-r.ensures.answers_step in (
-      (λ items e t d r. let g = c.loop-x.invariant.0 items e t d r in let h = going-wants g start.form start.start.ready.short _ _ _ _ c.in-Want.is (c.pull-next.ensures.1 _ g.from g.stands) in going-no g _ refl _ _ _ _ _ h _ c.answer_step-r.ensures.only_carried (step-came c.args.j.now g h c.pull-next.ensures.0 c.loop-x.invariant.4 (omega arith) _ _ _ c.answer_step-r.ensures.answers_step) _ c.go_on-c-in-No.ensures _ c.in-No.is),
+      (λ items e t d r. let g = c.loop-x.invariant.0 items e t d r in let h = going-wants g start.form start.start.ready.short _ _ _ _ c.in-Some.is (c.pull-next.ensures.1 _ g.from g.stands) in going-on g _ refl _ _ _ _ _ h _ c.answer_step-r.ensures.only_carried (step-came c.args.j.now g h c.pull-next.ensures.0 c.loop-x.invariant.4 (omega arith) _ _ _ c.answer_step-r.ensures.answers_step) _ _ c.go_on-c.ensures c.in-Ok.is),
       omega (arith, w.few),
-      no_lines _ c.in-Want.x _ _ c.go_on-c-in-No.ensures h.shown.no_few (omega (arith, w.began, c.loop-x.invariant.2)),
+      went-lines _ c.in-Some.x _ _ _ c.go_on-c.ensures h.shown.yes_few h.shown.no_few (omega (arith, w.began, c.loop-x.invariant.2)),
       c.answer_step-r.auto.w ∙ c.pull-next.auto.w ∙ c.loop-x.invariant.3,
       c.answer_step-r.auto.j ∙ c.loop-x.invariant.4,
     )
 
-pub shape_of-w-in-Stop : goal.shape_of-w-in-Stop
-shape_of-w-in-Stop c = c.answer_step-r.auto.w ∙ c.pull-next.auto.w ∙ c.loop-x.invariant.3
+pub shape_of-w-in-Err : goal.shape_of-w-in-Err
+shape_of-w-in-Err c = c.answer_step-r.auto.w ∙ c.pull-next.auto.w ∙ c.loop-x.invariant.3
 
-pub shape_of-j-in-Stop : goal.shape_of-j-in-Stop
-shape_of-j-in-Stop c = c.answer_step-r.auto.j ∙ c.loop-x.invariant.4
+pub shape_of-j-in-Err : goal.shape_of-j-in-Err
+shape_of-j-in-Err c = c.answer_step-r.auto.j ∙ c.loop-x.invariant.4
 
-pub returns-in-Stop : goal.returns-in-Stop
-returns-in-Stop c =
+pub returns-in-Err : goal.returns-in-Err
+returns-in-Err c =
     let start = c.requires.0.0.1 in
-    λ items e t d r. let g = c.loop-x.invariant.0 items e t d r in let h = going-wants g start.form start.start.ready.short _ _ _ _ c.in-Want.is (c.pull-next.ensures.1 _ g.from g.stands) in going-stops g _ refl _ _ _ _ _ h _ c.answer_step-r.ensures.only_carried (step-came c.args.j.now g h c.pull-next.ensures.0 c.loop-x.invariant.4 (omega arith) _ _ _ c.answer_step-r.ensures.answers_step) _ _ c.in-Stop.is _ c.stopped.ensures
+    λ items e t d r. let g = c.loop-x.invariant.0 items e t d r in let h = going-wants g start.form start.start.ready.short _ _ _ _ c.in-Some.is (c.pull-next.ensures.1 _ g.from g.stands) in going-stops g _ refl _ _ _ _ _ h _ c.answer_step-r.ensures.only_carried (step-came c.args.j.now g h c.pull-next.ensures.0 c.loop-x.invariant.4 (omega arith) _ _ _ c.answer_step-r.ensures.answers_step) _ _ c.in-Err.is _ (rw c.from.ensures at c.stopped.ensures)

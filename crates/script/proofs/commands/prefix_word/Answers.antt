@@ -1,6 +1,5 @@
 -- `script::commands::prefix_word` meets its contract. Assumes nothing.
-use mathlib.Core.Path.{refl}
 use Rattle.script.proofs.commands.prefix_word.Goals as goal
 
 pub returns : goal.returns
-returns c = (rw c.head.ensures, refl)
+returns c = (rw c.head.ensures, c.prefix.ensures)

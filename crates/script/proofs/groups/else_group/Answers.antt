@@ -3,12 +3,11 @@ use native.Mathlib.Omega.{arith}
 use lib.ListN.{length-set}
 use Rattle.script.proofs.Keeping.{free}
 use mathlib.Core.Path.{sym, ◌∙◌}
-use Rattle.script.proofs.OneRound.{refusal-comes}
 use Rattle.script.proofs.Nested.{ending-room, else-missing, else-opens}
 use Rattle.script.proofs.groups.else_group.Goals as goal
 
 pub returns-then-next_byte-ne40 : goal.returns-then-next_byte-ne40
-returns-then-next_byte-ne40 c = λ acc h. refusal-comes _ _ _ _ _ _ (else-missing _ _ _ _ acc h _ (λ e. c.if-next_byte-ne40.true (c.next_byte.ensures ∙ e)))
+returns-then-next_byte-ne40 c = λ acc h. rw c.at.ensures (else-missing _ _ _ _ acc h _ (λ e. c.if-next_byte-ne40.true (c.next_byte.ensures ∙ e)))
 
 pub bounds-w-k-2 : goal.bounds-w-k-2
 bounds-w-k-2 c = simp length-set (omega (arith, free _ _ _ _ _ c.requires.0.1))

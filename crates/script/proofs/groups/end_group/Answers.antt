@@ -7,8 +7,8 @@ pub put_closes-requires : goal.put_closes-requires
 put_closes-requires c =
     omega (arith, (ending-room _ _ _ _ _ c.requires.0.2 c.requires.1 _ c.requires.2).0)
 
-pub overflow_add-next : goal.overflow_add-next
-overflow_add-next c =
+pub overflow_add-value : goal.overflow_add-value
+overflow_add-value c =
     omega (arith, (ending-room _ _ _ _ _ c.requires.0.2 c.requires.1 _ c.requires.2).0)
 
 pub returns : goal.returns

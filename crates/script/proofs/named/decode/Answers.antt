@@ -2,7 +2,6 @@
 use mathlib.Core.Path.{refl}
 use Rattle.script.specs.Commands.{of_points, of_splits, of_inserts, of_joins}
 use Rattle.script.proofs.Choosing.{is-seeks, is-moves, is-deletes, is-string, is-lines, is-replaces, is-alters, is-points, is-splits, is-joins, is-globals, is-names, is-branches, is-loops, is-unknown, long-branch, long-loop, plain-written, leaves-written, repeats-written, eof-written}
-use Rattle.answers.specs.Answers.{CommandOr}
 use Rattle.script.proofs.named.decode.Goals as goal
 
 pub quotes-requires : goal.quotes-requires
@@ -72,10 +71,10 @@ pub returns-in-Branches : goal.returns-in-Branches
 returns-in-Branches c = rw (is-branches _ _ _ _ _ c.in-Branches.is) c.branches.ensures
 
 pub returns-in-BranchesEof : goal.returns-in-BranchesEof
-returns-in-BranchesEof c = eof-written _ _ _ _ _ _ c.requires.0 _ _ _ _ c.in-BranchesEof.is c.requires.1 c.skip_then.ensures.place c.skip_then.ensures.within.0 c.skip_then.ensures.within.1 c.prefix_word-in-BranchesEof.ensures
+returns-in-BranchesEof c = eof-written _ _ _ _ _ _ c.requires.0 _ _ _ _ c.in-BranchesEof.is c.requires.1 c.skip_then-next.ensures.place c.skip_then-next.ensures.within.0 c.skip_then-next.ensures.within.1 c.prefix_word-in-BranchesEof.ensures
 
 pub returns-in-Loops : goal.returns-in-Loops
 returns-in-Loops c = rw (is-loops _ _ _ _ _ c.in-Loops.is) c.loops.ensures
 
 pub returns-in-Unknown : goal.returns-in-Unknown
-returns-in-Unknown c = CommandOr.refused _ _ (is-unknown _ _ _ _ c.in-Unknown.is)
+returns-in-Unknown c = rw c.at.ensures (is-unknown _ _ _ _ c.in-Unknown.is)

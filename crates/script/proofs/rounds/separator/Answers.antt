@@ -5,7 +5,7 @@ use Rattle.script.proofs.rounds.separator.Goals as goal
 
 pub returns-then-st-ne0 : goal.returns-then-st-ne0
 unfolding separated
-returns-then-st-ne0 c = rw (ne_eqb _ _ c.if-st-ne0.true)
+returns-then-st-ne0 c = rw (ne_eqb _ _ c.if-st-ne0.true, c.at.ensures)
 
 pub returns : goal.returns
 unfolding separated

@@ -1,35 +1,16 @@
 -- `seasons::measure::length_of` meets its contract. By the texts. Assumes nothing.
 use mathlib.Core.Path.{◌∙◌}
-use native.Mathlib.Omega.{arith}
-use Rattle.seasons.proofs.Lengths.{stand-both, stand-old, stand-new, length_two, length-old, length-new, length_none}
+use Rattle.seasons.proofs.Lengths.{length_two, length-old, length-new, length_none}
 use Rattle.seasons.proofs.measure.length_of.Goals as goal
 
-pub both_length-requires : goal.both_length-requires
-both_length-requires c =
-    stand-both c.args.j.now c.args.k.now c.args.line c.requires c.in-Both.old c.in-Both.new c.in-Both.is
+pub returns-in-Some-Some : goal.returns-in-Some-Some
+returns-in-Some-Some c = let w = c.in-Some-Some in c.both_length.ensures ∙ length_two _ _ _ c.requires _ _ w.is-0 w.is-1
 
-pub marked_length-requires : goal.marked_length-requires
-marked_length-requires c =
-    let w = stand-old c.args.j.now c.args.k.now c.args.line c.requires c.in-Old.old c.in-Old.is in
-    (omega (arith, w.low), w.short)
+pub returns-in-Some-None : goal.returns-in-Some-None
+returns-in-Some-None c = let w = c.in-Some-None in c.marked_length.ensures ∙ length-old _ _ _ c.requires _ w.is-0 w.is-1
 
-pub marked_length-requires-in-New : goal.marked_length-requires-in-New
-marked_length-requires-in-New c =
-    let w = stand-new c.args.j.now c.args.k.now c.args.line c.requires c.in-New.new c.in-New.is in
-    (omega (arith, w.low), w.short)
+pub returns-in-None-Some : goal.returns-in-None-Some
+returns-in-None-Some c = let w = c.in-None-Some in c.marked_length-in-None-Some.ensures ∙ length-new _ _ _ c.requires _ w.is-0 w.is-1
 
-pub returns-in-Both : goal.returns-in-Both
-returns-in-Both c =
-    c.both_length.ensures ∙ length_two c.args.j.now c.args.k.now c.args.line c.requires c.in-Both.old c.in-Both.new c.in-Both.is
-
-pub returns-in-Old : goal.returns-in-Old
-returns-in-Old c =
-    c.marked_length.ensures ∙ length-old c.args.j.now c.args.k.now c.args.line c.requires c.in-Old.old c.in-Old.is
-
-pub returns-in-New : goal.returns-in-New
-returns-in-New c =
-    c.marked_length-in-New.ensures ∙ length-new c.args.j.now c.args.k.now c.args.line c.requires c.in-New.new c.in-New.is
-
-pub returns-in-Neither : goal.returns-in-Neither
-returns-in-Neither c =
-    length_none c.args.j.now c.args.k.now c.args.line c.requires c.in-Neither.is
+pub returns-in-None-None : goal.returns-in-None-None
+returns-in-None-None c = let w = c.in-None-None in length_none _ _ _ c.requires w.is-0 w.is-1

@@ -1,51 +1,53 @@
 -- `seasons::measure::measure` meets its contract. The loop's invariant is `Measuring`. Assumes nothing.
-use mathlib.Core.Path.{sym, ◌∙◌}
+use Rattle.std.proofs.Common.{ℕ, ◌-◌, ◌≤◌, Option, SomeIff, Ok, Err}
+use Rattle.std.proofs.lemmas.Result.{err_from_is_err_and}
+use mathlib.Core.Path.{sym, ap, subst, ◌∙◌}
 use native.Mathlib.Omega.{arith}
-use borrow.Enum.Refused.{opened}
-use Rattle.seasons.proofs.Lengths.{measuring-start, measuring-end, measuring-stands, measuring-further, measuring-short, measuring-next}
+use Rattle.seasons.proofs.Lengths.{measuring-differs, measuring-fits, measuring-long, measuring-stands, measuring-further, measuring-more, measuring-over}
 use Rattle.seasons.proofs.measure.measure.Goals as goal
+use Rattle.seasons.proofs.measure.measure.Goals.{in-Some-left, in_default-left}
 
-pub loop-line-init : goal.loop-line-init
-loop-line-init c =
-    measuring-start c.args.j.now c.args.k.now c.args.size c.requires.0 c.requires.1 c.requires.2 c.requires.3
-
-pub overflow_sub-size : goal.overflow_sub-size
-overflow_sub-size c = c.loop-line.invariant.most
-
-pub returns-in_default : goal.returns-in_default
-returns-in_default c rs ss f s =
-    let l = c.loop-line in
+pub returns-in_err-next : goal.returns-in_err-next
+returns-in_err-next c rs ss f s =
+    let l = c.loop-next in
     let a = c.args in
-    c.verdict.ensures ∙ measuring-end a.j.now a.k.now a.size l.p l.left l.short l.invariant _ c.next_line-next.ensures (opened c.in_default.in_default-own.keys2) rs ss f s
+    let y = err_from_is_err_and _ c.from_residual.ensures.1 in
+    y.1 ∙ ap Err y.2 ∙ measuring-differs a.j.now a.k.now a.size l.p l.left l.invariant _ c.in_err-next.ensures rs ss f s
 
 pub length_of-need-requires : goal.length_of-need-requires
 length_of-need-requires c =
-    let l = c.loop-line in
+    let l = c.loop-next in
     let a = c.args in
-    measuring-stands a.j.now a.k.now a.size l.p l.left l.short l.invariant c.in-Line.line c.in-Line.after (sym c.next_line-next.ensures ∙ c.in-Line.is)
+    measuring-stands a.j.now a.k.now a.size l.p l.left l.invariant _ (ap Ok (sym c.in-Some.is) ∙ c.in_ok-next.ensures)
 
-pub loop-line-smaller-then-left-need : goal.loop-line-smaller-then-left-need
-loop-line-smaller-then-left-need c =
-    let l = c.loop-line in
+pub loop-next-smaller : goal.loop-next-smaller
+loop-next-smaller c =
+    let l = c.loop-next in
     let a = c.args in
-    let f = measuring-further a.j.now a.k.now a.size l.p l.left l.short l.invariant c.in-Line.line c.in-Line.after (sym c.next_line-next.ensures ∙ c.in-Line.is) in
+    let f = measuring-further a.j.now a.k.now a.size l.p l.left l.invariant c.in-Some.next (ap Ok (sym c.in-Some.is) ∙ c.in_ok-next.ensures) in
     omega (arith, f.0, f.1)
 
-pub loop-line-preserved-then-left-need : goal.loop-line-preserved-then-left-need
-loop-line-preserved-then-left-need c =
-    let l = c.loop-line in
+pub loop-next-preserved : goal.loop-next-preserved
+loop-next-preserved c =
+    let l = c.loop-next in
     let a = c.args in
-    measuring-short a.j.now a.k.now a.size l.p l.left l.short l.invariant c.in-Line.line c.in-Line.after (sym c.next_line-next.ensures ∙ c.in-Line.is) c.length_of-need.result c.length_of-need.ensures c.if-left-need.true
+    let e = ap Ok (sym c.in-Some.is) ∙ c.in_ok-next.ensures in
+    elim c.match-left.branch [
+      | in-Some-left w ↦
+          measuring-more a.j.now a.k.now a.size l.p l.left l.invariant _ e _ c.length_of-need.ensures _ _ w.in-Some-left.is
+          (subst (λ (o : Option ℕ). SomeIff o (c.length_of-need.result ≤ w.in-Some-left.room) (w.in-Some-left.room - c.length_of-need.result)) (sym w.left-is) w.checked_sub-left.ensures)
+      | in_default-left w ↦
+          measuring-over a.j.now a.k.now a.size l.p l.left l.invariant _ e _ c.length_of-need.ensures _ w.in_default-left.is (w.left-is ∙ w.in_default-left.is)
+    ]
 
-pub loop-line-smaller : goal.loop-line-smaller
-loop-line-smaller c =
-    let l = c.loop-line in
+pub returns-in-Some-left-2 : goal.returns-in-Some-left-2
+returns-in-Some-left-2 c rs ss f s =
+    let l = c.loop-next in
     let a = c.args in
-    let f = measuring-further a.j.now a.k.now a.size l.p l.left l.short l.invariant c.in-Line.line c.in-Line.after (sym c.next_line-next.ensures ∙ c.in-Line.is) in
-    omega (arith, f.0, f.1)
+    measuring-fits a.j.now a.k.now a.size l.p l.left l.invariant (ap Ok (sym c.in_default.is) ∙ c.in_ok-next.ensures) rs ss f s c.in-Some-left-2.room c.in-Some-left-2.is
 
-pub loop-line-preserved : goal.loop-line-preserved
-loop-line-preserved c =
-    let l = c.loop-line in
+pub returns-in-None : goal.returns-in-None
+returns-in-None c rs ss f s =
+    let l = c.loop-next in
     let a = c.args in
-    measuring-next a.j.now a.k.now a.size l.p l.left l.short l.invariant c.in-Line.line c.in-Line.after (sym c.next_line-next.ensures ∙ c.in-Line.is) c.length_of-need.result c.length_of-need.ensures c.if-left-need.false
+    measuring-long a.j.now a.k.now a.size l.p l.left l.invariant (ap Ok (sym c.in_default.is) ∙ c.in_ok-next.ensures) rs ss f s c.in-None.is

@@ -1,19 +1,10 @@
 -- `seasons::write::is_both` meets its contract. By the texts. Assumes nothing.
-use Rattle.seasons.specs.Joined.{is_both}
+use mathlib.Core.Path.{sym, ◌∙◌}
+use Rattle.seasons.proofs.Writing.{both-is, both-not}
 use Rattle.seasons.proofs.write.is_both.Goals as goal
 
-pub returns-in-Both : goal.returns-in-Both
-unfolding is_both
-returns-in-Both c = rw c.in-Both.is
+pub returns-then-is_some : goal.returns-then-is_some
+returns-then-is_some c = c.is_some-then-is_some.ensures ∙ both-is c.args.line (sym c.if-is_some.ensures)
 
-pub returns-in-Old : goal.returns-in-Old
-unfolding is_both
-returns-in-Old c = rw c.in-Old.is
-
-pub returns-in-New : goal.returns-in-New
-unfolding is_both
-returns-in-New c = rw c.in-New.is
-
-pub returns-in-Neither : goal.returns-in-Neither
-unfolding is_both
-returns-in-Neither c = rw c.in-Neither.is
+pub returns-else-is_some : goal.returns-else-is_some
+returns-else-is_some c = c.if-is_some.false ∙ both-not c.args.line (sym c.if-is_some.ensures)

@@ -1,55 +1,46 @@
 -- `seasons::write::put_row` meets its contract. The loop's invariant is `Rowing`. Assumes nothing.
-use mathlib.Core.Path.{sym, ◌∙◌}
+use Rattle.std.proofs.Common.{None, Ok, Err}
+use borrow.Author.Rules.{rules}
+use mathlib.Core.Path.{sym, ap, ◌∙◌}
 use native.Mathlib.Omega.{arith}
-use borrow.Enum.Refused.{opened}
-use Rattle.seasons.proofs.Writing.{rowing_start, rowing-end, rowing-both, rowing-stands, rowing-further, rowing-room, rowing-next}
+use Rattle.seasons.proofs.Writing.{rowing-end, rowing-both, rowing-stands, rowing-further, rowing-room, rowing-next}
 use Rattle.seasons.proofs.write.put_row.Goals as goal
-
-pub loop-line-init : goal.loop-line-init
-loop-line-init c =
-    let a = c.args in
-    rowing_start a.kind a.j.now a.k.now a.p a.dest.now a.out c.requires.0 c.requires.1 c.requires.2
-
-pub shape_of-dest-in_default : goal.shape_of-dest-in_default
-shape_of-dest-in_default c = c.loop-line.invariant.size
-
-pub returns-in_default : goal.returns-in_default
-returns-in_default c =
-    let l = c.loop-line in
-    let a = c.args in
-    rowing-end a.kind a.j.now a.k.now a.p a.dest.now a.out l.at l.dest l.o l.invariant _ c.next_line-next.ensures (opened c.in_default.in_default-own.keys2)
-
-pub shape_of-dest-then-is_both : goal.shape_of-dest-then-is_both
-shape_of-dest-then-is_both c = c.loop-line.invariant.size
 
 pub returns-then-is_both : goal.returns-then-is_both
 returns-then-is_both c =
-    let l = c.loop-line in
+    let l = c.loop-next in
     let a = c.args in
-    rowing-both a.kind a.j.now a.k.now a.p a.dest.now a.out l.at l.dest l.o l.invariant c.in-Line.line c.in-Line.after
-    (sym c.next_line-next.ensures ∙ c.in-Line.is) (sym c.is_both.ensures ∙ c.if-is_both.true)
+    rowing-both a.kind a.j.now a.k.now a.p a.dest.now a.out l.at l.dest l.o l.invariant _ (sym c.in-Ok-Some.ensures ∙ ap Ok c.in-Ok-Some.field-0-is) (sym c.if-is_both.ensures)
 
 pub put_of-o-requires : goal.put_of-o-requires
 put_of-o-requires c =
-    let l = c.loop-line in
-    let a = c.args in
-    let e = sym c.next_line-next.ensures ∙ c.in-Line.is in (
-      rowing-stands a.kind a.j.now a.k.now a.p a.dest.now a.out l.at l.dest l.o l.invariant c.in-Line.line c.in-Line.after e,
-      rowing-room a.kind a.j.now a.k.now a.p a.dest.now a.out l.at l.dest l.o l.invariant c.in-Line.line c.in-Line.after e
-          (sym c.is_both.ensures ∙ c.if-is_both.false),
+    let l = c.loop-next in
+    let a = c.args in (
+      rowing-stands a.kind a.j.now a.k.now a.p a.dest.now a.out l.at l.dest l.o l.invariant _ (sym c.in-Ok-Some.ensures ∙ ap Ok c.in-Ok-Some.field-0-is),
+      rowing-room a.kind a.j.now a.k.now a.p a.dest.now a.out l.at l.dest l.o l.invariant _ (sym c.in-Ok-Some.ensures ∙ ap Ok c.in-Ok-Some.field-0-is) (sym c.if-is_both.ensures),
     )
 
-pub loop-line-smaller : goal.loop-line-smaller
-loop-line-smaller c =
-    let l = c.loop-line in
+pub loop-next-smaller : goal.loop-next-smaller
+loop-next-smaller c =
+    let l = c.loop-next in
     let a = c.args in
-    let f = rowing-further a.kind a.j.now a.k.now a.p a.dest.now a.out l.at l.dest l.o l.invariant c.in-Line.line c.in-Line.after
-    (sym c.next_line-next.ensures ∙ c.in-Line.is) in
+    let f = rowing-further a.kind a.j.now a.k.now a.p a.dest.now a.out l.at l.dest l.o l.invariant c.in-Ok-Some.next (sym c.in-Ok-Some.ensures ∙ ap Ok c.in-Ok-Some.field-0-is) in
     omega (arith, f.0, f.1)
 
-pub loop-line-preserved : goal.loop-line-preserved
-loop-line-preserved c =
-    let l = c.loop-line in
+pub loop-next-preserved : goal.loop-next-preserved
+loop-next-preserved c =
+    let l = c.loop-next in
     let a = c.args in
-    rowing-next a.kind a.j.now a.k.now a.p a.dest.now a.out l.at l.dest l.o l.invariant c.in-Line.line c.in-Line.after
-    (sym c.next_line-next.ensures ∙ c.in-Line.is) (sym c.is_both.ensures ∙ c.if-is_both.false) _ _ c.put_of-o.ensures
+    rowing-next a.kind a.j.now a.k.now a.p a.dest.now a.out l.at l.dest l.o l.invariant _ (sym c.in-Ok-Some.ensures ∙ ap Ok c.in-Ok-Some.field-0-is) (sym c.if-is_both.ensures) _ _ c.put_of-o.ensures
+
+pub returns-in_default : goal.returns-in_default
+returns-in_default c =
+    let l = c.loop-next in
+    let a = c.args in
+    rowing-end a.kind a.j.now a.k.now a.p a.dest.now a.out l.at l.dest l.o l.invariant (Ok None) (search rules) tt
+
+pub returns-in_default-2 : goal.returns-in_default-2
+returns-in_default-2 c =
+    let l = c.loop-next in
+    let a = c.args in
+    rowing-end a.kind a.j.now a.k.now a.p a.dest.now a.out l.at l.dest l.o l.invariant (Err c.in_default.field-0) (sym c.in_default.is ∙ c.next_line.ensures) tt

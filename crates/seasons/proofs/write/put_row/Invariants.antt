@@ -4,8 +4,8 @@ use lib.ListN.{length}
 use Rattle.seasons.proofs.Writing.{Rowing}
 use Rattle.seasons.proofs.write.put_row.Given as goal
 
-abbrev pub invariant-loop-line : goal.invariant-loop-line
-invariant-loop-line l = Rowing l.kind l.j l.k l.initial.at l.initial.dest l.out l.at l.dest l.o
+abbrev pub invariant-loop-next : goal.invariant-loop-next
+invariant-loop-next l = Rowing l.kind l.j l.k l.initial.at l.initial.dest l.out l.at l.dest l.o
 
-abbrev pub decreases-loop-line : goal.decreases-loop-line
-decreases-loop-line l = length l.j + length l.k - (l.at.first + l.at.second)
+abbrev pub decreases-loop-next : goal.decreases-loop-next
+decreases-loop-next l = length l.j + length l.k - (l.at.first + l.at.second)

@@ -4,8 +4,8 @@ use lib.ListN.{length}
 use Rattle.seasons.proofs.Writing.{Going}
 use Rattle.seasons.proofs.write.write.Given as goal
 
-abbrev pub invariant-loop-line : goal.invariant-loop-line
-invariant-loop-line l = Going l.j l.k l.initial.dest l.p l.out l.dest
+abbrev pub invariant-loop-next : goal.invariant-loop-next
+invariant-loop-next l = Going l.j l.k l.initial.dest l.p l.out l.dest
 
-abbrev pub decreases-loop-line : goal.decreases-loop-line
-decreases-loop-line l = length l.j + length l.k - (l.p.first + l.p.second)
+abbrev pub decreases-loop-next : goal.decreases-loop-next
+decreases-loop-next l = length l.j + length l.k - (l.p.first + l.p.second)

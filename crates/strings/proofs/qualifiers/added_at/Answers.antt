@@ -2,14 +2,10 @@
 use Rattle.strings.specs.Answers.{read_added}
 use Rattle.strings.proofs.qualifiers.added_at.Goals as goal
 
-pub returns-in-Now : goal.returns-in-Now
+pub returns-in-Ok : goal.returns-in-Ok
 unfolding read_added
-returns-in-Now c = rw c.in-Now.is
+returns-in-Ok c = rw c.in-Ok.is
 
-pub returns-in-Clash : goal.returns-in-Clash
+pub returns-in-Err : goal.returns-in-Err
 unfolding read_added
-returns-in-Clash c = rw c.in-Clash.is
-
-pub returns-in-Unknown : goal.returns-in-Unknown
-unfolding read_added
-returns-in-Unknown c = rw c.in-Unknown.is
+returns-in-Err c = rw (c.in-Err.is, c.at.ensures)

@@ -6,7 +6,7 @@ use Rattle.strings.proofs.qualifiers.read_qualifier.Goals as goal
 pub returns-then-s-at : goal.returns-then-s-at
 returns-then-s-at c =
     let then1 = c.if-s-at in
-    nothing_left c.args.s.now c.args.at c.args.q c.args.in_search then1.true
+    rw c.at.ensures (nothing_left c.args.s.now c.args.at c.args.q c.args.in_search then1.true)
 
 pub returns-then-is_digit : goal.returns-then-is_digit
 returns-then-is_digit c =
@@ -14,7 +14,7 @@ returns-then-is_digit c =
     let is_digit = c.is_digit in
     let then2 = c.if-is_digit in
     let read_count = c.read_count in
-    digit-here c.args.s.now c.args.at c.args.q c.args.in_search else1.false (sym is_digit.ensures ∙ then2.true) read_count.ensures
+    digit-here c.args.s.now c.args.at c.args.q c.args.in_search else1.false _ (sym is_digit.ensures ∙ then2.true) read_count.ensures
 
 pub returns-then-q-ne0 : goal.returns-then-q-ne0
 returns-then-q-ne0 c =
@@ -23,7 +23,7 @@ returns-then-q-ne0 c =
     let else2 = c.if-is_digit in
     let then3 = c.if-b-eq95 in
     let then4 = c.if-q-ne0 in
-    columns-twice c.args.s.now c.args.at c.args.q c.args.in_search else1.false (sym is_digit.ensures ∙ else2.false) then3.true then4.true
+    rw c.at-then-q-ne0.ensures (columns-twice c.args.s.now c.args.at c.args.q c.args.in_search else1.false (sym is_digit.ensures ∙ else2.false) then3.true then4.true)
 
 pub returns-then-b-eq95 : goal.returns-then-b-eq95
 returns-then-b-eq95 c =
@@ -33,7 +33,7 @@ returns-then-b-eq95 c =
     let then3 = c.if-b-eq95 in
     let else4 = c.if-q-ne0 in
     let read-columns = c.read_columns in
-    columns-here c.args.s.now c.args.at c.args.q c.args.in_search else1.false (sym is_digit.ensures ∙ else2.false) then3.true else4.false read-columns.ensures
+    columns-here c.args.s.now c.args.at c.args.q c.args.in_search else1.false (sym is_digit.ensures ∙ else2.false) _ then3.true else4.false read-columns.ensures
 
 pub returns : goal.returns
 returns c =

@@ -1,22 +1,19 @@
--- `text::feeds::start_by_bytes` meets its contract. The loop's invariant: the line of place i has the same start. Assumes nothing.
-use Rattle.std.proofs.Common.{sym, refl, ◌∙◌, arith}
-use Rattle.text.proofs.LineFeeds.{start-hit, start-miss, start-zero}
+-- `text::feeds::start_by_bytes` meets its contract: after the last line feed, or at the first byte. Assumes nothing.
+use Rattle.std.proofs.Common.{◌≡◌, ℕ, ◌<◌, length, get_or, sym, rules}
+use Rattle.text.proofs.LineFeeds.{start-last, start-none}
 use Rattle.text.proofs.feeds.start_by_bytes.Goals as goal
 
-pub loop-i-init : goal.loop-i-init
-loop-i-init c = (omega arith, refl)
-
-pub returns-then-s-i-eq10 : goal.returns-then-s-i-eq10
-returns-then-s-i-eq10 c =
-    let l = c.loop-i in
+pub returns-in-Some : goal.returns-in-Some
+returns-in-Some c =
     let s = c.args.s.now in
-    sym (l.invariant.1 ∙ start-hit s l.i (omega arith) c.if-s-i-eq10.true)
+    let i = c.in-Some.i in
+    let before : i < length s = search rules in
+    let hit : get_or s i 0 ≡ 10 = search rules in
+    let miss : (k : ℕ) → i < k → k < length s → get_or s k 0 ≡ 10 → ⊥ = search rules in
+    sym (start-last s i (length s) before hit miss)
 
-pub loop-i-preserved : goal.loop-i-preserved
-loop-i-preserved c =
-    let l = c.loop-i in
+pub returns-in-None : goal.returns-in-None
+returns-in-None c =
     let s = c.args.s.now in
-    (omega arith, l.invariant.1 ∙ start-miss s l.i (omega arith) c.if-s-i-eq10.false)
-
-pub returns : goal.returns
-returns c = let l = c.loop-i in sym (l.invariant.1 ∙ start-zero c.args.s.now l.i (omega arith))
+    let miss : (k : ℕ) → k < length s → get_or s k 0 ≡ 10 → ⊥ = search rules in
+    sym (start-none s (length s) miss)

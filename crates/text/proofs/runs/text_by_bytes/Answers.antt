@@ -1,27 +1,22 @@
--- `text::runs::text_by_bytes` meets its contract. The loop's invariant: all is text so far. Assumes nothing.
-use Rattle.std.proofs.Common.{sym, refl, ◌∙◌, arith}
-use Rattle.text.proofs.Texts.{run-here, run-next, run_none}
-use Rattle.theorems.specs.Lines.{text_of}
-use Rattle.text.proofs.Ends.{text-low, text-high}
+-- `text::runs::text_by_bytes` meets its contract. Assumes nothing.
+use Rattle.std.proofs.Common.{◌≡◌, ℕ, ◌<◌, true, false, length, get_or, arith, rules}
+use Rattle.definitions.specs.Bytes.{is_text}
+use Rattle.text.proofs.Texts.{run-is}
 use Rattle.text.proofs.runs.text_by_bytes.Goals as goal
 
-pub loop-i-init : goal.loop-i-init
-loop-i-init c = (omega arith, refl)
+pub returns-in-Some : goal.returns-in-Some
+unfolding is_text
+returns-in-Some c =
+    let s = c.args.s.now in
+    let i = c.in-Some.i in
+    let before : i < length s = search rules in
+    let other : is_text (get_or s i 0) ≡ false = search rules in
+    let all : (k : ℕ) → k < i → is_text (get_or s k 0) ≡ true = search rules in
+    run-is s i (omega arith) all (λ _. other)
 
-pub returns-then-s-i-lt32 : goal.returns-then-s-i-lt32
-returns-then-s-i-lt32 c =
-    let l = c.loop-i in
-    sym (l.invariant.1 ∙ run-here _ l.i _ (omega arith) (omega arith) (text-low _ (omega arith)))
-
-pub returns-then-s-i-gt126 : goal.returns-then-s-i-gt126
-returns-then-s-i-gt126 c =
-    let l = c.loop-i in
-    sym (l.invariant.1 ∙ run-here _ l.i _ (omega arith) (omega arith) (text-high _ (omega arith)))
-
-pub loop-i-preserved : goal.loop-i-preserved
-loop-i-preserved c =
-    let l = c.loop-i in
-    (omega arith, l.invariant.1 ∙ run-next _ l.i _ (omega arith) (omega arith) (text_of _ (omega arith) (omega arith)))
-
-pub returns : goal.returns
-returns c = let l = c.loop-i in sym (l.invariant.1 ∙ run_none _ l.i _ (omega arith))
+pub returns-in-None : goal.returns-in-None
+unfolding is_text
+returns-in-None c =
+    let s = c.args.s.now in
+    let all : (k : ℕ) → k < length s → is_text (get_or s k 0) ≡ true = search rules in
+    run-is s (length s) (omega arith) all (λ h. absurd (omega arith))

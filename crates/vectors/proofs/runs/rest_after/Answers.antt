@@ -1,28 +1,25 @@
-use native.Mathlib.Omega.{arith}
-use borrow.Author.Tests.{lt-ltb, le-ltb, ne_eqb}
+-- `vectors::runs::rest_after` meets its contract. Assumes nothing.
+use Rattle.std.proofs.Common.{rules}
+use borrow.Author.Tests.{tests}
 use Rattle.vectors.specs.Cases.{rest_after}
 use Rattle.vectors.proofs.runs.rest_after.Goals as goal
 
-pub returns-then-number-eq0 : goal.returns-then-number-eq0
+pub returns-in-1-to-9 : goal.returns-in-1-to-9
 unfolding rest_after
-returns-then-number-eq0 c = rw c.if-number-eq0.true
+returns-in-1-to-9 c = search (rules, tests)
 
-pub returns-then-number-eq33 : goal.returns-then-number-eq33
+pub returns-in-1-to-9-2 : goal.returns-in-1-to-9-2
 unfolding rest_after
-returns-then-number-eq33 c = rw c.if-number-eq33.true
+returns-in-1-to-9-2 c = search (rules, tests)
 
-pub returns-then-number-eq34 : goal.returns-then-number-eq34
+pub returns-in_default : goal.returns-in_default
 unfolding rest_after
-returns-then-number-eq34 c = rw c.if-number-eq34.true
+returns-in_default c = search (rules, tests)
 
-pub returns-then-number-lt10 : goal.returns-then-number-lt10
+pub returns-in_default-2 : goal.returns-in_default-2
 unfolding rest_after
-returns-then-number-lt10 c =
-    let n = c.args.number in
-    rw (ne_eqb n 33 c.if-number-eq33.false, ne_eqb n 34 c.if-number-eq34.false, lt-ltb 0 n (omega arith), lt-ltb n 10 c.if-number-lt10.true)
+returns-in_default-2 c = search (rules, tests)
 
-pub returns-else-number-lt10 : goal.returns-else-number-lt10
+pub returns-in_default-3 : goal.returns-in_default-3
 unfolding rest_after
-returns-else-number-lt10 c =
-    let n = c.args.number in
-    rw (ne_eqb n 33 c.if-number-eq33.false, ne_eqb n 34 c.if-number-eq34.false, lt-ltb 0 n (omega arith), le-ltb n 10 (omega arith))
+returns-in_default-3 c = search (rules, tests)

@@ -1,8 +1,0 @@
-use borrow.Author.Tests.{eq-eqb, ne_eqb}
-use Rattle.closing.proofs.ending.ended.Goals as goal
-
-pub returns-then-x-eq0 : goal.returns-then-x-eq0
-returns-then-x-eq0 c = rw (eq-eqb c.args.x 0 c.if-x-eq0.true)
-
-pub returns : goal.returns
-returns c = rw (ne_eqb c.args.x 0 c.if-x-eq0.false)
