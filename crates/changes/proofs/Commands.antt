@@ -24,7 +24,7 @@ use Rattle.editor.specs.declared.State.{State}
 use Rattle.std.specs.Prelude.{Result, Ok, Err}
 use Rattle.editor.specs.Stops.{Moved, stopping}
 use Rattle.editor.specs.declared.Stop.TheVariants.{AtEof, PointAtEnd}
-use Rattle.editor.specs.declared.Stopped.{Stopped}
+use Rattle.editor.specs.declared.Stop.{Stop}
 use Rattle.editor.proofs.Parts.{perform-as, perform-stop, perform-line, perform-no-line, came-stop, goes_on_lem}
 use Rattle.editor.proofs.Moving.{point-on}
 use Rattle.editor.proofs.CurrentText.{shown-short}
@@ -87,24 +87,24 @@ has_short (e, t, h) = omega (arith, h.long, shown-short e t h.text.shows)
 
 -- ---- the commands that look at the byte at p
 
-module _ {table j : List ℕ} {st : State} (b : Result ℕ Stopped) (sees : Sights table j st b) where
+module _ {table j : List ℕ} {st : State} (b : Result ℕ Stop) (sees : Sights table j st b) where
   -- it is not there
-  byte-stops : (m : Stopped) → b ≡ Err m → (k : Line × ℕ → Program Did) (e : Ed) (c : Carried) (t : Tape) → ShowsOf table j st e t
-      → Answered j (Err m) (perform (lent j) (◌>>=◌ byte_here k) (state e c) t)
+  byte-stops : (m : Stop) → b ≡ Err m → (k : Line × ℕ → Program Did) (e : Ed) (c : Carried) (t : Tape) → ShowsOf table j st e t
+      → Answered j (stopping m st) (perform (lent j) (◌>>=◌ byte_here k) (state e c) t)
   unfolding ByteIs
   byte-stops m q k e c t w =
-      let x : ByteIs st (Err m) e t (runs (lent j) c byte_at e t) = rw q at (sees e c t w) in
-      perform-stop (lent j) c (◌>>=◌ byte_here k) e t j m.stop m.st (came-stop m.stop (byte-stop (lent j) c k t e x.1.0 x.1.2) x.1.1 (rw x.0 w.shows))
+      let x : ByteIs (Err m) e t (runs (lent j) c byte_at e t) = rw q at (sees e c t w) in
+      perform-stop (lent j) c (◌>>=◌ byte_here k) e t j m st (came-stop m (byte-stop (lent j) c k t e x.0 x.2) x.1 w.shows)
 
-  pub right-stop : (m : Stopped) → b ≡ Err m → PerformsOf table j st Op.right j (Err m)
+  pub right-stop : (m : Stop) → b ≡ Err m → PerformsOf table j st Op.right j (stopping m st)
   unfolding step program
   right-stop m q = byte-stops m q (λ x. ◌>>◌ (go (point_to (suc x.1))) goes_on)
 
-  pub cut-stop : (m : Stopped) → b ≡ Err m → PerformsOf table j st Op.cut_byte j (Err m)
+  pub cut-stop : (m : Stop) → b ≡ Err m → PerformsOf table j st Op.cut_byte j (stopping m st)
   unfolding step program
   cut-stop m q = byte-stops m q (λ x. write (splice x.0 x.1 1 []) x.1)
 
-  pub recase-stop : (up : Bool) (m : Stopped) → b ≡ Err m → PerformsOf table j st (Op.recase up) j (Err m)
+  pub recase-stop : (up : Bool) (m : Stop) → b ≡ Err m → PerformsOf table j st (Op.recase up) j (stopping m st)
   unfolding step program
   recase-stop up m q = byte-stops m q (λ x. write (recased up x.0 x.1) (suc x.1))
 
@@ -163,22 +163,22 @@ pub told : (isWord : ℕ → Bool) (j : List ℕ) (op : Op) (k : List ℕ) (r : 
     → Answered k r (perform (lent j) (program isWord op) (state e c) t) → Answered k r (step (lent j) op (state e c) t)
 told isWord j op k r e c t same h = step-by-words (λ x. Answered k r x) (lent j) op isWord e c t same h
 
-module _ (isWord : ℕ → Bool) {table j : List ℕ} {st : State} (q : Qualified) (o : Result (ℕ × ℕ) Stopped) (finds : Finds isWord table j st q o) where
+module _ (isWord : ℕ → Bool) {table j : List ℕ} {st : State} (q : Qualified) (o : Result (ℕ × ℕ) Stop) (finds : Finds isWord table j st q o) where
   -- it is not there
-  pub match-stops : (n : Stopped) → o ≡ Err n → (k : Line × ℕ → Match → Program Did) (e : Ed) (c : Carried) (t : Tape) → Ready table j st e t
-      → Answered j (Err n) (perform (lent j) (◌>>=◌ (line_or n20) (λ x. ◌>>=◌ (match_or24 isWord q x.0 x.1) (k x))) (state e c) t)
+  pub match-stops : (n : Stop) → o ≡ Err n → (k : Line × ℕ → Match → Program Did) (e : Ed) (c : Carried) (t : Tape) → Ready table j st e t
+      → Answered j (stopping n st) (perform (lent j) (◌>>=◌ (line_or n20) (λ x. ◌>>=◌ (match_or24 isWord q x.0 x.1) (k x))) (state e c) t)
   unfolding MatchIs
   match-stops n is k e c t w =
-      let x : MatchIs st (Err n) e t (runs (lent j) c (match_at isWord q) e t) = rw is at (finds e c t w) in
-      perform-stop (lent j) c (◌>>=◌ (line_or n20) (λ x. ◌>>=◌ (match_or24 isWord q x.0 x.1) (k x))) e t j n.stop n.st (came-stop n.stop (match-stop (lent j) c isWord q k t e x.1.0 x.1.2) x.1.1 (rw x.0 w.shows))
+      let x : MatchIs (Err n) e t (runs (lent j) c (match_at isWord q) e t) = rw is at (finds e c t w) in
+      perform-stop (lent j) c (◌>>=◌ (line_or n20) (λ x. ◌>>=◌ (match_or24 isWord q x.0 x.1) (k x))) e t j n st (came-stop n (match-stop (lent j) c isWord q k t e x.0 x.2) x.1 w.shows)
 
-  pub point-stop : (after : Bool) (n : Stopped) → o ≡ Err n → PerformsTold isWord table j st (Op.point after q) j (Err n)
+  pub point-stop : (after : Bool) (n : Stop) → o ≡ Err n → PerformsTold isWord table j st (Op.point after q) j (stopping n st)
   unfolding program pointing-to
-  point-stop after n is e c t same w = told isWord j (Op.point after q) j (Err n) e c t same (match-stops n is (pointing-to after) e c t w)
+  point-stop after n is e c t same w = told isWord j (Op.point after q) j (stopping n st) e c t same (match-stops n is (pointing-to after) e c t w)
 
-  pub alter-stop : (ch : Change) (pointing : Bool) (new : Line) (n : Stopped) → o ≡ Err n → PerformsTold isWord table j st (Op.alter ch pointing q new) j (Err n)
+  pub alter-stop : (ch : Change) (pointing : Bool) (new : Line) (n : Stop) → o ≡ Err n → PerformsTold isWord table j st (Op.alter ch pointing q new) j (stopping n st)
   unfolding program altering
-  alter-stop ch pointing new n is e c t same w = told isWord j (Op.alter ch pointing q new) j (Err n) e c t same (match-stops n is (altering ch pointing new) e c t w)
+  alter-stop ch pointing new n is e c t same w = told isWord j (Op.alter ch pointing q new) j (stopping n st) e c t same (match-stops n is (altering ch pointing new) e c t w)
 
   -- its match has n bytes at place i
   module _ (i n : ℕ) (is : o ≡ Ok (i, n)) where

@@ -28,8 +28,7 @@ use Rattle.editor.specs.Current.{current_line, PointIn, TableOf, Ready, IsReady}
 use Rattle.editor.specs.declared.State.{State}
 use Rattle.editor.proofs.Parts.{shown-record, shown-eof}
 use Rattle.editor.proofs.CurrentText.{line-window, shown-short}
-use Rattle.std.specs.Prelude.{Ok}
-use Rattle.editor.specs.Stops.{stopping}
+use Rattle.std.specs.Prelude.{Ok, Err}
 use Rattle.editor.specs.declared.Stop.TheVariants.{AtEof, NoMatch, PointAtEnd}
 use Rattle.changes.specs.Current.{byte_at, match_at, ByteIs, MatchIs, Sights, Finds}
 
@@ -141,18 +140,18 @@ module _ {A : Type 0} (g : Given) (c : Carried) (k : Line × ℕ → Program A) 
 -- ---- what `byte_here` answers
 
 module _ (table j : List ℕ) (st : State) where
-  pub sights-eof : length j ≤ st.back → Sights table j st (stopping AtEof st)
+  pub sights-eof : length j ≤ st.back → Sights table j st (Err AtEof)
   unfolding ByteIs stop_number
-  sights-eof end (ed b [] p) c t w = (refl, (n20, refl, see-eof (lent j) c t b p))
+  sights-eof end (ed b [] p) c t w = (n20, refl, see-eof (lent j) c t b p)
   sights-eof end (ed b (r ∷ a) p) c t w = absurd (shown-eof b r a p t w.shows end)
 
   module _ (more : st.back < length j) (line : List ℕ) (is : (e : Ed) (t : Tape) → Shows j st e t → TableOf table e t → line ≡ current_line e) where
-    pub sights-end : length line ≤ st.p → Sights table j st (stopping PointAtEnd st)
+    pub sights-end : length line ≤ st.p → Sights table j st (Err PointAtEnd)
     unfolding ByteIs stop_number
     sights-end end (ed b [] p) c t w = absurd (shown-record b p t w.shows more)
     sights-end end (ed b (r ∷ a) p) c t w =
         let long : length (current r) ≤ p = omega (arith, end, ap length (is (ed b (r ∷ a) p) t w.shows w.old), w.shows.p) in
-        (refl, (n27, refl, see-end (lent j) c t b r a p (le-leb (length (current r)) p long)))
+        (n27, refl, see-end (lent j) c t b r a p (le-leb (length (current r)) p long))
 
     pub sights-on : st.p < length line → Sights table j st (Ok (get_or line st.p 0))
     unfolding ByteIs
@@ -225,9 +224,9 @@ line-fits more line is (e, t, w) =
     (line-window more e t w.shows w.point line l, omega (arith, ap length l, shown-short e t w.shows))
 
 module _ (isWord : ℕ → Bool) (table j : List ℕ) (st : State) (q : Qualified) where
-  pub finds-eof : length j ≤ st.back → Finds isWord table j st q (stopping AtEof st)
+  pub finds-eof : length j ≤ st.back → Finds isWord table j st q (Err AtEof)
   unfolding MatchIs stop_number
-  finds-eof end (ed b [] p) c t w = (refl, (n20, refl, find-eof (lent j) c isWord q t b p))
+  finds-eof end (ed b [] p) c t w = (n20, refl, find-eof (lent j) c isWord q t b p)
   finds-eof end (ed b (r ∷ a) p) c t w = absurd (shown-eof b r a p t w.shows end)
 
   module _ (more : st.back < length j) (line : List ℕ) (is : (e : Ed) (t : Tape) → Shows j st e t → TableOf table e t → line ≡ current_line e)
@@ -240,10 +239,10 @@ module _ (isWord : ℕ → Bool) (table j : List ℕ) (st : State) (q : Qualifie
     match-runs c b r a p t w o s =
         find-line (lent j) c isWord q t b r a p ∙ ap (λ (y : Option Match). runs (lent j) c (or_stop n24 y) (ed b (r ∷ a) p) t) (match_is b r a p t w o s)
 
-    pub finds-none : f ≡ None → Finds isWord table j st q (stopping NoMatch st)
+    pub finds-none : f ≡ None → Finds isWord table j st q (Err NoMatch)
     unfolding or_stop runs MatchIs stop_number found_of
     finds-none z (ed b [] p) c t w = absurd (shown-record b p t w.shows more)
-    finds-none z (ed b (r ∷ a) p) c t w = (refl, (n24, refl, match-runs c b r a p t w none (rw z)))
+    finds-none z (ed b (r ∷ a) p) c t w = (n24, refl, match-runs c b r a p t w none (rw z))
 
     pub finds-on : (m : Found) → f ≡ Some m → Finds isWord table j st q (Ok (m.at, m.width))
     unfolding or_stop runs MatchIs found_of

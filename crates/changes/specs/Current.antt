@@ -14,7 +14,7 @@ use Rattle.text.specs.Lines.{part}
 use Rattle.matching.specs.Quals.{qualifiers_of}
 use Rattle.matching.specs.declared.Quals.{Quals}
 use Rattle.editor.specs.declared.State.{State}
-use Rattle.editor.specs.declared.Stopped.{Stopped}
+use Rattle.editor.specs.declared.Stop.{Stop}
 use Rattle.editor.specs.Stops.{Moved, numbered}
 use Rattle.editor.specs.Records.{enc, Good}
 use Rattle.editor.specs.Shows.{Holds, lent, Answered}
@@ -72,22 +72,22 @@ abbrev pub Halts : {A : Type 0} → ℕ → Ed → Tape → Ran A × Tape → Ty
 Halts m e t x = (n : StopNumber) × (m ≡ stop_number n) × (x ≡ (stopped n e, t))
 
 -- what `byte_here` answers, and what the look comes to
-unfoldable pub ByteIs : State → Result ℕ Stopped → Ed → Tape → Ran ℕ × Tape → Type 0
-ByteIs st (Ok b) e t x = x ≡ (gave b e, t)
-ByteIs st (Err s) e t x = (s.st ≡ st) × Halts (numbered s.stop) e t x
+unfoldable pub ByteIs : Result ℕ Stop → Ed → Tape → Ran ℕ × Tape → Type 0
+ByteIs (Ok b) e t x = x ≡ (gave b e, t)
+ByteIs (Err s) e t x = Halts (numbered s) e t x
 
 -- what `match_here` answers, and what the look comes to
-unfoldable pub MatchIs : State → Result (ℕ × ℕ) Stopped → Ed → Tape → Ran Match × Tape → Type 0
-MatchIs st (Ok m) e t x = x ≡ (gave (matched m.0 m.1) e, t)
-MatchIs st (Err s) e t x = (s.st ≡ st) × Halts (numbered s.stop) e t x
+unfoldable pub MatchIs : Result (ℕ × ℕ) Stop → Ed → Tape → Ran Match × Tape → Type 0
+MatchIs (Ok m) e t x = x ≡ (gave (matched m.0 m.1) e, t)
+MatchIs (Err s) e t x = Halts (numbered s) e t x
 
 -- the byte at p is r
-abbrev pub Sights : List ℕ → List ℕ → State → Result ℕ Stopped → Type 0
-Sights table j st r = (e : Ed) (c : Carried) (t : Tape) → ShowsOf table j st e t → ByteIs st r e t (runs (lent j) c byte_at e t)
+abbrev pub Sights : List ℕ → List ℕ → State → Result ℕ Stop → Type 0
+Sights table j st r = (e : Ed) (c : Carried) (t : Tape) → ShowsOf table j st e t → ByteIs r e t (runs (lent j) c byte_at e t)
 
 -- the match of the string q is r
-abbrev pub Finds : (ℕ → Bool) → List ℕ → List ℕ → State → Qualified → Result (ℕ × ℕ) Stopped → Type 0
-Finds isWord table j st q r = (e : Ed) (c : Carried) (t : Tape) → Ready table j st e t → MatchIs st r e t (runs (lent j) c (match_at isWord q) e t)
+abbrev pub Finds : (ℕ → Bool) → List ℕ → List ℕ → State → Qualified → Result (ℕ × ℕ) Stop → Type 0
+Finds isWord table j st q r = (e : Ed) (c : Carried) (t : Tape) → Ready table j st e t → MatchIs r e t (runs (lent j) c (match_at isWord q) e t)
 
 -- with the buffer j and its numbers st before, and the buffer k after, the function that answered r did the command, which looks for a string: it is told
 -- which bytes count for W

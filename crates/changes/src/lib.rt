@@ -11,11 +11,12 @@ ghost use Rattle.definitions.specs.Edit.{Op, altered_point, point_by as «point-
 ghost use Rattle.text.specs.Lines.{part};
 ghost use Rattle.wordset.specs.Sets.{in_set};
 ghost use Rattle.matching.specs.Quals.{Formed};
-ghost use Rattle.editor.specs.Shows.{ShowsText, Performs, at_point};
+ghost use Rattle.editor.specs.Edited.{Does};
+ghost use Rattle.editor.specs.Shows.{Performs};
 ghost use Rattle.editor.specs.Current.{ShownOf, PerformsOf, IsReady};
 ghost use Rattle.changes.specs.Current.{change_of, sought, alter_of, StringsIn, PerformsTold, HasLine, Alters};
 
-use editor::{State, Stop, Stopped};
+use editor::{Editor, Stop};
 use matching::Quals;
 use wordset::WordSet;
 
@@ -27,58 +28,39 @@ pub enum Change {
     Exchange,
 }
 
-// p becomes q.
-fn point_to(st: State, q: usize) -> State
-    ensures { result ≡ at_point st q }
-{
-    let mut s = st;
-    s.p = q;
-    s
-}
-
 // PR: p = 0.
-pub fn point_start(j: &[u8], st: State) -> Result<State, Stopped>
-    requires { ShowsText j.now st }
-    ensures { (c : Carried) → Performs c j.now st Op.point_start j.now result }
+pub fn point_start(ed: &mut Editor<'_>) -> Result<(), Stop>
+    ensures { Does (λ j st k r. (c : Carried) → Performs c j st Op.point_start k r) ed.old ed.new result }
 {
-    let at = st.back;
-    if at >= j.len() {
-        return Err(Stopped {
-            stop: Stop::AtEof,
-            st,
-        });
+    if ed.st.back >= ed.journal.len() {
+        return Err(Stop::AtEof);
     }
-    Ok(point_to(st, 0))
+    ed.st.p = 0;
+    Ok(())
 }
 
 // <: p one to the left.
-pub fn left(j: &[u8], st: State) -> Result<State, Stopped>
-    requires { ShowsText j.now st }
-    ensures { (c : Carried) → Performs c j.now st Op.left j.now result }
+pub fn left(ed: &mut Editor<'_>) -> Result<(), Stop>
+    ensures { Does (λ j st k r. (c : Carried) → Performs c j st Op.left k r) ed.old ed.new result }
 {
-    let at = st.back;
-    if at >= j.len() {
-        return Err(Stopped {
-            stop: Stop::AtEof,
-            st,
-        });
+    if ed.st.back >= ed.journal.len() {
+        return Err(Stop::AtEof);
     }
-    if st.p == 0 {
-        return Err(Stopped {
-            stop: Stop::PointAtEnd,
-            st,
-        });
+    if ed.st.p == 0 {
+        return Err(Stop::PointAtEnd);
     }
-    Ok(point_to(st, st.p - 1))
+    ed.st.p -= 1;
+    Ok(())
 }
 
 // >: p one to the right.
-pub fn right<'a>(table: &'a [u8], j: &'a [u8], st: State) -> Result<State, Stopped>
-    requires { ShownOf table.now j.now st }
-    ensures { PerformsOf table.now j.now st Op.right j.now result }
+pub fn right(table: &[u8], ed: &mut Editor<'_>) -> Result<(), Stop>
+    requires { ShownOf table.now ed.old.journal.now ed.old.st }
+    ensures { Does (λ j st. PerformsOf table.now j st Op.right) ed.old ed.new result }
 {
-    look::byte_here(table, j, st)?;
-    Ok(point_to(st, st.p + 1))
+    look::byte_here(table, ed)?;
+    ed.st.p += 1;
+    Ok(())
 }
 
 // Where p stands after a string of n bytes at place i, or before it.
@@ -93,31 +75,32 @@ pub fn point_by(after: bool, i: usize, n: usize) -> usize
 }
 
 // PA (after), PB: p after or before the string. The bytes of the set count for W.
-pub fn point<'a>(
+pub fn point(
     set: &WordSet,
-    table: &'a [u8],
-    j: &'a [u8],
-    st: State,
+    table: &[u8],
+    ed: &mut Editor<'_>,
     after: bool,
     q: Quals,
     script: &[u8],
     from: usize,
     to: usize,
-) -> Result<State, Stopped>
-    requires { IsReady table.now j.now st × (from ≤ to) × (to ≤ length script.now) × (to ≤ from + 255) × Formed q (part from to script.now) }
-    ensures { PerformsTold (in_set set.now 0) table.now j.now st (Op.point after (sought q script.now from to)) j.now result }
+) -> Result<(), Stop>
+    requires { IsReady table.now ed.old.journal.now ed.old.st × (from ≤ to) × (to ≤ length script.now) × (to ≤ from + 255) × Formed q (part from to script.now) }
+    ensures { Does (λ j st. PerformsTold (in_set set.now 0) table.now j st (Op.point after (sought q script.now from to))) ed.old ed.new result }
 {
-    let (i, n) = look::match_here(set, table, j, st, q, script, from, to)?;
-    Ok(point_to(st, point_by(after, i, n)))
+    let (i, n) = look::match_here(set, table, ed, q, script, from, to)?;
+    ed.st.p = point_by(after, i, n);
+    Ok(())
 }
 
 // #: the byte at p is deleted.
-pub fn cut_byte(table: &[u8], j: &mut [u8], st: State) -> Result<State, Stopped>
-    requires { ShownOf table.now j.old st }
-    ensures { PerformsOf table.now j.old st Op.cut_byte j.new result }
+pub fn cut_byte(table: &[u8], ed: &mut Editor<'_>) -> Result<(), Stop>
+    requires { ShownOf table.now ed.old.journal.now ed.old.st }
+    ensures { Does (λ j st. PerformsOf table.now j st Op.cut_byte) ed.old ed.new result }
 {
-    let x = look::byte_here(table, j, st)?;
-    rewrite::splice_current(table, j, st, st.p, 1, &[x], 0, st.p)
+    let x = look::byte_here(table, ed)?;
+    let p = ed.st.p;
+    rewrite::splice_current(table, ed, p, 1, &[x], 0, p)
 }
 
 // A to Z become a to z.
@@ -144,12 +127,13 @@ fn cased(up: bool, b: u8) -> u8
 }
 
 // % (up), $: the byte at p in upper or lower case, and p one to the right.
-pub fn recase(table: &[u8], j: &mut [u8], st: State, up: bool) -> Result<State, Stopped>
-    requires { ShownOf table.now j.old st }
-    ensures { PerformsOf table.now j.old st (Op.recase up) j.new result }
+pub fn recase(table: &[u8], ed: &mut Editor<'_>, up: bool) -> Result<(), Stop>
+    requires { ShownOf table.now ed.old.journal.now ed.old.st }
+    ensures { Does (λ j st. PerformsOf table.now j st (Op.recase up)) ed.old ed.new result }
 {
-    let x = look::byte_here(table, j, st)?;
-    rewrite::splice_current(table, j, st, st.p, 1, &[cased(up, x)], 1, st.p + 1)
+    let x = look::byte_here(table, ed)?;
+    let p = ed.st.p;
+    rewrite::splice_current(table, ed, p, 1, &[cased(up, x)], 1, p + 1)
 }
 
 // Where p stands after a change: at a place i a string of n bytes was found, and m bytes come in.
@@ -170,23 +154,22 @@ fn point_after(change: Change, pointing: bool, p: usize, i: usize, n: usize, m: 
 // A, B or E where the string of n bytes is found at place i of the current line.
 fn alter_at(
     table: &[u8],
-    j: &mut [u8],
-    st: State,
+    ed: &mut Editor<'_>,
     change: Change,
     pointing: bool,
     i: usize,
     n: usize,
     new: &[u8],
-) -> Result<State, Stopped>
-    requires { HasLine table.now j.old st (i + n) × (length new.now ≤ 16384) × (all_text new.now ≡ true) }
-    ensures { Alters table.now j.old st change pointing i n new.now j.new result }
+) -> Result<(), Stop>
+    requires { HasLine table.now ed.old.journal.now ed.old.st (i + n) × (length new.now ≤ 16384) × (all_text new.now ≡ true) }
+    ensures { Does (λ j st. Alters table.now j st change pointing i n new.now) ed.old ed.new result }
 {
     let m = new.len();
-    let q = point_after(change, pointing, st.p, i, n, m);
+    let q = point_after(change, pointing, ed.st.p, i, n, m);
     match change {
-        Change::After => rewrite::splice_current(table, j, st, i + n, 0, new, m, q),
-        Change::Before => rewrite::splice_current(table, j, st, i, 0, new, m, q),
-        Change::Exchange => rewrite::splice_current(table, j, st, i, n, new, m, q),
+        Change::After => rewrite::splice_current(table, ed, i + n, 0, new, m, q),
+        Change::Before => rewrite::splice_current(table, ed, i, 0, new, m, q),
+        Change::Exchange => rewrite::splice_current(table, ed, i, n, new, m, q),
     }
 }
 
@@ -194,8 +177,7 @@ fn alter_at(
 pub fn alter(
     set: &WordSet,
     table: &[u8],
-    j: &mut [u8],
-    st: State,
+    ed: &mut Editor<'_>,
     change: Change,
     pointing: bool,
     q: Quals,
@@ -204,10 +186,10 @@ pub fn alter(
     to: usize,
     start: usize,
     end: usize,
-) -> Result<State, Stopped>
-    requires { IsReady table.now j.old st × StringsIn script.now from to start end × (to ≤ from + 255) × Formed q (part from to script.now) }
-    ensures { PerformsTold (in_set set.now 0) table.now j.old st (alter_of change pointing q script.now from to start end) j.new result }
+) -> Result<(), Stop>
+    requires { IsReady table.now ed.old.journal.now ed.old.st × StringsIn script.now from to start end × (to ≤ from + 255) × Formed q (part from to script.now) }
+    ensures { Does (λ j st. PerformsTold (in_set set.now 0) table.now j st (alter_of change pointing q script.now from to start end)) ed.old ed.new result }
 {
-    let (i, n) = look::match_here(set, table, j, st, q, script, from, to)?;
-    alter_at(table, j, st, change, pointing, i, n, &script[start..end])
+    let (i, n) = look::match_here(set, table, ed, q, script, from, to)?;
+    alter_at(table, ed, change, pointing, i, n, &script[start..end])
 }

@@ -7,63 +7,48 @@ ghost use Rattle.matching.specs.Quals.{Formed};
 ghost use Rattle.editor.specs.Current.{ShownOf, IsReady};
 ghost use Rattle.changes.specs.Current.{written, sought, HasLine, Sights, Finds, Splices};
 
-use editor::{State, Stop, Stopped};
+use editor::{Editor, Stop};
 use matching::Quals;
 use wordset::WordSet;
 
-// The byte at p of the current line. A stop comes with the numbers as they were: put together by the callers, they cost each step more.
-pub fn byte_here<'a>(table: &'a [u8], j: &'a [u8], st: State) -> Result<u8, Stopped>
-    requires { ShownOf table.now j.now st }
-    ensures { Sights table.now j.now st result }
+// The byte at p of the current line.
+pub fn byte_here(table: &[u8], ed: &Editor<'_>) -> Result<u8, Stop>
+    requires { ShownOf table.now ed.now.journal.now ed.now.st }
+    ensures { Sights table.now ed.now.journal.now ed.now.st result }
 {
-    let at = st.back;
-    if at >= j.len() {
-        return Err(Stopped {
-            stop: Stop::AtEof,
-            st,
-        });
+    if ed.st.back >= ed.journal.len() {
+        return Err(Stop::AtEof);
     }
-    let line = editor::current::current_line(table, j, st);
-    let p = st.p;
+    let line = ed.current_line(table);
+    let p = ed.st.p;
     if p >= line.len() {
-        return Err(Stopped {
-            stop: Stop::PointAtEnd,
-            st,
-        });
+        return Err(Stop::PointAtEnd);
     }
     Ok(line[p])
 }
 
 // The place and the width of the match in the current line's window of the string that the script has from `from` to `to`, where the bytes of the set
-// count for W. Nothing moves.
-pub fn match_here<'a>(
+// count for W.
+pub fn match_here(
     set: &WordSet,
-    table: &'a [u8],
-    j: &'a [u8],
-    st: State,
+    table: &[u8],
+    ed: &Editor<'_>,
     q: Quals,
     script: &[u8],
     from: usize,
     to: usize,
-) -> Result<(usize, usize), Stopped>
-    requires { IsReady table.now j.now st × (from ≤ to) × (to ≤ length script.now) × (to ≤ from + 255) × Formed q (part from to script.now) }
-    ensures { Finds (in_set set.now 0) table.now j.now st (sought q script.now from to) result }
+) -> Result<(usize, usize), Stop>
+    requires { IsReady table.now ed.now.journal.now ed.now.st × (from ≤ to) × (to ≤ length script.now) × (to ≤ from + 255) × Formed q (part from to script.now) }
+    ensures { Finds (in_set set.now 0) table.now ed.now.journal.now ed.now.st (sought q script.now from to) result }
 {
-    let at = st.back;
-    if at >= j.len() {
-        return Err(Stopped {
-            stop: Stop::AtEof,
-            st,
-        });
+    if ed.st.back >= ed.journal.len() {
+        return Err(Stop::AtEof);
     }
-    let line = editor::current::current_line(table, j, st);
-    let found = matching::find(set, line, st.p, q, &script[from..to]);
+    let line = ed.current_line(table);
+    let found = matching::find(set, line, ed.st.p, q, &script[from..to]);
     match found {
         Some(found) => Ok((found.at, found.width)),
-        None => Err(Stopped {
-            stop: Stop::NoMatch,
-            st,
-        }),
+        None => Err(Stop::NoMatch),
     }
 }
 
@@ -79,20 +64,19 @@ fn splice_line(line: &mut [u8], old: &[u8], i: usize, n: usize, new: &[u8], m: u
 }
 
 // The current line with the first m bytes of `new` for the n from place i on: its length; and its bytes, where a line can be so long.
-pub fn splice_text<'a>(
+pub fn splice_text(
     line: &mut [u8],
-    table: &'a [u8],
-    j: &'a [u8],
-    st: State,
+    table: &[u8],
+    ed: &Editor<'_>,
     i: usize,
     n: usize,
     new: &[u8],
     m: usize,
 ) -> usize
-    requires { HasLine table.now j.now st (i + n) × (255 ≤ length line.old) × (m ≤ length new.now) × (m ≤ 16384) }
-    ensures { Splices table.now j.now st i n (take m new.now) line.old line.new result }
+    requires { HasLine table.now ed.now.journal.now ed.now.st (i + n) × (255 ≤ length line.old) × (m ≤ length new.now) × (m ≤ 16384) }
+    ensures { Splices table.now ed.now.journal.now ed.now.st i n (take m new.now) line.old line.new result }
 {
-    let text = editor::current::current_line(table, j, st);
+    let text = ed.current_line(table);
     let len = text.len() - n + m;
     if 255 < len {
         return len;

@@ -6,10 +6,11 @@ ghost use Rattle.definitions.specs.Given.{Carried};
 ghost use Rattle.definitions.specs.Edit.{splice};
 ghost use Rattle.definitions.specs.Editor.{retext};
 ghost use Rattle.definitions.specs.StepProgram.{gives, changes};
-ghost use Rattle.editor.specs.Shows.{Holds, ShowsText, Completes};
+ghost use Rattle.editor.specs.Shows.{Holds, Completes};
+ghost use Rattle.editor.specs.Edited.{Does};
 ghost use Rattle.changes.specs.Current.{written, EndsAt, HasEnds, Builds, MakesAnew, Replaces, Replacing, HasLine, Writes};
 
-use editor::{State, Stop, Stopped};
+use editor::{Editor, State, Stop};
 
 // Where the first line of the current record ends, the old one where it is changed; and where the record does.
 #[derive(Clone, Copy)]
@@ -99,16 +100,17 @@ pub struct Anew {
 }
 
 // The record that the current one becomes with the first len bytes of line for its text, at the start of rec.
-pub fn record_anew(rec: &mut [u8], j: &[u8], st: State, line: &[u8], len: usize) -> Anew
-    requires { ShowsText j.now st × (st.back < length j.now) × (514 ≤ length rec.old) × (len ≤ length line.now) × (is_line (take len line.now) ≡ true) }
-    ensures { MakesAnew j.now st (take len line.now) rec.old rec.new result }
+pub fn record_anew(rec: &mut [u8], ed: &Editor<'_>, line: &[u8], len: usize) -> Anew
+    requires { (ed.now.st.back < length ed.now.journal.now) × (514 ≤ length rec.old) × (len ≤ length line.now) × (is_line (take len line.now) ≡ true) }
+    ensures { MakesAnew ed.now.journal.now ed.now.st (take len line.now) rec.old rec.new result }
 {
-    let c = record_ends(j, st);
-    let n = build_record(rec, j, st, c, line, len);
+    let c = record_ends(ed.journal, ed.st);
+    let n = build_record(rec, ed.journal, ed.st, c, line, len);
     Anew { n, end: c.end }
 }
 
-// The first n bytes of rec stand for the current record, which ends at `end`; p becomes q. There is room.
+// The first n bytes of rec stand for the current record, which ends at `end`; p becomes q. There is room. CL and SA put it in the middle of a command, where no
+// text is shown, so this takes the buffer and its numbers, and no `Editor`.
 pub fn put_record(j: &mut [u8], st: State, end: usize, rec: &[u8], n: usize, q: usize) -> State
     requires { ((b : List Record) × (r : Record) × (a : List Record) × (x : Record) × Replacing j.old st end rec.now n b r a x) × (st.front + n ≤ end) }
     ensures { Replaces j.old st end rec.now n q j.new result }
@@ -127,51 +129,40 @@ pub fn put_record(j: &mut [u8], st: State, end: usize, rec: &[u8], n: usize, q: 
 }
 
 // The current line's text becomes the first len bytes of line, and p becomes q. 26: the journal would exceed its buffer.
-fn rewrite_current(
-    j: &mut [u8],
-    st: State,
-    line: &[u8],
-    len: usize,
-    q: usize,
-) -> Result<State, Stopped>
-    requires { ShowsText j.old st × (st.back < length j.old) × (len ≤ length line.now) × (is_line (take len line.now) ≡ true) }
-    ensures { (c : Carried) → Completes c j.old st (gives (changes (retext (take len line.now) q ∷ []))) j.new result }
+fn rewrite_current(ed: &mut Editor<'_>, line: &[u8], len: usize, q: usize) -> Result<(), Stop>
+    requires { (ed.old.st.back < length ed.old.journal.now) × (len ≤ length line.now) × (is_line (take len line.now) ≡ true) }
+    ensures { Does (λ j st k r. (c : Carried) → Completes c j st (gives (changes (retext (take len line.now) q ∷ []))) k r) ed.old ed.new result }
 {
     let mut rec = [0u8; 514];
-    let c = record_anew(&mut rec, j, st, line, len);
+    let c = record_anew(&mut rec, ed, line, len);
     let end = c.end;
     let n = c.n;
-    let front = st.front;
+    let front = ed.st.front;
     if end - front < n {
-        return Err(Stopped {
-            stop: Stop::JournalFull,
-            st,
-        });
+        return Err(Stop::JournalFull);
     }
-    Ok(put_record(j, st, end, &rec, n, q))
+    let j = &mut *ed.journal;
+    ed.st = put_record(j, ed.st, end, &rec, n, q);
+    Ok(())
 }
 
 // The first m bytes of `new` come for the n bytes of the current line from place i on, and p becomes q. 25: the line is over 255.
 pub fn splice_current(
     table: &[u8],
-    j: &mut [u8],
-    st: State,
+    ed: &mut Editor<'_>,
     i: usize,
     n: usize,
     new: &[u8],
     m: usize,
     q: usize,
-) -> Result<State, Stopped>
-    requires { HasLine table.now j.old st (i + n) × (m ≤ length new.now) × (m ≤ 16384) × (all_text (take m new.now) ≡ true) }
-    ensures { Writes table.now j.old st (i + n) (λ l. splice l i n (take m new.now)) q j.new result }
+) -> Result<(), Stop>
+    requires { HasLine table.now ed.old.journal.now ed.old.st (i + n) × (m ≤ length new.now) × (m ≤ 16384) × (all_text (take m new.now) ≡ true) }
+    ensures { Does (λ j st. Writes table.now j st (i + n) (λ l. splice l i n (take m new.now)) q) ed.old ed.new result }
 {
     let mut line = [0u8; 255];
-    let len = crate::look::splice_text(&mut line, table, j, st, i, n, new, m);
+    let len = crate::look::splice_text(&mut line, table, ed, i, n, new, m);
     if 255 < len {
-        return Err(Stopped {
-            stop: Stop::LineLong,
-            st,
-        });
+        return Err(Stop::LineLong);
     }
-    rewrite_current(j, st, &line, len, q)
+    rewrite_current(ed, &line, len, q)
 }

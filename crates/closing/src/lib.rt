@@ -1,4 +1,4 @@
-// The end of a run: the journal comes to the start of its buffer, its records arranged (document 02, wish 6), its lines ended.
+// The end of a run: the journal comes to the start of its buffer, its records arranged (document 02, wish 6), its lines ended. The run's `Editor` is gone.
 #![tactic(auto)]
 
 pub mod arranging;

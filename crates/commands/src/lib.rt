@@ -7,10 +7,11 @@ mod passing;
 mod qualified;
 
 ghost use Rattle.editor.specs.Current.{IsReady};
+ghost use Rattle.editor.specs.Edited.{Does};
 ghost use Rattle.reading.specs.Carrying.{SomeStand};
 ghost use Rattle.commands.specs.Performing.{SomeCommand, LeavesCarried, PerformsAt};
 
-use editor::{State, Stopped};
+use editor::{Editor, Stop};
 use items::heads::{kind_of, shape_of};
 use items::kinds::{FOURS, PAIRS, STRINGS, WORDS};
 
@@ -20,18 +21,17 @@ pub fn perform(
     table: &[u8],
     w: &[u32],
     k: usize,
-    j: &mut [u8],
-    st: State,
-) -> Result<State, Stopped>
-    requires { SomeCommand script.now w.now k × SomeStand script.now w.now × LeavesCarried w.now k × IsReady table.now j.old st }
-    ensures { PerformsAt script.now table.now w.now k j.old st j.new result }
+    ed: &mut Editor<'_>,
+) -> Result<(), Stop>
+    requires { SomeCommand script.now w.now k × SomeStand script.now w.now × LeavesCarried w.now k × IsReady table.now ed.old.journal.now ed.old.st }
+    ensures { Does (λ j st. PerformsAt script.now table.now w.now k j st) ed.old ed.new result }
 {
     let kind = kind_of(w, k);
     match shape_of(kind) {
-        WORDS => one_word::on_lines(script, table, w, kind, j, st),
-        PAIRS => lines::of_two_words(script, table, w, k, kind, j, st),
-        FOURS => lines::of_four_words(script, w, k, kind, j, st),
-        STRINGS => qualified::aims(script, table, w, k, kind, j, st),
-        _ => qualified::alters(script, table, w, k, kind, j, st),
+        WORDS => one_word::on_lines(script, table, w, kind, ed),
+        PAIRS => lines::of_two_words(script, table, w, k, kind, ed),
+        FOURS => lines::of_four_words(script, w, k, kind, ed),
+        STRINGS => qualified::aims(script, table, w, k, kind, ed),
+        _ => qualified::alters(script, table, w, k, kind, ed),
     }
 }

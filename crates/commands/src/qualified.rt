@@ -3,11 +3,12 @@ ghost use Rattle.std.specs.Prelude.{◌≡◌, false};
 ghost use Rattle.items.specs.Kinds.{string_shape, change_shape, shape_of, is_global};
 ghost use Rattle.items.specs.Words.{kind_at};
 ghost use Rattle.editor.specs.Current.{IsReady};
+ghost use Rattle.editor.specs.Edited.{Does};
 ghost use Rattle.reading.specs.Carrying.{SomeStand};
 ghost use Rattle.commands.specs.Performing.{split_by, change_by, pointing_by, SomeCommand, PerformsAt};
 
 use changes::Change;
-use editor::{State, Stopped};
+use editor::{Editor, Stop};
 use globals::word_set;
 use items::arguments::{string_length, string_start};
 use items::kinds::{
@@ -34,11 +35,10 @@ pub fn aims(
     w: &[u32],
     k: usize,
     kind: u32,
-    j: &mut [u8],
-    st: State,
-) -> Result<State, Stopped>
-    requires { SomeCommand script.now w.now k × SomeStand script.now w.now × IsReady table.now j.old st × (kind ≡ kind_at w.now k) × (shape_of kind ≡ string_shape) }
-    ensures { PerformsAt script.now table.now w.now k j.old st j.new result }
+    ed: &mut Editor<'_>,
+) -> Result<(), Stop>
+    requires { SomeCommand script.now w.now k × SomeStand script.now w.now × IsReady table.now ed.old.journal.now ed.old.st × (kind ≡ kind_at w.now k) × (shape_of kind ≡ string_shape) }
+    ensures { Does (λ j st. PerformsAt script.now table.now w.now k j st) ed.old ed.new result }
 {
     let at = k + 1;
     let q = quals_at(w, at);
@@ -46,9 +46,9 @@ pub fn aims(
     let to = from + length_at(w, at);
     let set = word_set(w);
     if is_split(kind) {
-        return splits::split(set, table, j, st, kind == SPLIT_AFTER, q, script, from, to);
+        return splits::split(set, table, ed, kind == SPLIT_AFTER, q, script, from, to);
     }
-    changes::point(set, table, j, st, kind == POINT_AFTER, q, script, from, to)
+    changes::point(set, table, ed, kind == POINT_AFTER, q, script, from, to)
 }
 
 // What a change of this kind does.
@@ -82,11 +82,10 @@ pub fn alters(
     w: &[u32],
     k: usize,
     kind: u32,
-    j: &mut [u8],
-    st: State,
-) -> Result<State, Stopped>
-    requires { SomeCommand script.now w.now k × SomeStand script.now w.now × IsReady table.now j.old st × (kind ≡ kind_at w.now k) × (shape_of kind ≡ change_shape) × (is_global kind ≡ false) }
-    ensures { PerformsAt script.now table.now w.now k j.old st j.new result }
+    ed: &mut Editor<'_>,
+) -> Result<(), Stop>
+    requires { SomeCommand script.now w.now k × SomeStand script.now w.now × IsReady table.now ed.old.journal.now ed.old.st × (kind ≡ kind_at w.now k) × (shape_of kind ≡ change_shape) × (is_global kind ≡ false) }
+    ensures { Does (λ j st. PerformsAt script.now table.now w.now k j st) ed.old ed.new result }
 {
     let at = k + 1;
     let q = quals_at(w, at);
@@ -98,8 +97,7 @@ pub fn alters(
     changes::alter(
         word_set(w),
         table,
-        j,
-        st,
+        ed,
         change_of(kind),
         is_pointing(kind),
         q,

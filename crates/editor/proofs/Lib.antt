@@ -20,3 +20,4 @@ pub mod Texts
 pub mod CurrentText
 pub mod Tables
 pub mod Points
+pub mod Shown

@@ -39,7 +39,7 @@ handed r x h =
     let p = err_from_is_err_and r h in
     p.1 ∙ ap Err p.2
 
-pub passed-on : (m r : Moved) (x : Stopped) → m ≡ Err x → IsErrAnd r (λ y. y ≡ x) → r ≡ m
+pub passed-on : {A E : Type 0} (m r : Result A E) (x : E) → m ≡ Err x → IsErrAnd r (λ y. y ≡ x) → r ≡ m
 passed-on m r x is h = handed r x h ∙ sym is
 
 -- ---- one part after another

@@ -2,3 +2,4 @@ pub mod Records
 pub mod Shows
 pub mod Current
 pub mod Stops
+pub mod Edited

@@ -1,14 +1,15 @@
-// Insertion before the current line: IS and IC; and the line of a record deleted.
+// Insertion before the current line: IS and IC; and the line of a record deleted. What takes the buffer and its numbers, and no `Editor`, runs while they
+// show no text: a line is put or struck in the middle of a command.
 ghost use Rattle.std.specs.Prelude.{◌≡◌, List, [], ◌∷◌, ℕ, ◌+◌, ◌≤◌, length, take, drop};
 ghost use Rattle.std.proofs.Math.Option.{none};
 ghost use Rattle.definitions.specs.Journal.{Record};
 ghost use Rattle.definitions.specs.Given.{Carried};
 ghost use Rattle.definitions.specs.Edit.{Op};
 ghost use Rattle.editor.specs.Records.{enc_before, LineIn};
-ghost use Rattle.editor.specs.Shows.{Holds, HoldsCut, ShowsText, Performs, Puts, Strikes, Cuts};
+ghost use Rattle.editor.specs.Shows.{Holds, HoldsCut, Performs, Puts, Strikes, Cuts};
 ghost use Rattle.editor.specs.Current.{ShownOf, PerformsOf};
 
-use crate::{State, Stop, Stopped};
+use crate::{Editor, State, Stop};
 
 // The n bytes of s from `from` on become an inserted record before the current one. There is room for it.
 pub fn put_line(j: &mut [u8], st: State, s: &[u8], from: usize, n: usize) -> State
@@ -25,27 +26,6 @@ pub fn put_line(j: &mut [u8], st: State, s: &[u8], from: usize, n: usize) -> Sta
     let mut r = st;
     r.front = end + 1;
     r
-}
-
-// IS: the n bytes of s from `from` on are inserted before the current line.
-pub fn insert_line(
-    j: &mut [u8],
-    st: State,
-    s: &[u8],
-    from: usize,
-    n: usize,
-) -> Result<State, Stopped>
-    requires { ShowsText j.old st × LineIn s.now from n }
-    ensures { (c : Carried) → Performs c j.old st (Op.insert none (take n (drop from s.now) ∷ [])) j.new result }
-{
-    let room = st.back - st.front;
-    if room < n + 3 {
-        return Err(Stopped {
-            stop: Stop::JournalFull,
-            st,
-        });
-    }
-    Ok(put_line(j, st, s, from, n))
 }
 
 // The record from f up to the gap is of a changed line, but for its mark, which is that of a deleted one: its new text goes.
@@ -85,20 +65,34 @@ pub fn strike_record(j: &mut [u8], st: State, f: usize) -> State
     st
 }
 
-// IC: a copy of the current line is inserted before it.
-pub fn copy_line(table: &[u8], j: &mut [u8], st: State) -> Result<State, Stopped>
-    requires { ShownOf table.now j.old st }
-    ensures { PerformsOf table.now j.old st Op.copy j.new result }
-{
-    let at = st.back;
-    if at >= j.len() {
-        return Err(Stopped {
-            stop: Stop::AtEof,
-            st,
-        });
+impl<'a> Editor<'a> {
+    ghost use Rattle.editor.specs.Edited.{Does};
+
+    // IS: the n bytes of s from `from` on are inserted before the current line.
+    pub fn insert_line(&mut self, s: &[u8], from: usize, n: usize) -> Result<(), Stop>
+        requires { LineIn s.now from n }
+        ensures { Does (λ j st k r. (c : Carried) → Performs c j st (Op.insert none (take n (drop from s.now) ∷ [])) k r) self.old self.new result }
+    {
+        let room = self.st.back - self.st.front;
+        if room < n + 3 {
+            return Err(Stop::JournalFull);
+        }
+        let j = &mut *self.journal;
+        self.st = put_line(j, self.st, s, from, n);
+        Ok(())
     }
-    // The text may be a part of the journal, which is written.
-    let mut line = [0u8; 256];
-    let n = crate::current::copy_current(&mut line, table, j, st);
-    insert_line(j, st, &line, 0, n)
+
+    // IC: a copy of the current line is inserted before it.
+    pub fn copy_line(&mut self, table: &[u8]) -> Result<(), Stop>
+        requires { ShownOf table.now self.old.journal.now self.old.st }
+        ensures { Does (λ j st. PerformsOf table.now j st Op.copy) self.old self.new result }
+    {
+        if self.st.back >= self.journal.len() {
+            return Err(Stop::AtEof);
+        }
+        // The text may be a part of the journal, which is written.
+        let mut line = [0u8; 256];
+        let n = self.copy_current(&mut line, table);
+        self.insert_line(&line, 0, n)
+    }
 }

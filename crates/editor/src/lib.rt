@@ -3,6 +3,7 @@
 
 ghost use Rattle.std.specs.Prelude.{◌≡◌};
 ghost use Rattle.editor.specs.Stops.{numbered};
+ghost use Rattle.editor.specs.Shows.{ShowsText};
 
 pub mod current;
 pub mod edits;
@@ -27,6 +28,14 @@ pub struct State {
     // The bytes of the table.
     pub size: usize,
     pub p: usize,
+}
+
+// The journal buffer during a run, and the numbers that go with it: together they show a text.
+#[derive(Drop)]
+pub struct Editor<'a> {
+    pub journal: &'a mut [u8],
+    pub st: State,
+    ghost shows: { ∥ ShowsText journal.now st ∥₁ },
 }
 
 // Why a run stops: the numbers are those of documents 01 and 02.

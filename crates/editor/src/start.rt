@@ -8,7 +8,7 @@ ghost use Rattle.definitions.specs.Reading.{opening};
 ghost use Rattle.editor.specs.Records.{OpeningAt};
 ghost use Rattle.editor.specs.Shows.{Opens};
 
-use crate::State;
+use crate::{Editor, State};
 
 // Writes the n bytes of the table t from `from` on, a line with its line feed, as a kept record that ends at o, and hands its start back.
 fn put_kept(j: &mut [u8], o: usize, t: &[u8], from: usize, n: usize) -> usize
@@ -51,23 +51,30 @@ fn write_opening(t: &[u8], j: &mut [u8]) -> Opened
     }
 }
 
-// The opening journal of the table t at the back of the buffer, zeros before it: the first line, or EOF, is current and read.
-pub fn open_journal(t: &[u8], j: &mut [u8]) -> State
-    requires { (is_table t.now ≡ true) × (opening_length (lines_of t.now) ≤ length j.old) }
-    ensures { Opens j.new result (opening (unread (lines_of t.now))) }
-{
-    let w = write_opening(t, j);
-    let b = w.at;
-    gap::clear(j, 0, b);
-    let st = State {
-        front: 0,
-        back: b,
-        past: 0,
-        furthest: 0,
-        lines: w.lines,
-        source: 0,
-        size: t.len(),
-        p: 0,
-    };
-    crate::walk::read_to(st, 1)
+impl<'a> Editor<'a> {
+    // The opening journal of the table t at the back of the buffer, zeros before it: the first line, or EOF, is current and read.
+    pub fn open(t: &[u8], j: &'a mut [u8]) -> Editor<'a>
+        requires { (is_table t.now ≡ true) × (opening_length (lines_of t.now) ≤ length j.old) }
+        ensures lent { result.journal.ghost_name ≡ j.entry.ghost_name }
+        ensures long { length result.journal.now ≡ length j.old }
+        ensures opens { Opens result.journal.now result.st (opening (unread (lines_of t.now))) }
+    {
+        let w = write_opening(t, j);
+        let b = w.at;
+        gap::clear(j, 0, b);
+        let st = State {
+            front: 0,
+            back: b,
+            past: 0,
+            furthest: 0,
+            lines: w.lines,
+            source: 0,
+            size: t.len(),
+            p: 0,
+        };
+        Editor {
+            journal: j,
+            st: crate::walk::read_to(st, 1),
+        }
+    }
 }

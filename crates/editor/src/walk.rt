@@ -1,4 +1,5 @@
-// Walking the records of the journal buffer: over the gap and back, and to the next live line.
+// Walking the records of the journal buffer: over the gap and back, and to the next live line. A walk takes the buffer and its numbers and no `Editor`:
+// halfway the record at the gap may be a deleted one, so that they show no text.
 ghost use Rattle.std.specs.Prelude.{◌≡◌, List, [], ◌∷◌, ◌++◌, ℕ, ◌+◌, ◌-◌, ◌≤◌, ◌<◌, length, drop};
 ghost use Rattle.definitions.specs.Journal.{Record};
 ghost use Rattle.text.specs.Feeds.{line_length};

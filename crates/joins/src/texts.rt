@@ -3,9 +3,9 @@ ghost use Rattle.std.specs.Prelude.{◌≡◌, ◌++◌, ◌+◌, ◌≤◌, ◌
 ghost use Rattle.editor.specs.Records.{LineIn};
 ghost use Rattle.editor.specs.Current.{ShownOf};
 ghost use Rattle.changes.specs.Current.{written};
-ghost use Rattle.joins.specs.Joining.{HasRecord, JoinsText};
+ghost use Rattle.joins.specs.Joining.{HasRecord, HasNext, FreesNext, JoinsText};
 
-use editor::State;
+use editor::Editor;
 
 // The bytes of a, then n of s, then m of j.
 fn put_parts(
@@ -28,25 +28,33 @@ fn put_parts(
 }
 
 // The current line, the n bytes of s from `from` on, and the line whose record stands at `at`: their length; and their bytes, where a line can be so long.
-pub fn join_text<'a>(
+pub fn join_text(
     line: &mut [u8],
-    table: &'a [u8],
-    j: &'a [u8],
-    st: State,
+    table: &[u8],
+    ed: &Editor<'_>,
     at: usize,
     s: &[u8],
     from: usize,
     n: usize,
 ) -> usize
-    requires { ShownOf table.now j.now st × (st.back < length j.now) × HasRecord j.now at × LineIn s.now from n × (255 ≤ length line.old) }
-    ensures { JoinsText table.now j.now st at (take n (drop from s.now)) line.old line.new result }
+    requires { ShownOf table.now ed.now.journal.now ed.now.st × (ed.now.st.back < length ed.now.journal.now) × HasRecord ed.now.journal.now at × LineIn s.now from n × (255 ≤ length line.old) }
+    ensures { JoinsText table.now ed.now.journal.now ed.now.st at (take n (drop from s.now)) line.old line.new result }
 {
-    let text = editor::current::current_line(table, j, st);
-    let next = editor::walk::text_at(j, at);
+    let text = ed.current_line(table);
+    let next = editor::walk::text_at(ed.journal, at);
     let len = text.len() + n + next.n;
     if 255 < len {
         return len;
     }
-    put_parts(line, text, s, from, n, j, next.from, next.n);
+    put_parts(line, text, s, from, n, ed.journal, next.from, next.n);
     len
+}
+
+// How many bytes it frees to delete the line whose record stands at `at`, after the current one.
+pub fn freed_by(ed: &Editor<'_>, at: usize) -> usize
+    requires { HasNext ed.now.journal.now ed.now.st at }
+    ensures { FreesNext ed.now.journal.now at result }
+{
+    let next = editor::walk::record_end(ed.journal, at);
+    spans::striking::freed_at(ed.journal, at, next)
 }

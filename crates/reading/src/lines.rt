@@ -1,4 +1,5 @@
-// Lines read one after the other: each passes the gap, with its text as the standing globals leave it.
+// Lines read one after the other: each passes the gap, with its text as the standing globals leave it. While they pass, the buffer shows no text, so these
+// functions take it and its numbers, and no `Editor`.
 ghost use Rattle.std.specs.Prelude.{◌≡◌, true, ◌+◌, ◌-◌, ◌≤◌, ◌<◌, length, take};
 ghost use Rattle.definitions.specs.Bytes.{is_line};
 ghost use Rattle.reading.specs.Carrying.{SomeStand};

@@ -24,7 +24,7 @@ use Rattle.editor.proofs.Reading.{next-rest, journal-is}
 use Rattle.editor.proofs.Parts.{perform-as}
 use Rattle.editor.proofs.Inserting.{held-journal, put-length}
 use Rattle.editor.proofs.Changing.{changes-on, changes-full, put-shows, strike-lands}
-use Rattle.spans.specs.Spans.{reach_here, change_here, EndsAt, StrikesSpan, Counts, ReadsFrom}
+use Rattle.spans.specs.Spans.{reach_here, change_here, EndsAt, StrikesSpan, Counts, ReadsFrom, FindsAfter}
 use Rattle.spans.specs.declared.Next.{Next}
 use Rattle.spans.proofs.Struck.{span-held, span-place, counted_is}
 use Rattle.spans.proofs.Nexts.{land-same, NextRead, next-read}
@@ -109,11 +109,11 @@ module _ {j : List ℕ} {st : State} {end : ℕ} (ls : List Line) (e : Ed) (t : 
       (runs_on (lent j) no_globals (λ u. gives (changes (replacing ls n))) (read_past n) e t q)
 
   -- there is no room
-  pub replace-full : (x : Next) (r past room : ℕ) → Frees end j st r → room ≡ journal_length (map inserted ls) → (st.back - st.front) + r < room
-      → Counts end j st past → ReadsFrom end past j st x → Answered j (stopping JournalFull x.st) (perform (lent j) (replace_many ls n) (state e no_globals) t)
+  pub replace-full : (x : Next) (r room : ℕ) → Frees end j st r → room ≡ journal_length (map inserted ls) → (st.back - st.front) + r < room
+      → FindsAfter end j st x → Answered j (stopping JournalFull x.st) (perform (lent j) (replace_many ls n) (state e no_globals) t)
   unfolding edits
-  replace-full x r past room counts is full passes reads =
-      let z : NextRead j n x (runs (lent j) no_globals (read_past n) e t) = next-read (runs (lent j) no_globals (read_past n) e t) (reads e t n h w (counted_is e t n h w passes)) in
+  replace-full x r room counts is full reads =
+      let z : NextRead j n x (runs (lent j) no_globals (read_past n) e t) = next-read (runs (lent j) no_globals (read_past n) e t) (reads e t n h w) in
       rw (many_is z.text z.tape z.is)
       (changes-full no_globals (replacing ls n) z.text z.tape j j x.st
       (omega (

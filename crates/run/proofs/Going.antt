@@ -6,6 +6,7 @@ use mathlib.Core.List.{List, []}
 use Prim.Native.Nat.{ℕ, zero, suc, ◌+◌, ◌-◌, ◌≤◌}
 use native.Mathlib.Omega.{arith}
 use lib.ListN.{length}
+use Rattle.seeks.specs.Looks.{Looked, Found}
 use Rattle.definitions.specs.Table.{is_script}
 use Rattle.definitions.specs.Tape.{Tape}
 use Rattle.definitions.specs.Given.{Given, Carried, carried, no_globals}
@@ -27,8 +28,6 @@ use Rattle.editor.specs.Current.{Ready}
 use Rattle.std.specs.Prelude.{Ok}
 use Rattle.editor.specs.Stops.{numbered, stopping}
 use Rattle.editor.specs.declared.Stop.{Stop}
-use Rattle.seeks.specs.declared.Looked.{Looked}
-use Rattle.seeks.specs.declared.Sought.{Sought}
 use Rattle.steps.specs.Steps.{GoodCtl, Wants}
 use Rattle.steps.proofs.Asked.{wanted-asked}
 use Rattle.steps.proofs.OneStep.{GoesOn, Stops, Leads, Comes}
@@ -127,7 +126,7 @@ module _ {s table : List ℕ} {lends : Given} {budget last : ℕ} {w j : List �
 
   -- ---- after a step, or the steps of a search; `left` is what was left of the budget, and the words are v then
 
-  module _ (left : ℕ) (rest_of : left ≡ budget - made) (k v m : List ℕ) (n : ℕ) (y : Wanted) (h : Wanting s k last n y g.from) (r : Sought) (only : OnlyCarried k v)
+  module _ (left : ℕ) (rest_of : left ≡ budget - made) (k v m : List ℕ) (n : ℕ) (y : Wanted) (h : Wanting s k last n y g.from) (r : Found) (only : OnlyCarried k v)
       (comes : Comes lends left made g.from at_state g.rest s v last table m y.place h.c₁ h.c₀ r) where
     -- the run stands where it stood in the words before
     still : (d : Control) (to : Ctl) → reserve ≤ length k → ShowsCtl s k last d to → ShowsCtl s v last d to

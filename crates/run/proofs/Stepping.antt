@@ -1,4 +1,5 @@
 -- What the step comes to that the run asks for, where the run stands. Assumes nothing.
+use Rattle.seeks.specs.Looks.{Found}
 use Rattle.std.proofs.Common.{◌≡◌, ℕ, ◌-◌, ◌≤◌, List, length}
 use Rattle.definitions.specs.Tape.{Tape}
 use Rattle.definitions.specs.StepProgram.{state}
@@ -9,14 +10,13 @@ use Rattle.control.specs.Shown.{ItemsKept}
 use Rattle.editor.specs.declared.State.{State}
 use Rattle.editor.specs.Shows.{lent}
 use Rattle.editor.proofs.Parts.{lent_same}
-use Rattle.seeks.specs.declared.Sought.{Sought}
 use Rattle.steps.specs.Steps.{AnswersStep}
 use Rattle.steps.proofs.OneStep.{Comes}
 use Rattle.steps.proofs.Answering.{step-comes}
 use Rattle.run.proofs.Going.{Going, Wanting, stands-pulled}
 
 module _ {s table : List ℕ} (j₀ : List ℕ) {budget last : ℕ} {w j : List ℕ} {c : Control} {st : State} {made : ℕ} {x : End × Tape} (g : Going s table (lent j₀) budget last w j c st made x) where
-  pub step-came : {k : List ℕ} {n : ℕ} {y : Wanted} (h : Wanting s k last n y g.from) → ItemsKept w k last → length j ≡ length j₀ → 1 ≤ budget - made → (w' j' : List ℕ) (r : Sought)
+  pub step-came : {k : List ℕ} {n : ℕ} {y : Wanted} (h : Wanting s k last n y g.from) → ItemsKept w k last → length j ≡ length j₀ → 1 ≤ budget - made → (w' j' : List ℕ) (r : Found)
       → AnswersStep s k y table j st (budget - made) w' j' r
       → Comes (lent j₀) (budget - made) made g.from (state g.then g.carries) g.rest s w' last table j' y.place h.c₁ h.c₀ r
   step-came {k} {n} {y} h kept long some w' j' r answers =

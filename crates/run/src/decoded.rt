@@ -5,8 +5,9 @@ ghost use Rattle.definitions.specs.Editor.{Ed};
 ghost use Rattle.definitions.specs.Run.{end_place};
 ghost use Rattle.editor.specs.Current.{Ready};
 ghost use Rattle.run.specs.Items.{CanRun, NoneStands, RunsItems};
+ghost use Rattle.run.specs.Edited.{RunsOn};
 
-use editor::State;
+use editor::{Editor, State};
 use steps::answer_step;
 
 // How the steps end: the number, the steps that were made, the place, and the journal buffer's numbers.
@@ -45,14 +46,13 @@ pub fn run_items(
     w: &mut [u32],
     end: usize,
     budget: usize,
-    j: &mut [u8],
-    st: State,
+    ed: &mut Editor<'_>,
 ) -> Ended
-    requires { CanRun script.now w.old end budget × NoneStands script.now w.old end × ((e : Ed) × (t : Tape) × Ready table.now j.old st e t) }
-    ensures { RunsItems script.now w.old end budget table.now j.old st w.new j.new result }
+    requires { CanRun script.now w.old end budget × NoneStands script.now w.old end × ((e : Ed) × (t : Tape) × Ready table.now ed.old.journal.now ed.old.st e t) }
+    ensures lent { ed.new.journal.ghost_name ≡ ed.old.journal.ghost_name }
+    ensures runs { RunsOn (λ j st. RunsItems script.now w.old end budget table.now j st w.new) ed.old ed.new result }
 {
     let mut c = control::start();
-    let mut s = st;
     let mut made: usize = 0;
     loop {
         let next = control::pull(w, end, c);
@@ -61,7 +61,7 @@ pub fn run_items(
                 number: 0,
                 steps: made,
                 place: 0,
-                st: s,
+                st: ed.st,
             };
         };
         if made >= budget {
@@ -69,18 +69,17 @@ pub fn run_items(
                 number: 29,
                 steps: made,
                 place: x.place,
-                st: s,
+                st: ed.st,
             };
         }
-        let r = answer_step(script, table, w, x, j, s, budget - made);
+        let r = answer_step(script, table, w, x, ed, budget - made);
         made += r.made;
         match r.looked {
-            Ok(looked) => {
-                s = looked.st;
-                c = control::go_on(x, looked.held);
+            Ok(held) => {
+                c = control::go_on(x, held);
             }
-            Err(last) => {
-                return stopped(usize::from(last.stop), made, x.place, last.st);
+            Err(stop) => {
+                return stopped(usize::from(stop), made, x.place, ed.st);
             }
         }
     }

@@ -12,7 +12,7 @@ ghost use Rattle.run.specs.Items.{CanRun, RunsTable, SomeEnd, PassesUnread, Give
 
 use answers::Refusal;
 use decoded::{Ended, run_items};
-use editor::Stopped;
+use editor::{Editor, Stopped};
 
 // How a run ends: done, stopped or refused.
 #[derive(Clone, Copy)]
@@ -61,9 +61,9 @@ fn run_opened(
     requires { Opening table.now journal.old × CanRun script.now work.old end budget }
     ensures { RunsTable script.now work.old end budget table.now journal.old work.new journal.new result }
 {
-    let st = editor::start::open_journal(table, journal);
+    let mut ed = Editor::open(table, journal);
     globals::begin(work);
-    run_items(script, table, work, end, budget, journal, st)
+    run_items(script, table, work, end, budget, &mut ed)
 }
 
 // Where the script is done, the lines that it left unread pass through the standing globals: all of them, or none, and then the run stops at the

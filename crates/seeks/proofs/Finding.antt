@@ -31,8 +31,7 @@ use Rattle.reading.specs.Carrying.{DoesPartBy, SomeStand}
 use Rattle.seeks.specs.declared.Way.{Way}
 use Rattle.seeks.specs.declared.Way.TheVariants.{Forward, Backward, Deleting}
 use Rattle.editor.specs.declared.Stopped.{Stopped}
-use Rattle.seeks.specs.declared.Looked.{Looked}
-use Rattle.seeks.specs.Looks.{holding, LooksAs, LooksBy, LooksCarrying, seek_of, eof_stop, where_found, where_not}
+use Rattle.seeks.specs.Looks.{Looked, holding, LooksAs, LooksBy, LooksCarrying, seek_of, eof_stop, where_found, where_not}
 use Rattle.seeks.proofs.Texts.{line-holds}
 use Rattle.seeks.proofs.Looking.{says-yes, says-no, says-stop, then-looks, then-stops, performed}
 

@@ -1,6 +1,6 @@
 -- What a program comes to, as the answer of a function: it holds, it does not, or the run stops. Assumes nothing.
 use mathlib.Core.Path.{◌≡◌, refl}
-use mathlib.Core.Bool.{true, false}
+use mathlib.Core.Bool.{Bool, true, false}
 use Prim.Native.Nat.{ℕ}
 use mathlib.Core.List.{List}
 use Rattle.definitions.specs.Tape.{Tape, bind}
@@ -9,15 +9,14 @@ use Rattle.definitions.specs.Editor.{Ed, stop_number, Stop as StopNumber}
 use Rattle.definitions.specs.Reading.{gave, stopped}
 use Rattle.definitions.specs.StepProgram.{Program, ◌>>=◌, runs, state, Did, answers, Out, on, edited, halt, finish, perform}
 use Rattle.theorems.specs.Programs.{runs_on, runs-stop}
-use Rattle.editor.specs.Shows.{Shows, Came, Answers, Answered}
+use Rattle.editor.specs.Shows.{Shows, ShowsText, Came, Answers, Answered}
 use Rattle.editor.specs.declared.State.{State}
 use Rattle.std.specs.Prelude.{Result, Ok}
 use Rattle.editor.specs.Stops.{Moved, numbered, stopping}
 use Rattle.editor.specs.declared.Stop.{Stop}
 use Rattle.editor.proofs.Parts.{Went, went, Halted, halted, perform-as}
 use Rattle.editor.specs.declared.Stopped.{Stopped}
-use Rattle.seeks.specs.declared.Looked.{Looked}
-use Rattle.seeks.specs.Looks.{holding, Looks, LooksAs}
+use Rattle.seeks.specs.Looks.{Looked, holding, Looks, LooksAs}
 
 -- ---- by what the program comes to
 
@@ -73,3 +72,10 @@ module _ (k : List ℕ) (s : State) (r : Moved) (x : Out × Tape) (w : Answered 
   -- the run stops
   pub performed-stop : (m : Stop) → r ≡ stopping m s → LooksAs k (stopping m s) x
   performed-stop m q = stop-by k m s x.0 x.1 (rw q at w)
+
+-- a text is shown where it holds, or does not
+pub held-text : {k : List ℕ} (v : Bool) {s : State} (x : Out × Tape) → LooksAs k (holding v s) x → ∥ ShowsText k s ∥₁
+unfolding Looks
+held-text v (on b (state e c), t) h = ∣ (e, t, h.1) ∣₁
+held-text v (edited (state e c), t) h = ∣ (e, t, h.1) ∣₁
+held-text v (halt n (state e c), t) h = absurd h

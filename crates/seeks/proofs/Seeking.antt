@@ -16,8 +16,7 @@ use Rattle.editor.specs.declared.State.{State}
 use Rattle.editor.proofs.Tables.{keeps-table}
 use Rattle.editor.proofs.Points.{keeps-point}
 use Rattle.editor.specs.declared.Stopped.{Stopped}
-use Rattle.seeks.specs.declared.Looked.{Looked}
-use Rattle.seeks.specs.Looks.{holding, Looks, LooksAs, carried_of, Steps, further, steps_of}
+use Rattle.seeks.specs.Looks.{Looked, holding, Looks, LooksAs, carried_of, Steps, further, steps_of}
 use Rattle.seeks.proofs.Carrying.{LeavesOp, step-leaves}
 
 -- after `made` of at most `left` steps the search goes on in a state that the buffer shows; the same globals stand

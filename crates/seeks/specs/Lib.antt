@@ -1,1 +1,2 @@
 pub mod Looks
+pub mod Edited

@@ -16,8 +16,16 @@ use Rattle.editor.specs.Stops.{numbered}
 use Rattle.globals.specs.Standing.{Standing}
 use Rattle.seeks.specs.declared.Way.{Way}
 use Rattle.seeks.specs.declared.Way.TheVariants.{Forward, Backward, Deleting}
-use Rattle.seeks.specs.declared.Looked.{Looked}
-use Rattle.seeks.specs.declared.Sought.{Sought}
+
+-- what a test comes to, or a search on one line: whether it holds, and the numbers then
+pub record Looked : Type 0 where
+  pub held : Bool
+  pub st : State
+
+-- what a search over lines comes to, and how many steps it made
+pub record Found : Type 0 where
+  pub looked : Result Looked Stopped
+  pub made : ℕ
 
 -- ---- one step
 
@@ -121,11 +129,11 @@ steps_of g op i zero s t = ((on false s, t), 0)
 steps_of g op i (suc n) s t = further (steps_of g op (suc i) n) (step g (op i) s t).0 (step g (op i) s t).1
 
 -- what a search over lines answers, and what its steps come to: p is within the current line where the run goes on
-abbrev pub Seeks : List ℕ → Sought → Steps → Type 0
+abbrev pub Seeks : List ℕ → Found → Steps → Type 0
 Seeks j r x = LooksAs j r.looked x.0 × PointOut x.0.0 × (r.made ≡ x.1)
 
 -- what a function answers that made the steps of `f` with the search in the words from k up to m, told what is carried
-abbrev pub SeeksFor : List ℕ → List ℕ → ℕ → ℕ → List ℕ → List ℕ → State → Seek → ℕ → ℕ → List ℕ → Sought → Type 0
+abbrev pub SeeksFor : List ℕ → List ℕ → ℕ → ℕ → List ℕ → List ℕ → State → Seek → ℕ → ℕ → List ℕ → Found → Type 0
 SeeksFor script words k m table j st f passed left i r =
     (se : Search) (e : Ed) (c : Carried) (t : Tape) → Encodes script words k m se → Standing script words c → Ready table j st e t
     → Seeks i r (steps_of (lent j) (look_op f se) passed left (state e c) t)

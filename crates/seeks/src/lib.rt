@@ -3,27 +3,21 @@
 
 ghost use Rattle.std.specs.Prelude.{◌≡◌, true, ◌+◌, ◌≤◌, ◌<◌, length, Ok};
 ghost use Rattle.definitions.specs.Editor.{stop_number};
-ghost use Rattle.definitions.specs.Edit.{Op, Test, look_on, look_back};
+ghost use Rattle.definitions.specs.Edit.{Op, Test, go_ahead, look_on, look_back};
 ghost use Rattle.definitions.specs.Control.{look_op};
-ghost use Rattle.editor.specs.Shows.{ShowsText};
 ghost use Rattle.editor.specs.Stops.{numbered};
-ghost use Rattle.reading.specs.Carrying.{SomeStand};
+ghost use Rattle.editor.specs.Edited.{Does};
+ghost use Rattle.reading.specs.Carrying.{SomeStand, DoesPartBy};
 ghost use Rattle.seeks.specs.Looks.{LooksBy, LooksCarrying, LooksOnce, Searchable, Tells, LooksForCarrying};
 ghost use Rattle.seeks.specs.Looks.{test_of, seek_of, eof_stop, where_found, where_not, holding, SeeksFor};
+ghost use Rattle.seeks.specs.Edited.{looked_by, LooksOn, SeeksOn};
 
-use editor::{State, Stop, Stopped};
-
-// What a test comes to, or a search on one line: whether it holds, and the numbers then.
-#[derive(Clone, Copy)]
-pub struct Looked {
-    pub held: bool,
-    pub st: State,
-}
+use editor::{Editor, Stop};
 
 // What a search over lines comes to, and how many steps it made: those before a stop too.
 #[derive(Clone, Copy)]
 pub struct Sought {
-    pub looked: Result<Looked, Stopped>,
+    pub looked: Result<bool, Stop>,
     pub made: usize,
 }
 
@@ -36,142 +30,123 @@ pub enum Way {
 }
 
 // Does the search in the words from k to m hold on the current line, with the window from p, or at EOF. The bytes of the word set count for W.
-pub fn holds_here<'a>(
+pub fn holds_here(
     script: &[u8],
     words: &[u32],
     k: usize,
     m: usize,
-    table: &'a [u8],
-    j: &'a [u8],
-    st: State,
+    table: &[u8],
+    ed: &Editor<'_>,
 ) -> bool
-    requires { SomeStand script.now words.now × Searchable script.now words.now k m table.now j.now st }
-    ensures { Tells script.now words.now k m table.now j.now st result }
+    requires { SomeStand script.now words.now × Searchable script.now words.now k m table.now ed.now.journal.now ed.now.st }
+    ensures { Tells script.now words.now k m table.now ed.now.journal.now ed.now.st result }
 {
-    let at = st.back;
-    if at >= j.len() {
+    if ed.st.back >= ed.journal.len() {
         return matching::search::holds_at_eof(words, k, m);
     }
-    let line = editor::current::current_line(table, j, st);
-    matching::search::holds(script, words, k, m, globals::word_set(words), line, st.p)
+    let line = ed.current_line(table);
+    matching::search::holds(script, words, k, m, globals::word_set(words), line, ed.st.p)
 }
 
 // IF and WH, with `holds` true; UL and UT, with `holds` false.
-pub fn test<'a>(
+pub fn test(
     script: &[u8],
     words: &[u32],
     k: usize,
     m: usize,
-    table: &'a [u8],
-    j: &'a [u8],
-    st: State,
+    table: &[u8],
+    ed: &Editor<'_>,
     holds: bool,
-) -> Looked
-    requires { SomeStand script.now words.now × Searchable script.now words.now k m table.now j.now st }
-    ensures { LooksForCarrying script.now words.now k m table.now j.now st (λ se. Op.test (test_of holds se)) j.now (Ok result) }
+) -> bool
+    requires { SomeStand script.now words.now × Searchable script.now words.now k m table.now ed.now.journal.now ed.now.st }
+    ensures { LooksForCarrying script.now words.now k m table.now ed.now.journal.now ed.now.st (λ se. Op.test (test_of holds se)) ed.now.journal.now (holding result ed.now.st) }
 {
-    Looked {
-        held: holds_here(script, words, k, m, table, j, st) == holds,
-        st,
-    }
+    holds_here(script, words, k, m, table, ed) == holds
 }
 
 // IFEOF.
-pub fn test_eof(j: &[u8], st: State) -> Looked
-    requires { ShowsText j.now st }
-    ensures { LooksOnce j.now st (Op.test Test.is_eof) j.now (Ok result) }
+pub fn test_eof(ed: &Editor<'_>) -> bool
+    ensures { LooksOnce ed.now.journal.now ed.now.st (Op.test Test.is_eof) ed.now.journal.now (holding result ed.now.st) }
 {
-    Looked {
-        held: st.back >= j.len(),
-        st,
-    }
+    ed.st.back >= ed.journal.len()
 }
 
 // F and DF begin: not at EOF.
-pub fn begin(j: &[u8], st: State) -> Result<Looked, Stopped>
-    requires { ShowsText j.now st }
-    ensures { LooksOnce j.now st Op.begin j.now result }
+pub fn begin(ed: &Editor<'_>) -> Result<bool, Stop>
+    ensures { LooksOnce ed.now.journal.now ed.now.st Op.begin ed.now.journal.now (looked_by result ed.now.st) }
 {
-    let at = st.back;
-    if at >= j.len() {
-        return Err(Stopped {
-            stop: Stop::MetEof,
-            st,
-        });
+    if ed.st.back >= ed.journal.len() {
+        return Err(Stop::MetEof);
     }
-    Ok(Looked { held: true, st })
+    Ok(true)
 }
 
 // BF begins: at EOF, from the last live line.
-pub fn begin_back(j: &mut [u8], st: State) -> Result<Looked, Stopped>
-    requires { ShowsText j.old st }
-    ensures { LooksOnce j.old st Op.begin_back j.new result }
+pub fn begin_back(ed: &mut Editor<'_>) -> Result<bool, Stop>
+    ensures { LooksOn (λ j st. LooksOnce j st Op.begin_back) ed.old ed.new result }
 {
-    let at = st.back;
-    if at < j.len() {
-        return Ok(Looked { held: true, st });
+    if ed.st.back < ed.journal.len() {
+        return Ok(true);
     }
-    let s = editor::moves::go_back(j, st)?;
-    Ok(Looked { held: true, st: s })
+    ed.go_back()?;
+    Ok(true)
 }
 
-// F and DF: on to the next live line, which is read through the globals that stand. EOF stops them.
-fn look_on(script: &[u8], words: &[u32], j: &mut [u8], st: State) -> Result<Looked, Stopped>
-    requires { SomeStand script.now words.now × ShowsText j.old st × (st.back < length j.old) }
-    ensures { LooksCarrying script.now words.now j.old st look_on j.new result }
+// F and DF: on to the next live line, which is read through the globals that stand.
+fn go_on(script: &[u8], words: &[u32], ed: &mut Editor<'_>) -> Result<(), Stop>
+    requires { SomeStand script.now words.now × (ed.old.st.back < length ed.old.journal.now) }
+    ensures { Does (λ j st. DoesPartBy script.now words.now j st go_ahead) ed.old ed.new result }
 {
-    let r = if globals::none_stands(words) {
-        editor::moves::go_ahead(j, st)
-    } else {
-        spans::ahead::go_ahead(script, words, j, st)
-    };
-    let s = r?;
-    let at = s.back;
-    if at >= j.len() {
-        return Err(Stopped {
-            stop: Stop::MetEof,
-            st: s,
-        });
+    if globals::none_stands(words) {
+        ed.go_ahead();
+        return Ok(());
     }
-    Ok(Looked { held: false, st: s })
+    spans::ahead::go_ahead(script, words, ed)
+}
+
+// The same, and EOF stops them.
+fn look_on(script: &[u8], words: &[u32], ed: &mut Editor<'_>) -> Result<bool, Stop>
+    requires { SomeStand script.now words.now × (ed.old.st.back < length ed.old.journal.now) }
+    ensures { LooksOn (λ j st. LooksCarrying script.now words.now j st look_on) ed.old ed.new result }
+{
+    go_on(script, words, ed)?;
+    if ed.st.back >= ed.journal.len() {
+        return Err(Stop::MetEof);
+    }
+    Ok(false)
 }
 
 // BF: back to the previous live line.
-fn look_back(j: &mut [u8], st: State) -> Result<Looked, Stopped>
-    requires { ShowsText j.old st }
-    ensures { LooksBy j.old st look_back j.new result }
+fn look_back(ed: &mut Editor<'_>) -> Result<bool, Stop>
+    ensures { LooksOn (λ j st. LooksBy j st look_back) ed.old ed.new result }
 {
-    let s = editor::moves::go_back(j, st)?;
-    Ok(Looked { held: false, st: s })
+    ed.go_back()?;
+    Ok(false)
 }
 
 // The current line does not match: on to the next one.
-fn look_further(
-    script: &[u8],
-    words: &[u32],
-    j: &mut [u8],
-    st: State,
-    way: Way,
-) -> Result<Looked, Stopped>
-    requires { SomeStand script.now words.now × ShowsText j.old st × (st.back < length j.old) }
-    ensures { LooksCarrying script.now words.now j.old st (where_not (seek_of way)) j.new result }
+fn look_further(script: &[u8], words: &[u32], ed: &mut Editor<'_>, way: Way) -> Result<bool, Stop>
+    requires { SomeStand script.now words.now × (ed.old.st.back < length ed.old.journal.now) }
+    ensures { LooksOn (λ j st. LooksCarrying script.now words.now j st (where_not (seek_of way))) ed.old ed.new result }
 {
     match way {
-        Way::Forward => look_on(script, words, j, st),
-        Way::Backward => look_back(j, st),
-        Way::Deleting => look_on(script, words, j, st),
+        Way::Forward => look_on(script, words, ed),
+        Way::Backward => look_back(ed),
+        Way::Deleting => look_on(script, words, ed),
     }
 }
 
 // The current line matches: DF deletes the lines that it has passed.
-fn found(j: &mut [u8], st: State, way: Way, lines: usize) -> State
-    requires { ShowsText j.old st }
-    ensures { LooksBy j.old st (where_found (seek_of way) lines) j.new (holding true result) }
+fn found(ed: &mut Editor<'_>, way: Way, lines: usize)
+    ensures { LooksOn (λ j st. LooksBy j st (where_found (seek_of way) lines)) ed.old ed.new (Ok true) }
 {
     match way {
-        Way::Forward => st,
-        Way::Backward => st,
-        Way::Deleting => spans::striking::strike_back(j, st, lines),
+        Way::Forward => {}
+        Way::Backward => {}
+        Way::Deleting => {
+            let j = &mut *ed.journal;
+            ed.st = spans::striking::strike_back(j, ed.st, lines);
+        }
     }
 }
 
@@ -193,28 +168,21 @@ fn look(
     k: usize,
     m: usize,
     table: &[u8],
-    j: &mut [u8],
-    st: State,
+    ed: &mut Editor<'_>,
     way: Way,
     lines: usize,
-) -> Result<Looked, Stopped>
-    requires { SomeStand script.now words.now × Searchable script.now words.now k m table.now j.old st }
-    ensures { LooksForCarrying script.now words.now k m table.now j.old st (λ se. look_op (seek_of way) se lines) j.new result }
+) -> Result<bool, Stop>
+    requires { SomeStand script.now words.now × Searchable script.now words.now k m table.now ed.old.journal.now ed.old.st }
+    ensures { LooksOn (λ j st. LooksForCarrying script.now words.now k m table.now j st (λ se. look_op (seek_of way) se lines)) ed.old ed.new result }
 {
-    let at = st.back;
-    if at >= j.len() {
-        return Err(Stopped {
-            stop: stop_at_eof(way),
-            st,
-        });
+    if ed.st.back >= ed.journal.len() {
+        return Err(stop_at_eof(way));
     }
-    if holds_here(script, words, k, m, table, j, st) {
-        return Ok(Looked {
-            held: true,
-            st: found(j, st, way, lines),
-        });
+    if holds_here(script, words, k, m, table, ed) {
+        found(ed, way, lines);
+        return Ok(true);
     }
-    look_further(script, words, j, st, way)
+    look_further(script, words, ed, way)
 }
 
 // F, BF or DF: live lines are tested until one matches, the current line first, at most `left` of them, `lines` being passed before.
@@ -224,31 +192,28 @@ pub fn seek(
     k: usize,
     m: usize,
     table: &[u8],
-    j: &mut [u8],
-    st: State,
+    ed: &mut Editor<'_>,
     way: Way,
     lines: usize,
     left: usize,
 ) -> Sought
-    requires { SomeStand script.now words.now × Searchable script.now words.now k m table.now j.old st × (lines + left ≤ 18446744073709551615) }
-    ensures { SeeksFor script.now words.now k m table.now j.old st (seek_of way) lines left j.new result }
+    requires { SomeStand script.now words.now × Searchable script.now words.now k m table.now ed.old.journal.now ed.old.st × (lines + left ≤ 18446744073709551615) }
+    ensures { SeeksOn (λ j st. SeeksFor script.now words.now k m table.now j st (seek_of way) lines left) ed.old ed.new result }
 {
-    let mut s = st;
     let mut made: usize = 0;
     let looked = loop {
         if made >= left {
-            break Ok(Looked { held: false, st: s });
+            break Ok(false);
         }
         let passed = lines + made;
         made += 1;
-        let looked = look(script, words, k, m, table, j, s, way, passed);
+        let looked = look(script, words, k, m, table, ed, way, passed);
         let Ok(here) = looked else {
             break looked;
         };
-        if here.held {
+        if here {
             break looked;
         }
-        s = here.st;
     };
     Sought { looked, made }
 }

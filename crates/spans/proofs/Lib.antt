@@ -14,3 +14,4 @@ pub mod ReadFirst
 pub mod SpanFirst
 pub mod Outcomes
 pub mod ReadsAhead
+pub mod Founds

@@ -218,6 +218,12 @@ ReadsFrom end past j st r =
     → let x = runs (lent j) no_globals (read_past n) e t in
     NextBy j n r x.0 x.1
 
+-- the same, the source lines being counted on the way
+abbrev pub FindsAfter : ℕ → List ℕ → State → Next → Type 0
+FindsAfter end j st r =
+    (e : Ed) (t : Tape) (n : ℕ) → Shows j st e t → EndsAt j end n e t → let x = runs (lent j) no_globals (read_past n) e t in
+    NextBy j n r x.0 x.1
+
 -- the next live line after the current one is found and read
 abbrev pub ReadsNext : List ℕ → State → Next → Type 0
 ReadsNext j st r =

@@ -2,11 +2,12 @@
 ghost use Rattle.std.specs.Prelude.{◌≡◌, List, suc, ◌+◌, ◌-◌, ◌≤◌, ◌<◌, length};
 ghost use Rattle.definitions.specs.Journal.{Record};
 ghost use Rattle.definitions.specs.Editor.{sources};
-ghost use Rattle.editor.specs.Shows.{Holds, ShowsText};
-ghost use Rattle.spans.specs.Spans.{through_of, Finds, SourceAt, Stands, LiveAt, Until, Counts, CountedTo, ReadsFrom, ReadsNext};
+ghost use Rattle.editor.specs.Shows.{Holds};
+ghost use Rattle.spans.specs.Spans.{through_of, Finds, SourceAt, Stands, LiveAt, Until, Counts, CountedTo, ReadsFrom, ReadsNext, Spanned, FindsAfter};
+ghost use Rattle.spans.specs.Edited.{FindsEnd};
 
 use crate::Next;
-use editor::{State, Stop, Stopped};
+use editor::{Editor, State, Stop, Stopped};
 
 // Where the record of source line b starts, which stands from the current record on.
 fn source_at(j: &[u8], st: State, b: usize) -> usize
@@ -28,12 +29,12 @@ fn source_at(j: &[u8], st: State, b: usize) -> usize
 
 // Where the records end that D and R take from the current line on, and the numbers once they are read.
 // `through` is 0 for the one line, 65,536 for `*`, else a source line.
-pub fn span_end(j: &[u8], st: State, through: usize) -> Result<(usize, State), Stopped>
-    requires { ShowsText j.now st }
-    ensures { Finds j.now st (through_of through) result }
+fn find_end(ed: &Editor<'_>, through: usize) -> Result<(usize, State), Stopped>
+    ensures { Finds ed.now.journal.now ed.now.st (through_of through) result }
 {
+    let st = ed.st;
     let at = st.back;
-    let end = j.len();
+    let end = ed.journal.len();
     if at >= end {
         return Err(Stopped {
             stop: Stop::AtEof,
@@ -41,7 +42,7 @@ pub fn span_end(j: &[u8], st: State, through: usize) -> Result<(usize, State), S
         });
     }
     if through == 0 {
-        return Ok((editor::walk::record_end(j, at), st));
+        return Ok((editor::walk::record_end(ed.journal, at), st));
     }
     if through == 65536 {
         return Ok((end, editor::walk::read_to(st, st.lines + 1)));
@@ -60,14 +61,30 @@ pub fn span_end(j: &[u8], st: State, through: usize) -> Result<(usize, State), S
             st: s,
         });
     }
-    let last = source_at(j, st, through);
-    if j[last] == 45 {
+    let last = source_at(ed.journal, st, through);
+    if ed.journal[last] == 45 {
         return Err(Stopped {
             stop: Stop::LineDeleted,
             st: s,
         });
     }
-    Ok((editor::walk::record_end(j, last), s))
+    Ok((editor::walk::record_end(ed.journal, last), s))
+}
+
+// The same, and the lines are read.
+pub fn span_end(ed: &mut Editor<'_>, through: usize) -> Result<usize, Stop>
+    ensures { FindsEnd (through_of through) ed.old ed.new result }
+{
+    match find_end(ed, through) {
+        Ok((end, s)) => {
+            ed.st = s;
+            Ok(end)
+        }
+        Err(Stopped { stop, st: s }) => {
+            ed.st = s;
+            Err(stop)
+        }
+    }
 }
 
 // Where a live record stands behind the gap, or the buffer's end where there is none; and how many source lines stand before it.
@@ -96,7 +113,8 @@ fn live_from(j: &[u8], from: usize, past: usize) -> Live
     }
 }
 
-// How many source lines stand before the place `end`.
+// How many source lines stand before the place `end`. Like what looks below, it takes the buffer and its numbers: with a `&mut Editor` the check would forget
+// what it knows of the buffer.
 pub fn past_to(j: &[u8], st: State, end: usize) -> usize
     requires { Until j.now st end }
     ensures { Counts end j.now st result }
@@ -134,16 +152,25 @@ pub fn next_from(j: &[u8], st: State, end: usize, past: usize) -> Next
     }
 }
 
-// The next live line after the current one is found and read.
-pub fn read_next(j: &[u8], st: State) -> Next
-    requires { ShowsText j.now st × (st.back < length j.now) }
-    ensures { ReadsNext j.now st result }
+// The next live line after the current one is found and read. Nothing moves.
+pub fn read_next(ed: &Editor<'_>) -> Next
+    requires { ed.now.st.back < length ed.now.journal.now }
+    ensures { ReadsNext ed.now.journal.now ed.now.st result }
 {
-    let b = st.back;
-    let mut past = st.past;
-    if j[b] != 43 {
+    let b = ed.st.back;
+    let mut past = ed.st.past;
+    if ed.journal[b] != 43 {
         past += 1;
     }
-    let end = editor::walk::record_end(j, b);
-    next_from(j, st, end, past)
+    let end = editor::walk::record_end(ed.journal, b);
+    next_from(ed.journal, ed.st, end, past)
+}
+
+// The next live line after the records up to the place `end` is found and read. Nothing moves.
+pub fn read_after(ed: &Editor<'_>, end: usize) -> Next
+    requires { Spanned ed.now.journal.now ed.now.st end }
+    ensures { FindsAfter end ed.now.journal.now ed.now.st result }
+{
+    let past = past_to(ed.journal, ed.st, end);
+    next_from(ed.journal, ed.st, end, past)
 }

@@ -1,4 +1,5 @@
-// Lines deleted: records are passed over the gap one after the other, or one is struck where it stands.
+// Lines deleted: records are passed over the gap one after the other, or one is struck where it stands. Until the next live line is current the buffer shows
+// no text, so these functions take it and its numbers, and no `Editor`.
 ghost use Rattle.std.specs.Prelude.{◌≡◌, List, ◌∷◌, ◌+◌, ◌≤◌, ◌<◌, length, set};
 ghost use Rattle.definitions.specs.Journal.{Record};
 ghost use Rattle.editor.specs.Records.{enc};

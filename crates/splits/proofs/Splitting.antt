@@ -14,8 +14,8 @@ use Rattle.editor.specs.Records.{LineIn}
 use Rattle.editor.specs.Shows.{Completes}
 use Rattle.editor.specs.Current.{CopiesLine, IsReady}
 use Rattle.editor.specs.declared.State.{State}
-use Rattle.editor.specs.Stops.{Moved}
-use Rattle.editor.specs.declared.Stopped.{Stopped}
+use Rattle.editor.specs.Stops.{Moved, stopping}
+use Rattle.editor.specs.declared.Stop.{Stop}
 use Rattle.std.specs.Prelude.{Result, Ok, Err}
 use Rattle.editor.proofs.CurrentText.{copied-text, copied-good}
 use Rattle.changes.specs.Current.{HasLine, CompletesAt, Finds, PerformsTold}
@@ -47,10 +47,10 @@ by-inside false i n = omega arith
 splitting : Bool → Line × ℕ → Match → Program Did
 splitting after x m = cut_after x.0 (point_by after m.place m.width)
 
-module _ (isWord : ℕ → Bool) {table j : List ℕ} {st : State} (q : Qualified) (o : Result (ℕ × ℕ) Stopped) (finds : Finds isWord table j st q o) (after : Bool) where
-  pub split-stop : (m : Stopped) → o ≡ Err m → PerformsTold isWord table j st (Op.split after q) j (Err m)
+module _ (isWord : ℕ → Bool) {table j : List ℕ} {st : State} (q : Qualified) (o : Result (ℕ × ℕ) Stop) (finds : Finds isWord table j st q o) (after : Bool) where
+  pub split-stop : (m : Stop) → o ≡ Err m → PerformsTold isWord table j st (Op.split after q) j (stopping m st)
   unfolding program splitting
-  split-stop m is e c t same w = told isWord j (Op.split after q) j (Err m) e c t same (match-stops isWord q o finds m is (splitting after) e c t w)
+  split-stop m is e c t same w = told isWord j (Op.split after q) j (stopping m st) e c t same (match-stops isWord q o finds m is (splitting after) e c t w)
 
   module _ (i n : ℕ) (is : o ≡ Ok (i, n)) (k : ℕ) (z : k ≡ point_by after i n) where
     pub has-cut : IsReady table j st → HasLine table j st k

@@ -18,14 +18,12 @@ use Rattle.control.specs.Shown.{Asks}
 use Rattle.editor.specs.declared.State.{State}
 use Rattle.editor.specs.Shows.{lent}
 use Rattle.editor.specs.Current.{Ready}
-use Rattle.seeks.specs.declared.Sought.{Sought}
 use Rattle.seeks.specs.declared.Way.{Way}
 use Rattle.seeks.specs.declared.Way.TheVariants.{Forward, Backward, Deleting}
 use Rattle.globals.specs.Standing.{StandingBelow, Standing}
 use Rattle.std.specs.Prelude.{Result}
 use Rattle.editor.specs.declared.Stopped.{Stopped}
-use Rattle.seeks.specs.declared.Looked.{Looked}
-use Rattle.seeks.specs.Looks.{holding, LooksAs, LooksOnce, test_of, seek_of}
+use Rattle.seeks.specs.Looks.{Looked, Found, holding, LooksAs, LooksOnce, test_of, seek_of}
 use Rattle.seeks.proofs.Looking.{says-yes}
 use Rattle.seeks.proofs.Carrying.{LeavesOp, step-leaves, round-leaves, test-leaves, begin-leaves, begin-back-leaves}
 use Rattle.steps.specs.Steps.{ask_test, ask_look, LooksAsked, AsksSome, CommandBelow, Commanded, Wants, MadeOnce, MadeSearch, Made, AnswersStep}
@@ -59,7 +57,7 @@ round-looks : (j : List ℕ) (st : State) → LooksOnce j st only_step j (holdin
 unfolding step words_in program goes_on runs
 round-looks j st e c t h = says-yes (lent j) c goes_on e t refl h
 
-module _ (s w : List ℕ) (x : Wanted) (table j w' k : List ℕ) (st : State) (left : ℕ) (r : Result Looked Stopped) (z : Sought) (once : z ≡ record { looked = r; made = 1 }) where
+module _ (s w : List ℕ) (x : Wanted) (table j w' k : List ℕ) (st : State) (left : ℕ) (r : Result Looked Stopped) (z : Found) (once : z ≡ record { looked = r; made = 1 }) where
   asked : (ask : Ask) → x.what ≡ ask → Made s w x table j st left w' k z ask → AnswersStep s w x table j st left w' k z
   asked = as-asked s w x table j w' k st left z
 
@@ -104,14 +102,14 @@ module _ (s w : List ℕ) (x : Wanted) (table j w' k : List ℕ) (st : State) (l
       let y = f end op e c t (command-at s w end x from op c₁ c₀ c q h stand) stand ready in
       rw once (y.0, refl, y.1))
 
-pub after-round : (s w : List ℕ) (x : Wanted) (table j w' : List ℕ) (st : State) (left : ℕ) (z : Sought) (once : z ≡ record { looked = holding true st; made = 1 })
+pub after-round : (s w : List ℕ) (x : Wanted) (table j w' : List ℕ) (st : State) (left : ℕ) (z : Found) (once : z ≡ record { looked = holding true st; made = 1 })
     → w' ≡ w → x.what ≡ Round → AnswersStep s w x table j st left w' j z
 unfolding Made
 after-round s w x table j w' st left z once stays q =
     as-asked s w x table j w' j st left z Round q (made-known s w x table j w' j st left (holding true st) z once stays Round q only_step round-leaves (λ end a m. m) (round-looks j st))
 
 -- THE LAW: what is answered to a wanted step, and how the run goes on
-module _ (s w : List ℕ) (end : ℕ) (x : Wanted) (left steps : ℕ) (from : Ctl) (op : Op) (c₁ c₀ : Ctl) (e : Ed) (c : Carried) (t : Tape) (table j w' k : List ℕ) (st : State) (r : Sought)
+module _ (s w : List ℕ) (end : ℕ) (x : Wanted) (left steps : ℕ) (from : Ctl) (op : Op) (c₁ c₀ : Ctl) (e : Ed) (c : Carried) (t : Tape) (table j w' k : List ℕ) (st : State) (r : Found)
     (some : 1 ≤ left) (h : Wants s w end x from op c₁ c₀) (stand : StandingBelow s w end c) (ready : Ready table j st e t) where
   abbrev So : Type 0
   So = Comes (lent j) left steps from (state e c) t s w' end table k x.place c₁ c₀ r

@@ -15,13 +15,11 @@ use Rattle.editor.specs.Shows.{Shows, lent}
 use Rattle.editor.specs.Current.{PointOut, Ready, TableOut}
 use Rattle.editor.proofs.Tables.{keeps-table}
 use Rattle.editor.proofs.Points.{keeps-point}
-use Rattle.seeks.specs.declared.Sought.{Sought}
 use Rattle.globals.specs.Standing.{StandingBelow}
 use Rattle.std.specs.Prelude.{Result, Ok, Err}
 use Rattle.editor.specs.Stops.{numbered}
 use Rattle.editor.specs.declared.Stopped.{Stopped}
-use Rattle.seeks.specs.declared.Looked.{Looked}
-use Rattle.seeks.specs.Looks.{Looks, LooksAs, carried_of}
+use Rattle.seeks.specs.Looks.{Looked, Found, Looks, LooksAs, carried_of}
 use Rattle.steps.specs.Steps.{Carries}
 
 -- how the run goes on from `from` and the state z: what it is given, what is left of the budget, and the steps that are made
@@ -50,7 +48,7 @@ module _ (g : Given) (left steps : ℕ) (from : Ctl) (z : RunState) (t : Tape) w
   Leads sc w below table j made place c₁ c₀ (Err s) = Stops sc w below j made (numbered s.stop) place s.st
 
   -- what the answer r says of it
-  pub record Comes (sc w : List ℕ) (below : ℕ) (table j : List ℕ) (place : ℕ) (c₁ c₀ : Ctl) (r : Sought) : Type 0 where
+  pub record Comes (sc w : List ℕ) (below : ℕ) (table j : List ℕ) (place : ℕ) (c₁ c₀ : Ctl) (r : Found) : Type 0 where
     pub began : 1 ≤ r.made
     pub few : r.made ≤ left
     pub leads : Leads sc w below table j r.made place c₁ c₀ r.looked
@@ -90,7 +88,7 @@ module _ (g : Given) (n steps : ℕ) (from c₁ c₀ : Ctl) (place : ℕ) (z : R
 
 -- one step of the run: what the answer says of it
 pub one-comes : {st : State} (i : List ℕ) (left steps : ℕ) (from : Ctl) (place : ℕ) (op : Op) (c₁ c₀ : Ctl) (e : Ed) (c : Carried) (t : Tape) (sc w : List ℕ) (below : ℕ) (table j : List ℕ)
-    (r : Sought) → r.made ≡ 1 → 1 ≤ left → pull from ≡ want place op c₁ c₀ → Ready table i st e t → LooksAs j r.looked (step (lent i) op (state e c) t)
+    (r : Found) → r.made ≡ 1 → 1 ≤ left → pull from ≡ want place op c₁ c₀ → Ready table i st e t → LooksAs j r.looked (step (lent i) op (state e c) t)
     → Carries sc w below (step (lent i) op (state e c) t).0 → Comes (lent i) left steps from (state e c) t sc w below table j place c₁ c₀ r
 unfolding text_of
 one-comes i zero steps from place op c₁ c₀ e c t sc w below table j r is some next h a b = absurd (omega arith)

@@ -18,7 +18,6 @@ use Rattle.control.specs.Shown.{SearchOf}
 use Rattle.editor.specs.declared.State.{State}
 use Rattle.editor.specs.Shows.{lent}
 use Rattle.editor.specs.Current.{PointOut, Ready, TableOut}
-use Rattle.seeks.specs.declared.Sought.{Sought}
 use Rattle.seeks.specs.declared.Way.{Way}
 use Rattle.seeks.specs.declared.Way.TheVariants.{Forward, Backward, Deleting}
 use Rattle.globals.specs.Standing.{StandingBelow}
@@ -26,8 +25,7 @@ use Rattle.std.specs.Prelude.{Result, Ok, Err}
 use Rattle.editor.specs.Stops.{stopping}
 use Rattle.editor.specs.declared.Stop.TheVariants.{BudgetSpent}
 use Rattle.editor.specs.declared.Stopped.{Stopped}
-use Rattle.seeks.specs.declared.Looked.{Looked}
-use Rattle.seeks.specs.Looks.{Looks, carried_of, Steps, steps_of, Seeks, SeeksFor, seek_of}
+use Rattle.seeks.specs.Looks.{Looked, Found, Looks, carried_of, Steps, steps_of, Seeks, SeeksFor, seek_of}
 use Rattle.seeks.proofs.Carrying.{look-leaves}
 use Rattle.seeks.proofs.Runs.{after_search, run-search, steps-as, steps-carried, steps-most, steps-one, steps-table}
 use Rattle.steps.specs.Steps.{ask_look, Carries, Wants, or_spent, steps_or_spent, MadeSearch, Made, AnswersStep}
@@ -61,20 +59,20 @@ point-spent (on false z) p = tt
 point-spent (edited z) p = p
 point-spent (halt n z) p = tt
 
-seeks-spent : (k : List ℕ) (r : Sought) (y : Steps) → Seeks k r y → (z : Sought) → z ≡ record { looked = answered r.looked; made = r.made } → Seeks k z (steps_or_spent y)
+seeks-spent : (k : List ℕ) (r : Found) (y : Steps) → Seeks k r y → (z : Found) → z ≡ record { looked = answered r.looked; made = r.made } → Seeks k z (steps_or_spent y)
 seeks-spent k r y w z is = rw is (looks-spent k r.looked y.0.0 y.0.1 w.0, point-spent y.0.0 w.1, w.2)
 
 module _ (s w : List ℕ) (x : Wanted) (table j w' k : List ℕ) (st : State) (left : ℕ) where
   -- a search, by what is asked
-  made-look : (z : Sought) (way : Way) → MadeSearch s w x table j st left w' k z (seek_of way) → Made s w x table j st left w' k z (ask_look way)
+  made-look : (z : Found) (way : Way) → MadeSearch s w x table j st left w' k z (seek_of way) → Made s w x table j st left w' k z (ask_look way)
   unfolding Made ask_look seek_of
   made-look z Forward f = f
   made-look z Backward f = f
   made-look z Deleting f = f
 
   -- the answer of its loop, and what is then answered
-  pub after-search : w' ≡ w → (r : Sought) (way : Way) → x.what ≡ ask_look way → (m : ℕ) → m ≡ get_or w (x.item + 1) 0
-      → SeeksFor s w (x.item + 2) m table j st (seek_of way) x.lines left k r → (z : Sought) → z ≡ record { looked = answered r.looked; made = r.made }
+  pub after-search : w' ≡ w → (r : Found) (way : Way) → x.what ≡ ask_look way → (m : ℕ) → m ≡ get_or w (x.item + 1) 0
+      → SeeksFor s w (x.item + 2) m table j st (seek_of way) x.lines left k r → (z : Found) → z ≡ record { looked = answered r.looked; made = r.made }
       → AnswersStep s w x table j st left w' k z
   unfolding SearchOf
   after-search stays r way what m q f z is = as-asked s w x table j w' k st left z (ask_look way) what (made-look z way (
@@ -84,23 +82,23 @@ module _ (s w : List ℕ) (x : Wanted) (table j w' k : List ℕ) (st : State) (l
   ))
 
 -- the answer of a search where the run stops
-pub is_stopped : (r : Sought) (s : Stopped) → r.looked ≡ Err s → r ≡ record { looked = answered r.looked; made = r.made }
+pub is_stopped : (r : Found) (s : Stopped) → r.looked ≡ Err s → r ≡ record { looked = answered r.looked; made = r.made }
 unfolding answered
 is_stopped r s q = by r.looked r.made s q
   where
-    by : (k : Result Looked Stopped) (m : ℕ) (s : Stopped) → k ≡ Err s → ◌≡◌ {A = Sought} (record { looked = k; made = m }) (record { looked = answered k; made = m })
+    by : (k : Result Looked Stopped) (m : ℕ) (s : Stopped) → k ≡ Err s → ◌≡◌ {A = Found} (record { looked = k; made = m }) (record { looked = answered k; made = m })
     by k m s q = rw q
 
 -- where a line is found
-pub is_found : (r : Sought) (x : Looked) → r.looked ≡ Ok x → x.held ≡ true → r ≡ record { looked = answered r.looked; made = r.made }
+pub is_found : (r : Found) (x : Looked) → r.looked ≡ Ok x → x.held ≡ true → r ≡ record { looked = answered r.looked; made = r.made }
 unfolding answered
 is_found r x q held = by r.looked r.made q
   where
-    by : (k : Result Looked Stopped) (m : ℕ) → k ≡ Ok x → ◌≡◌ {A = Sought} (record { looked = k; made = m }) (record { looked = answered k; made = m })
+    by : (k : Result Looked Stopped) (m : ℕ) → k ≡ Ok x → ◌≡◌ {A = Found} (record { looked = k; made = m }) (record { looked = answered k; made = m })
     by k m q = rw (q, held)
 
 -- where no line matches
-pub is-unfound : (r : Sought) (x : Looked) → r.looked ≡ Ok x → x.held ≡ false → ◌≡◌ {A = Sought} (record { looked = stopping BudgetSpent x.st; made = r.made }) (record { looked = answered r.looked; made = r.made })
+pub is-unfound : (r : Found) (x : Looked) → r.looked ≡ Ok x → x.held ≡ false → ◌≡◌ {A = Found} (record { looked = stopping BudgetSpent x.st; made = r.made }) (record { looked = answered r.looked; made = r.made })
 unfolding answered
 is-unfound r x q held = rw (q, held)
 
@@ -130,7 +128,7 @@ module _ (i : List ℕ) (left steps : ℕ) (from c₀ : Ctl) (place : ℕ) (item
   search-leads (Err s) m (halt l (state e c)) u n w p is h d q = record { last = e; carries = c; rest = u; shows = w.1; stand = d; same = rw (is, w.0) q }
 
 -- THE LAW of a search: what is answered, and how the run goes on
-module _ (s w : List ℕ) (below : ℕ) (x : Wanted) (left steps : ℕ) (from : Ctl) (op : Op) (c₁ c₀ : Ctl) (e : Ed) (c : Carried) (t : Tape) (table j w' k : List ℕ) (st : State) (r : Sought)
+module _ (s w : List ℕ) (below : ℕ) (x : Wanted) (left steps : ℕ) (from : Ctl) (op : Op) (c₁ c₀ : Ctl) (e : Ed) (c : Carried) (t : Tape) (table j w' k : List ℕ) (st : State) (r : Found)
     (h : Wants s w below x from op c₁ c₀) (stand : StandingBelow s w below c) (ready : Ready table j st e t) (some : 1 ≤ left) where
   abbrev Leading : Type 0
   Leading = Comes (lent j) left steps from (state e c) t s w' below table k x.place c₁ c₀ r

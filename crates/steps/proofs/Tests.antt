@@ -13,8 +13,7 @@ use Rattle.editor.specs.declared.State.{State}
 use Rattle.editor.specs.Shows.{lent}
 use Rattle.std.specs.Prelude.{Result}
 use Rattle.editor.specs.declared.Stopped.{Stopped}
-use Rattle.seeks.specs.declared.Looked.{Looked}
-use Rattle.seeks.specs.Looks.{LooksAs, LooksForCarrying, test_of}
+use Rattle.seeks.specs.Looks.{Looked, LooksAs, LooksForCarrying, test_of}
 use Rattle.steps.specs.Steps.{ask_test, LooksAsked, AsksSome}
 use Rattle.steps.proofs.Views.{asks-test}
 

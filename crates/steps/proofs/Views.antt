@@ -15,10 +15,9 @@ use Rattle.control.specs.declared.Ask.TheVariants.{Round, Holds, HoldsNot, AtEof
 use Rattle.control.specs.declared.Wanted.{Wanted}
 use Rattle.control.specs.Shown.{SearchOf, Asks, a_round, holds, holds_not, at_eof, begins, begins-back, finds, finds-back, deletes, simply}
 use Rattle.editor.specs.declared.State.{State}
-use Rattle.seeks.specs.declared.Sought.{Sought}
 use Rattle.seeks.specs.declared.Way.{Way}
 use Rattle.seeks.specs.declared.Way.TheVariants.{Forward, Backward, Deleting}
-use Rattle.seeks.specs.Looks.{test_of, seek_of}
+use Rattle.seeks.specs.Looks.{Found, test_of, seek_of}
 use Rattle.steps.specs.Steps.{ask_test, ask_look, Made, AnswersStep}
 
 -- what is asked and is nothing else is the test of a line
@@ -95,6 +94,6 @@ module _ (s w : List ℕ) (end : ℕ) (x : Wanted) where
     asks-look Deleting q = asks-as FindDelete q
 
 -- the answer, where it is known what is asked
-pub as-asked : (s w : List ℕ) (x : Wanted) (table j w' k : List ℕ) (st : State) (left : ℕ) (r : Sought) (ask : Ask) → x.what ≡ ask → Made s w x table j st left w' k r ask
+pub as-asked : (s w : List ℕ) (x : Wanted) (table j w' k : List ℕ) (st : State) (left : ℕ) (r : Found) (ask : Ask) → x.what ≡ ask → Made s w x table j st left w' k r ask
     → AnswersStep s w x table j st left w' k r
 as-asked s w x table j w' k st left r ask q f = subst (λ (a : Ask). Made s w x table j st left w' k r a) (sym q) f

@@ -20,11 +20,9 @@ use Rattle.editor.specs.declared.Stopped.{Stopped}
 use Rattle.editor.specs.Shows.{lent}
 use Rattle.editor.specs.Current.{Ready, IsReady}
 use Rattle.globals.specs.Standing.{StandingBelow, Standing}
-use Rattle.seeks.specs.declared.Looked.{Looked}
-use Rattle.seeks.specs.declared.Sought.{Sought}
 use Rattle.seeks.specs.declared.Way.{Way}
 use Rattle.seeks.specs.declared.Way.TheVariants.{Forward, Backward, Deleting}
-use Rattle.seeks.specs.Looks.{LooksAs, carried_of, Steps, steps_of, Seeks}
+use Rattle.seeks.specs.Looks.{Looked, Found, LooksAs, carried_of, Steps, steps_of, Seeks}
 
 -- ---- what is asked
 
@@ -118,7 +116,7 @@ abbrev pub steps_or_spent : Steps → Steps
 steps_or_spent y = ((or_spent y.0.0, y.0.1), y.1)
 
 -- what a function answers that made the step x, the words being w' then and the buffer k
-module _ (s w : List ℕ) (x : Wanted) (table j : List ℕ) (st : State) (left : ℕ) (w' k : List ℕ) (r : Sought) where
+module _ (s w : List ℕ) (x : Wanted) (table j : List ℕ) (st : State) (left : ℕ) (w' k : List ℕ) (r : Found) where
   -- one step
   abbrev pub MadeOnce : Type 0
   MadeOnce = (end : ℕ) (from : Ctl) (op : Op) (c₁ c₀ : Ctl) (e : Ed) (c : Carried) (t : Tape) → Wants s w end x from op c₁ c₀ → StandingBelow s w end c → Ready table j st e t

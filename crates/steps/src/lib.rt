@@ -1,19 +1,21 @@
 // What a step of the run asks of the editor, done on the journal buffer.
 #![tactic(auto)]
 
-ghost use Rattle.std.specs.Prelude.{◌≡◌, ◌+◌, ◌≤◌, ◌<◌, length, get_or, Ok};
+ghost use Rattle.std.specs.Prelude.{◌≡◌, ◌+◌, ◌≤◌, ◌<◌, length, get_or};
 ghost use Rattle.globals.specs.Standing.{OnlyCarried};
 ghost use Rattle.reading.specs.Carrying.{SomeStand};
+ghost use Rattle.seeks.specs.Looks.{holding};
+ghost use Rattle.seeks.specs.Edited.{LooksOn, SeeksOn};
 ghost use Rattle.steps.specs.Steps.{ask_test, ask_look, Asking, LooksAsked, AsksSome, Commanding, Commanded, Wanting, AnswersStep};
 
 use control::{Ask, Wanted};
-use editor::{State, Stop, Stopped};
+use editor::{Editor, Stop};
 use items::heads::{is_global, kind_of};
 use items::kinds::{CANCEL, WORD_SET};
-use seeks::{Looked, Sought, Way};
+use seeks::{Sought, Way};
 
 // One step was made.
-fn once(looked: Result<Looked, Stopped>) -> Sought
+fn once(looked: Result<bool, Stop>) -> Sought
     ensures { result ≡ record { looked = looked; made = 1 } }
 {
     Sought { looked, made: 1 }
@@ -28,22 +30,14 @@ fn search_end(w: &[u32], item: usize) -> usize
 }
 
 // The test of IF or WH, with `holds` true; of UL or UT, with `holds` false.
-fn test<'a>(
-    script: &[u8],
-    table: &'a [u8],
-    w: &[u32],
-    x: Wanted,
-    j: &'a [u8],
-    st: State,
-    holds: bool,
-) -> Looked
-    requires { SomeStand script.now w.now × Asking (AsksSome script.now w.now x) table.now j.now st × (x.what ≡ ask_test holds) }
-    ensures { LooksAsked script.now w.now (AsksSome script.now w.now x) table.now j.now st j.now (Ok result) }
+fn test(script: &[u8], table: &[u8], w: &[u32], x: Wanted, ed: &Editor<'_>, holds: bool) -> bool
+    requires { SomeStand script.now w.now × Asking (AsksSome script.now w.now x) table.now ed.now.journal.now ed.now.st × (x.what ≡ ask_test holds) }
+    ensures { LooksAsked script.now w.now (AsksSome script.now w.now x) table.now ed.now.journal.now ed.now.st ed.now.journal.now (holding result ed.now.st) }
 {
     let item = x.item;
     let k = item + 2;
     let m = search_end(w, item);
-    seeks::test(script, w, k, m, table, j, st, holds)
+    seeks::test(script, w, k, m, table, ed, holds)
 }
 
 // Which way the search goes whose test of a line is asked.
@@ -64,29 +58,25 @@ fn search(
     table: &[u8],
     w: &[u32],
     x: Wanted,
-    j: &mut [u8],
-    st: State,
+    ed: &mut Editor<'_>,
     way: Way,
     left: usize,
 ) -> Sought
-    requires { Wanting script.now w.now x table.now j.old st × (x.what ≡ ask_look way) × (1 ≤ left) × (x.lines + left ≤ 18446744073709551615) }
-    ensures { AnswersStep script.now w.now x table.now j.old st left w.now j.new result }
+    requires { Wanting script.now w.now x table.now ed.old.journal.now ed.old.st × (x.what ≡ ask_look way) × (1 ≤ left) × (x.lines + left ≤ 18446744073709551615) }
+    ensures { SeeksOn (λ j st. AnswersStep script.now w.now x table.now j st left w.now) ed.old ed.new result }
 {
     let item = x.item;
     let k = item + 2;
     let m = search_end(w, item);
-    let r = seeks::seek(script, w, k, m, table, j, st, way, x.lines, left);
-    let Ok(last) = r.looked else {
+    let r = seeks::seek(script, w, k, m, table, ed, way, x.lines, left);
+    let Ok(held) = r.looked else {
         return r;
     };
-    if last.held {
+    if held {
         return r;
     }
     Sought {
-        looked: Err(Stopped {
-            stop: Stop::BudgetSpent,
-            st: last.st,
-        }),
+        looked: Err(Stop::BudgetSpent),
         made: r.made,
     }
 }
@@ -97,33 +87,29 @@ fn command(
     table: &[u8],
     w: &mut [u32],
     item: usize,
-    j: &mut [u8],
-    st: State,
-) -> Result<Looked, Stopped>
-    requires { Commanding script.now w.old item table.now j.old st }
-    ensures commanded { Commanded script.now w.old item table.now j.old st w.new j.new result }
+    ed: &mut Editor<'_>,
+) -> Result<bool, Stop>
+    requires { Commanding script.now w.old item table.now ed.old.journal.now ed.old.st }
+    ensures commanded { LooksOn (λ j st. Commanded script.now w.old item table.now j st w.new) ed.old ed.new result }
     ensures only_carried { OnlyCarried w.old w.new }
 {
     let kind = kind_of(w, item);
     if is_global(kind) {
         if globals::keep(w, item) {
-            return Ok(Looked { held: true, st });
+            return Ok(true);
         }
-        return Err(Stopped {
-            stop: Stop::GlobalsFull,
-            st,
-        });
+        return Err(Stop::GlobalsFull);
     }
     if kind == CANCEL {
         globals::forget(w);
-        return Ok(Looked { held: true, st });
+        return Ok(true);
     }
     if kind == WORD_SET {
         globals::name_words(w, item);
-        return Ok(Looked { held: true, st });
+        return Ok(true);
     }
-    let s = commands::perform(script, table, w, item, j, st)?;
-    Ok(Looked { held: true, st: s })
+    commands::perform(script, table, w, item, ed)?;
+    Ok(true)
 }
 
 // The step that is wanted, and of a search all the steps that follow it, at most `left`.
@@ -132,26 +118,25 @@ pub fn answer_step(
     table: &[u8],
     w: &mut [u32],
     x: Wanted,
-    j: &mut [u8],
-    st: State,
+    ed: &mut Editor<'_>,
     left: usize,
 ) -> Sought
-    requires { Wanting script.now w.old x table.now j.old st × (1 ≤ left) × (x.lines + left ≤ 18446744073709551615) }
-    ensures answers_step { AnswersStep script.now w.old x table.now j.old st left w.new j.new result }
+    requires { Wanting script.now w.old x table.now ed.old.journal.now ed.old.st × (1 ≤ left) × (x.lines + left ≤ 18446744073709551615) }
+    ensures answers_step { SeeksOn (λ j st. AnswersStep script.now w.old x table.now j st left w.new) ed.old ed.new result }
     ensures only_carried { OnlyCarried w.old w.new }
 {
     let what = x.what;
     match what {
-        Ask::Round => once(Ok(Looked { held: true, st })),
-        Ask::Holds => once(Ok(test(script, table, w, x, j, st, true))),
-        Ask::HoldsNot => once(Ok(test(script, table, w, x, j, st, false))),
-        Ask::AtEof => once(Ok(seeks::test_eof(j, st))),
-        Ask::Begin => once(seeks::begin(j, st)),
-        Ask::BeginBack => once(seeks::begin_back(j, st)),
-        Ask::Command => once(command(script, table, w, x.item, j, st)),
+        Ask::Round => once(Ok(true)),
+        Ask::Holds => once(Ok(test(script, table, w, x, ed, true))),
+        Ask::HoldsNot => once(Ok(test(script, table, w, x, ed, false))),
+        Ask::AtEof => once(Ok(seeks::test_eof(ed))),
+        Ask::Begin => once(seeks::begin(ed)),
+        Ask::BeginBack => once(seeks::begin_back(ed)),
+        Ask::Command => once(command(script, table, w, x.item, ed)),
         // One call for the three: only so does the compiler make it a part of the loop over the steps, and no step's answer goes through memory.
         Ask::Find | Ask::FindBack | Ask::FindDelete => {
-            search(script, table, w, x, j, st, way_of(what), left)
+            search(script, table, w, x, ed, way_of(what), left)
         }
     }
 }

@@ -1,4 +1,5 @@
-// The lines that a done run leaves unread pass through the standing globals, all of them or none.
+// The lines that a done run leaves unread pass through the standing globals, all of them or none. What they leave is no text of a run (no line is current),
+// so these functions take the buffer and its numbers, and no `Editor`.
 #![tactic(auto)]
 
 ghost use Rattle.std.specs.Prelude.{◌<◌};

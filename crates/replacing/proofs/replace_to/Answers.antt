@@ -1,3 +1,5 @@
+use mathlib.Core.Path.{refl, ◌∙◌}
+use Rattle.editor.proofs.Shown.{on-text, stop-text}
 use mathlib.Core.List.{[]}
 use native.Mathlib.Omega.{arith}
 use Rattle.spans.proofs.Struck.{spanned-until}
@@ -22,26 +24,31 @@ overflow_add-gap c =
     let w = spanned-until c.requires.0 in
     omega (arith, gap-fits w.0 w.1 w.2 w.3, c.freed_to-freed.ensures w.0 w.1 w.2 w.3 w.4)
 
-pub past_to-past-requires : goal.past_to-past-requires
-past_to-past-requires c = spanned-until c.requires.0
+pub read_after-next-requires : goal.read_after-next-requires
+read_after-next-requires c = c.requires.0
 
-pub next_from-next-requires : goal.next_from-next-requires
-next_from-next-requires c =
-    let w = spanned-until c.requires.0 in
-    (w.0, w.1, w.2, w.3, w.4, c.past_to-past.ensures w.0 w.1 w.2 w.3 w.4)
+pub invariant_of-ed : goal.invariant_of-ed
+invariant_of-ed c =
+    let r = c.read_after-next.ensures in
+    let room = c.lines_room-room.ensures in
+    let w = c.requires.0 in
+    record { shows = stop-text _ _ (replace-full _ w.0 w.1 w.2 w.3 w.4 _ _ _ c.freed_to-freed.ensures room (omega (arith, c.if-gap-freed.true)) r) }
 
 pub returns-then-gap-freed : goal.returns-then-gap-freed
 returns-then-gap-freed c =
-    let r = c.next_from-next.ensures in
-    let p = c.past_to-past.ensures in
+    let r = c.read_after-next.ensures in
     let room = c.lines_room-room.ensures in
-    λ e t i h w. replace-full _ e t i h w _ _ _ _ c.freed_to-freed.ensures room (omega (arith, c.if-gap-freed.true)) p r
+    record {
+      keeps = refl;
+      long = refl;
+      does = λ e t i h w. replace-full _ e t i h w _ _ _ c.freed_to-freed.ensures room (omega (arith, c.if-gap-freed.true)) r;
+    }
 
 pub strike_span-l-requires : goal.strike_span-l-requires
 strike_span-l-requires c = c.requires.0
 
-pub put_lines-requires : goal.put_lines-requires
-put_lines-requires c =
+pub put_lines-ed-requires : goal.put_lines-ed-requires
+put_lines-ed-requires c =
     let pre = c.requires in
     let w = pre.0 in
     let r = c.strike_span-l in
@@ -49,8 +56,19 @@ put_lines-requires c =
     let z = struck-ready [] w.0 w.1 w.2 w.3 w.4 _ _ r.ensures r.auto.j room.result (elim c.if-gap-room.branch [ then-gap-room+else-gap-freed v ↦ omega (arith, freed-is w.0 w.1 w.2 w.3 w.4 v.freed_to-freed.ensures) | else-gap-room v ↦ omega arith ]) in
     (z.0, pre.1, omega (arith, z.1, room.ensures))
 
+pub invariant_of-ed-2 : goal.invariant_of-ed-2
+invariant_of-ed-2 c =
+    let r = c.strike_span-l in
+    let p = c.put_lines-ed in
+    let w = c.requires.0 in
+    record { shows = on-text _ (replace-on _ w.0 w.1 w.2 w.3 w.4 _ _ r.ensures r.auto.j _ _ p.auto.j p.ensures) }
+
 pub returns : goal.returns
 returns c =
     let r = c.strike_span-l in
-    let p = c.put_lines in
-    λ e t i h w. replace-on _ e t i h w _ _ r.ensures r.auto.j _ _ p.auto.j p.ensures
+    let p = c.put_lines-ed in
+    record {
+      keeps = refl;
+      long = p.auto.j ∙ r.auto.j;
+      does = λ e t i h w. replace-on _ e t i h w _ _ r.ensures r.auto.j _ _ p.auto.j p.ensures;
+    }

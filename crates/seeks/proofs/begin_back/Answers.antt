@@ -1,12 +1,18 @@
+use mathlib.Core.Path.{refl}
 use Rattle.editor.proofs.Parts.{handed}
+use Rattle.editor.proofs.Shown.{went-by, stops-by}
 use Rattle.seeks.proofs.Tests.{begin-back-line, begin-back-on, begin-back-stop}
 use Rattle.seeks.proofs.begin_back.Goals as goal
 
-pub returns-then-at-j : goal.returns-then-at-j
-returns-then-at-j c = begin-back-line _ c.if-at-j.true
+pub returns-then-ed : goal.returns-then-ed
+returns-then-ed c = record { keeps = refl; long = refl; looks = begin-back-line _ c.if-ed.true }
 
 pub returns : goal.returns
-returns c = λ e x t h. begin-back-on _ _ _ c.if-at-j.false _ c.in_ok-s.was e x t h (c.go_back.ensures x e t h)
+returns c =
+    let m = c.go_back.ensures in
+    record { keeps = m.keeps; long = m.long; looks = λ e x t h. begin-back-on _ _ _ c.if-ed.false _ (went-by _ c.in_ok-go_back.was) e x t h (m.does x e t h) }
 
-pub returns-in_err-s : goal.returns-in_err-s
-returns-in_err-s c = λ e x t h. rw (handed _ _ c.from_residual.ensures.1) (begin-back-stop _ _ _ c.if-at-j.false _ _ c.in_err-s.was e x t h (c.go_back.ensures x e t h))
+pub returns-in_err-go_back : goal.returns-in_err-go_back
+returns-in_err-go_back c =
+    let m = c.go_back.ensures in
+    record { keeps = m.keeps; long = m.long; looks = λ e x t h. rw (handed _ _ c.from_residual.ensures.1) (begin-back-stop _ _ _ c.if-ed.false _ _ (stops-by _ c.in_err-go_back.was) e x t h (m.does x e t h)) }

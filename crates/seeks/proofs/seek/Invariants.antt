@@ -17,9 +17,10 @@ use Rattle.seeks.proofs.seek.Given as goal
 
 abbrev pub invariant-loop-made : goal.invariant-loop-made
 invariant-loop-made l =
-    ((se : Search) (e : Ed) (x : Carried) (t : Tape) → Encodes l.script l.words l.k l.m se → Standing l.script l.words x → Ready l.table l.initial.j l.initial.s e t
-    → Underway (lent l.initial.j) (look_op (seek_of l.way) se) l.lines l.left l.made l.table x (state e x) t l.j l.s)
-    × (l.made ≤ l.left) × (length l.j ≡ length l.initial.j)
+    let i = l.initial.ed in
+    ((se : Search) (e : Ed) (x : Carried) (t : Tape) → Encodes l.script l.words l.k l.m se → Standing l.script l.words x → Ready l.table i.journal.now i.st e t
+    → Underway (lent i.journal.now) (look_op (seek_of l.way) se) l.lines l.left l.made l.table x (state e x) t l.ed.journal.now l.ed.st)
+    × (l.made ≤ l.left) × (length l.ed.journal.now ≡ length i.journal.now) × (l.ed.journal.ghost_name ≡ i.journal.ghost_name)
 
 abbrev pub decreases-loop-made : goal.decreases-loop-made
 decreases-loop-made l = l.left - l.made

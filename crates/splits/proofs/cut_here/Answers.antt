@@ -14,7 +14,11 @@ pub cut_line-requires : goal.cut_line-requires
 cut_line-requires c =
     let w = c.requires in
     let x = copied-within _ _ _ _ c.copy_current-n.ensures w in
-    ((w.0, w.1, w.2.text.shows), w.2.more, x.1, x.2)
+    (w.2.more, x.1, x.2)
 
 pub returns : goal.returns
-returns c = cuts-here _ _ _ _ c.copy_current-n.ensures _ _ c.cut_line.ensures
+returns c = record {
+  keeps = c.cut_line.ensures.keeps;
+  long = c.cut_line.ensures.long;
+  does = cuts-here _ _ _ _ c.copy_current-n.ensures _ _ c.cut_line.ensures.does;
+}

@@ -1,3 +1,4 @@
+use mathlib.Core.Path.{refl}
 use Rattle.wordset.specs.Sets.{in_set}
 use Rattle.changes.specs.Current.{sought}
 use Rattle.editor.proofs.Parts.{handed}
@@ -15,8 +16,12 @@ cut_here-requires c =
 
 pub returns-in_err-i : goal.returns-in_err-i
 returns-in_err-i c =
-    rw (handed _ _ c.from_residual.ensures.1) (split-stop (in_set c.args.set.now 0) (sought c.args.q c.args.script.now c.args.from c.args.to) _ c.match_here.ensures _ _ c.in_err-i.was)
+    record { keeps = refl; long = refl; does = rw (handed _ _ c.from_residual.ensures.1) (split-stop (in_set c.args.set.now 0) (sought c.args.q c.args.script.now c.args.from c.args.to) _ c.match_here.ensures _ _ c.in_err-i.was) }
 
 pub returns : goal.returns
 returns c =
-    split-found (in_set c.args.set.now 0) (sought c.args.q c.args.script.now c.args.from c.args.to) _ c.match_here.ensures _ _ _ c.in_ok-i.was _ c.point_by.ensures _ _ c.cut_here.ensures
+    record {
+      keeps = c.cut_here.ensures.keeps;
+      long = c.cut_here.ensures.long;
+      does = split-found (in_set c.args.set.now 0) (sought c.args.q c.args.script.now c.args.from c.args.to) _ c.match_here.ensures _ _ _ c.in_ok-i.was _ c.point_by.ensures _ _ c.cut_here.ensures.does;
+    }

@@ -1,9 +1,10 @@
 -- `steps::answer_step` meets its contract. Assumes nothing.
-use mathlib.Core.Path.{refl}
+use mathlib.Core.Path.{refl, ap}
 use mathlib.Core.Bool.{true, false}
 use mathlib.Core.List.{List, [], ◌∷◌}
 use Prim.Native.Nat.{ℕ}
 use types.Run.{miss}
+use Rattle.seeks.specs.Edited.{sought_by}
 use Rattle.steps.specs.Steps.{ask_test}
 use Rattle.steps.proofs.Globals.{below-stands, same-only}
 use Rattle.steps.proofs.Views.{look-asked}
@@ -35,27 +36,27 @@ way_of-requires c =
     (λ q. miss looks 9 tt (rw q at c.in-Find.in-Find-own.keys8))
 
 pub returns-in-Round : goal.returns-in-Round
-returns-in-Round c = record { answers_step = after-round _ _ _ _ _ _ _ _ _ c.once.ensures refl c.in-Round.is; only_carried = same-only _ }
+returns-in-Round c = record { answers_step = record { keeps = refl; long = refl; seeks = after-round _ _ _ _ _ _ _ _ _ (ap (λ z. sought_by z c.args.ed.now.st) c.once.ensures) refl c.in-Round.is }; only_carried = same-only _ }
 
 pub returns-in-Holds : goal.returns-in-Holds
 unfolding ask_test
-returns-in-Holds c = record { answers_step = after_test _ _ _ _ _ _ _ _ _ _ _ c.once-in-Holds.ensures refl true c.in-Holds.is c.test.ensures; only_carried = same-only _ }
+returns-in-Holds c = record { answers_step = record { keeps = refl; long = refl; seeks = after_test _ _ _ _ _ _ _ _ _ _ _ (ap (λ z. sought_by z c.args.ed.now.st) c.once-in-Holds.ensures) refl true c.in-Holds.is c.test.ensures }; only_carried = same-only _ }
 
 pub returns-in-HoldsNot : goal.returns-in-HoldsNot
 unfolding ask_test
-returns-in-HoldsNot c = record { answers_step = after_test _ _ _ _ _ _ _ _ _ _ _ c.once-in-HoldsNot.ensures refl false c.in-HoldsNot.is c.test-in-HoldsNot.ensures; only_carried = same-only _ }
+returns-in-HoldsNot c = record { answers_step = record { keeps = refl; long = refl; seeks = after_test _ _ _ _ _ _ _ _ _ _ _ (ap (λ z. sought_by z c.args.ed.now.st) c.once-in-HoldsNot.ensures) refl false c.in-HoldsNot.is c.test-in-HoldsNot.ensures }; only_carried = same-only _ }
 
 pub returns-in-AtEof : goal.returns-in-AtEof
-returns-in-AtEof c = record { answers_step = after-eof _ _ _ _ _ _ _ _ _ _ _ c.once-in-AtEof.ensures refl c.in-AtEof.is c.test_eof.ensures; only_carried = same-only _ }
+returns-in-AtEof c = record { answers_step = record { keeps = refl; long = refl; seeks = after-eof _ _ _ _ _ _ _ _ _ _ _ (ap (λ z. sought_by z c.args.ed.now.st) c.once-in-AtEof.ensures) refl c.in-AtEof.is c.test_eof.ensures }; only_carried = same-only _ }
 
 pub returns-in-Begin : goal.returns-in-Begin
-returns-in-Begin c = record { answers_step = after-begin _ _ _ _ _ _ _ _ _ _ _ c.once-in-Begin.ensures refl c.in-Begin.is c.begin.ensures; only_carried = same-only _ }
+returns-in-Begin c = record { answers_step = record { keeps = refl; long = refl; seeks = after-begin _ _ _ _ _ _ _ _ _ _ _ (ap (λ z. sought_by z c.args.ed.now.st) c.once-in-Begin.ensures) refl c.in-Begin.is c.begin.ensures }; only_carried = same-only _ }
 
 pub returns-in-BeginBack : goal.returns-in-BeginBack
-returns-in-BeginBack c = record { answers_step = after-begin-back _ _ _ _ _ _ _ _ _ _ _ c.once-in-BeginBack.ensures refl c.in-BeginBack.is c.begin_back.ensures; only_carried = same-only _ }
+returns-in-BeginBack c = record { answers_step = record { keeps = c.begin_back.ensures.keeps; long = c.begin_back.ensures.long; seeks = after-begin-back _ _ _ _ _ _ _ _ _ _ _ (ap (λ z. sought_by z c.begin_back.new.ed.st) c.once-in-BeginBack.ensures) refl c.in-BeginBack.is c.begin_back.ensures.looks }; only_carried = same-only _ }
 
 pub returns-in-Command : goal.returns-in-Command
-returns-in-Command c = let f = c.command.ensures in record { answers_step = after-command _ _ _ _ _ _ _ _ _ _ _ c.once-in-Command.ensures c.in-Command.is f.commanded; only_carried = f.only_carried }
+returns-in-Command c = let f = c.command.ensures in record { answers_step = record { keeps = f.commanded.keeps; long = f.commanded.long; seeks = after-command _ _ _ _ _ _ _ _ _ _ _ (ap (λ z. sought_by z c.command.new.ed.st) c.once-in-Command.ensures) c.in-Command.is f.commanded.looks }; only_carried = f.only_carried }
 
 pub returns-in-Find : goal.returns-in-Find
 returns-in-Find c = record { answers_step = c.search.ensures; only_carried = same-only _ }

@@ -1,5 +1,6 @@
 -- `steps::search` meets its contract. Assumes nothing.
-use mathlib.Core.Path.{refl}
+use mathlib.Core.Path.{refl, ap}
+use Rattle.seeks.specs.Edited.{looked_by, sought_by}
 use native.Mathlib.Omega.{arith}
 use Rattle.steps.proofs.Globals.{below-stands}
 use Rattle.steps.proofs.Views.{asks-look, search-inside, search-words}
@@ -19,17 +20,35 @@ seek-r-requires c = let p = c.requires in
 pub returns-in_default : goal.returns-in_default
 returns-in_default c =
     let p = c.requires in
-    after-search _ _ _ _ _ _ _ _ _ refl c.seek-r.result _ p.1 _ c.search_end-m.ensures c.seek-r.ensures
-    _ (is_stopped _ _ c.in_default.is)
+    let f = c.seek-r.ensures in
+    let found = sought_by c.seek-r.result c.seek-r.new.ed.st in
+    record {
+      keeps = f.keeps;
+      long = f.long;
+      seeks = after-search _ _ _ _ _ _ _ _ _ refl found _ p.1 _ c.search_end-m.ensures f.seeks
+          _ (is_stopped found _ (ap (λ r. looked_by r c.seek-r.new.ed.st) c.in_default.is));
+    }
 
-pub returns-then-last : goal.returns-then-last
-returns-then-last c =
+pub returns-then-held : goal.returns-then-held
+returns-then-held c =
     let p = c.requires in
-    after-search _ _ _ _ _ _ _ _ _ refl c.seek-r.result _ p.1 _ c.search_end-m.ensures c.seek-r.ensures
-    _ (is_found _ _ c.in-Ok.is c.if-last.true)
+    let f = c.seek-r.ensures in
+    let found = sought_by c.seek-r.result c.seek-r.new.ed.st in
+    record {
+      keeps = f.keeps;
+      long = f.long;
+      seeks = after-search _ _ _ _ _ _ _ _ _ refl found _ p.1 _ c.search_end-m.ensures f.seeks
+          _ (is_found found _ (ap (λ r. looked_by r c.seek-r.new.ed.st) c.in-Ok.is) c.if-held.true);
+    }
 
 pub returns : goal.returns
 returns c =
     let p = c.requires in
-    after-search _ _ _ _ _ _ _ _ _ refl c.seek-r.result _ p.1 _ c.search_end-m.ensures c.seek-r.ensures
-    _ (is-unfound _ _ c.in-Ok.is c.if-last.false)
+    let f = c.seek-r.ensures in
+    let found = sought_by c.seek-r.result c.seek-r.new.ed.st in
+    record {
+      keeps = f.keeps;
+      long = f.long;
+      seeks = after-search _ _ _ _ _ _ _ _ _ refl found _ p.1 _ c.search_end-m.ensures f.seeks
+          _ (is-unfound found _ (ap (λ r. looked_by r c.seek-r.new.ed.st) c.in-Ok.is) c.if-held.false);
+    }

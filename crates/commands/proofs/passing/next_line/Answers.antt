@@ -1,12 +1,11 @@
-use Rattle.editor.proofs.Parts.{passed-on}
+use mathlib.Core.Path.{refl}
 use Rattle.editor.proofs.Moving.{next-eof, next-on}
 use Rattle.commands.proofs.passing.next_line.Goals as goal
 
-pub returns-then-at-j : goal.returns-then-at-j
-returns-then-at-j c = λ e x t s h. next-eof _ x e t h c.if-at-j.true
-
-pub returns-in_err-go_ahead : goal.returns-in_err-go_ahead
-returns-in_err-go_ahead c = λ e x t s h. rw (passed-on _ _ _ c.in_err-go_ahead.was c.from_residual.ensures.1) (next-on _ x e t _ _ h c.if-at-j.false (c.go_ahead.ensures e x t s h))
+pub returns-then-ed : goal.returns-then-ed
+returns-then-ed c = record { keeps = refl; long = refl; does = λ e x t s h. next-eof _ x e t h c.if-ed.true }
 
 pub returns : goal.returns
-returns c = λ e x t s h. rw (← c.in_ok-go_ahead.was) (next-on _ x e t _ _ h c.if-at-j.false (c.go_ahead.ensures e x t s h))
+returns c =
+    let g = c.go_ahead.ensures in
+    record { keeps = g.keeps; long = g.long; does = λ e x t s h. next-on _ x e t _ _ h c.if-ed.false (g.does e x t s h) }

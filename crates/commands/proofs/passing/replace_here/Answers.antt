@@ -1,22 +1,27 @@
-use Rattle.editor.proofs.Parts.{moved-shown, passed-on}
+use mathlib.Core.Path.{◌∙◌}
+use Rattle.editor.proofs.Parts.{passed-on}
+use Rattle.editor.proofs.Shown.{shown, went-by, stops-by}
 use Rattle.commands.proofs.FirstRead.{here-unread, here-read}
 use Rattle.commands.proofs.passing.replace_here.Goals as goal
 
-pub returns-in_err-s : goal.returns-in_err-s
-returns-in_err-s c = λ e x t s h. rw (passed-on _ _ _ c.in_err-s.was c.from_residual.ensures.1) (here-unread x _ _ e t _ _ c.in_err-s.was (c.read_span.ensures e x t s h))
+pub returns-in_err-read_span : goal.returns-in_err-read_span
+returns-in_err-read_span c =
+    let r = c.read_span.ensures in
+    record {
+      keeps = r.keeps;
+      long = r.long;
+      does = λ e x t s h. rw (passed-on _ _ _ c.in_err-read_span.was c.from_residual.ensures.1) (here-unread x _ _ e t _ _ (stops-by _ c.in_err-read_span.was) (r.does e x t s h));
+    }
 
 pub replace_here-requires : goal.replace_here-requires
-replace_here-requires c =
-    let r = c.read_span in
-    let w = c.requires in
-    (moved-shown _ c.in_ok-s.was (r.ensures w.1.0 w.0.0 w.1.1 w.0.1 w.1.2), w.2)
-
-pub returns-in_err-replace_here : goal.returns-in_err-replace_here
-returns-in_err-replace_here c =
-    let r = c.read_span in
-    λ e x t s h. rw (passed-on _ _ _ c.in_err-replace_here.was c.from_residual-in_err-replace_here.ensures.1) (here-read x _ _ e t _ _ _ c.in_ok-s.was (r.ensures e x t s h) r.auto.j c.replace_here.ensures)
+replace_here-requires c = c.requires.1
 
 pub returns : goal.returns
 returns c =
-    let r = c.read_span in
-    λ e x t s h. rw (← c.in_ok-replace_here.was) (here-read x _ _ e t _ _ _ c.in_ok-s.was (r.ensures e x t s h) r.auto.j c.replace_here.ensures)
+    let r = c.read_span.ensures in
+    let d = c.replace_here.ensures in
+    record {
+      keeps = d.keeps ∙ r.keeps;
+      long = d.long ∙ r.long;
+      does = λ e x t s h. here-read x _ _ e t _ _ _ (went-by _ c.in_ok-read_span.was) (r.does e x t s h) r.long d.does;
+    }

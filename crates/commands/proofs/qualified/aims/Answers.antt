@@ -27,11 +27,15 @@ split-requires c = let fits = string-fits _ _ _ (aims-read _ _ _ _ c.requires.3 
     (c.requires.2, omega arith, fits.0, fits.1, fits.2)
 
 pub returns-then-is_split : goal.returns-then-is_split
-returns-then-is_split c = splits-as _ _ _ _ c.requires.3 _ _ _ _ _ _ _ _ c.quals_at-q.ensures c.start_at-from.ensures c.length_at.ensures _ c.word_set-set.ensures c.requires.4 (sym c.is_split.ensures ∙ c.if-is_split.true) c.split.ensures
+returns-then-is_split c = record { keeps = c.split.ensures.keeps; long = c.split.ensures.long; does = splits-as _ _ _ _ c.requires.3 _ _ _ _ _ _ _ _ c.quals_at-q.ensures c.start_at-from.ensures c.length_at.ensures _ c.word_set-set.ensures c.requires.4 (sym c.is_split.ensures ∙ c.if-is_split.true) c.split.ensures.does }
 
 pub point-requires : goal.point-requires
 point-requires c = let fits = string-fits _ _ _ (aims-read _ _ _ _ c.requires.3 c.requires.4 c.requires.0) _ _ _ c.quals_at-q.ensures c.start_at-from.ensures c.length_at.ensures in
     (c.requires.2, omega arith, fits.0, fits.1, fits.2)
 
 pub returns : goal.returns
-returns c = points-as _ _ _ _ c.requires.3 _ _ _ _ _ _ _ _ c.quals_at-q.ensures c.start_at-from.ensures c.length_at.ensures _ c.word_set-set.ensures c.requires.4 (sym c.is_split.ensures ∙ c.if-is_split.false) c.point.ensures
+returns c = record {
+  keeps = c.point.ensures.keeps;
+  long = c.point.ensures.long;
+  does = points-as _ _ _ _ c.requires.3 _ _ _ _ _ _ _ _ c.quals_at-q.ensures c.start_at-from.ensures c.length_at.ensures _ c.word_set-set.ensures c.requires.4 (sym c.is_split.ensures ∙ c.if-is_split.false) c.point.ensures.does;
+}

@@ -39,4 +39,8 @@ alter-requires c = let fits = string-fits _ _ _ (alters-read _ _ _ _ c.requires.
     (c.requires.2, strings-in _ _ _ _ _ fits.0 good, fits.1, fits.2)
 
 pub returns : goal.returns
-returns c = alters-as _ _ _ _ c.requires.3 _ _ _ _ _ _ _ _ c.quals_at-q.ensures c.start_at-from.ensures c.length_at.ensures _ c.word_set.ensures c.requires.4 c.requires.5 _ c.end_at.ensures _ c.string_start-start.ensures _ c.string_length.ensures _ c.change_of.ensures _ c.is_pointing.ensures c.alter.ensures
+returns c = record {
+  keeps = c.alter.ensures.keeps;
+  long = c.alter.ensures.long;
+  does = alters-as _ _ _ _ c.requires.3 _ _ _ _ _ _ _ _ c.quals_at-q.ensures c.start_at-from.ensures c.length_at.ensures _ c.word_set.ensures c.requires.4 c.requires.5 _ c.end_at.ensures _ c.string_start-start.ensures _ c.string_length.ensures _ c.change_of.ensures _ c.is_pointing.ensures c.alter.ensures.does;
+}

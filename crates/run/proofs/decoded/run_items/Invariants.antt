@@ -19,9 +19,10 @@ use Rattle.run.proofs.decoded.run_items.Given as goal
 
 abbrev pub invariant-loop-x : goal.invariant-loop-x
 invariant-loop-x l =
-    ((items : List Item) (e : Ed) (t : Tape) → Runnable l.script l.initial.w l.end items → Ready l.table l.initial.j l.initial.s e t
-    → Going l.script l.table (lent l.initial.j) l.budget l.end l.w l.j l.c l.s l.made (run (step (lent l.initial.j)) l.budget 0 (running items []) (state e no_globals) t))
-    × (l.made ≤ l.budget) × (passed l.c ≤ l.made) × (length l.w ≡ length l.initial.w) × (length l.j ≡ length l.initial.j)
+    let i = l.initial.ed in
+    ((items : List Item) (e : Ed) (t : Tape) → Runnable l.script l.initial.w l.end items → Ready l.table i.journal.now i.st e t
+    → Going l.script l.table (lent i.journal.now) l.budget l.end l.w l.ed.journal.now l.c l.ed.st l.made (run (step (lent i.journal.now)) l.budget 0 (running items []) (state e no_globals) t))
+    × (l.made ≤ l.budget) × (passed l.c ≤ l.made) × (length l.w ≡ length l.initial.w) × (length l.ed.journal.now ≡ length i.journal.now) × (l.ed.journal.ghost_name ≡ i.journal.ghost_name)
 
 abbrev pub decreases-loop-x : goal.decreases-loop-x
 decreases-loop-x l = l.budget - l.made

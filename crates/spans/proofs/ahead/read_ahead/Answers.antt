@@ -5,4 +5,9 @@ use Rattle.spans.proofs.ahead.read_ahead.Goals as goal
 pub returns : goal.returns
 returns c =
     let next = c.read_next-next in
-    λ e x t s h. read-as-far _ _ _ x e t (next-read _ (next.ensures e t h)) (c.read_to.ensures e x t s h)
+    let r = c.read_to.ensures in
+    record {
+      keeps = r.keeps;
+      long = r.long;
+      does = λ e x t s h. read-as-far _ _ _ x e t (next-read _ (next.ensures e t h)) (r.does e x t s h);
+    }

@@ -1,20 +1,25 @@
+use mathlib.Core.Path.{◌∙◌}
 use Rattle.definitions.specs.Given.{no_globals}
-use Rattle.editor.proofs.Parts.{moved-shown, handed}
+use Rattle.editor.proofs.Parts.{handed}
+use Rattle.editor.proofs.Shown.{went-by, stops-by}
 use Rattle.spans.proofs.Wholes.{from_on, from-stop, delete-is}
 use Rattle.spans.proofs.deleting.delete_span.Goals as goal
 
-pub delete_here-requires : goal.delete_here-requires
-delete_here-requires c =
-    let w = c.requires in
-    moved-shown _ c.in_ok-s.was (c.go_to.ensures w.0 w.1 w.2)
-
-pub returns-in_err-s : goal.returns-in_err-s
-returns-in_err-s c =
-    let m = c.go_to in
-    λ e t h. rw (delete-is _ _ _ e no_globals t, handed _ _ c.from_residual.ensures.1) (from-stop no_globals _ _ _ e t _ _ c.in_err-s.was (m.ensures e t h))
+pub returns-in_err-go_to : goal.returns-in_err-go_to
+returns-in_err-go_to c =
+    let m = c.go_to.ensures in
+    record {
+      keeps = m.keeps;
+      long = m.long;
+      does = λ e t h. rw (delete-is _ _ _ e no_globals t, handed _ _ c.from_residual.ensures.1) (from-stop no_globals _ _ _ e t _ _ (stops-by _ c.in_err-go_to.was) (m.does e t h));
+    }
 
 pub returns : goal.returns
 returns c =
-    let r = c.delete_here in
-    let m = c.go_to in
-    λ e t h. rw (delete-is _ _ _ e no_globals t) (from_on no_globals _ _ _ e t _ _ _ c.in_ok-s.was (m.ensures e t h) m.auto.j r.ensures)
+    let r = c.delete_here.ensures in
+    let m = c.go_to.ensures in
+    record {
+      keeps = r.keeps ∙ m.keeps;
+      long = r.long ∙ m.long;
+      does = λ e t h. rw (delete-is _ _ _ e no_globals t) (from_on no_globals _ _ _ e t _ _ _ (went-by _ c.in_ok-go_to.was) (m.does e t h) m.long r.does);
+    }

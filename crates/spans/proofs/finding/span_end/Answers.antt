@@ -1,31 +1,16 @@
-use native.Mathlib.Omega.{arith}
-use Rattle.spans.proofs.Standing.{stands-in}
-use Rattle.spans.proofs.Ends.{finds-20, finds-alone, finds-all, finds-28, finds-21, finds-23, finds-through}
+use mathlib.Core.Path.{refl}
+use Rattle.editor.proofs.Shown.{shown}
+use Rattle.spans.proofs.Founds.{finds-text, finds-stop-text}
 use Rattle.spans.proofs.finding.span_end.Goals as goal
 
-pub returns-then-at-end : goal.returns-then-at-end
-returns-then-at-end c = λ e t h. finds-20 _ e t h _ c.if-at-end.true
+pub invariant_of-ed : goal.invariant_of-ed
+invariant_of-ed c = record { shows = finds-text _ _ c.args.ed.now.shows (rw c.in-Ok.is at c.find_end.ensures) }
 
-pub returns-then-through-eq0 : goal.returns-then-through-eq0
-returns-then-through-eq0 c = λ e t h. finds-alone _ e t h c.if-at-end.false _ c.if-through-eq0.true _ c.record_end.ensures
+pub returns-in-Ok : goal.returns-in-Ok
+returns-in-Ok c = record { keeps = refl; same = refl; finds = rw c.in-Ok.is at c.find_end.ensures }
 
-pub returns-then-through-eq65536 : goal.returns-then-through-eq65536
-returns-then-through-eq65536 c = λ e t h. finds-all _ e t h c.if-at-end.false _ c.if-through-eq65536.true c.read_to.ensures
+pub invariant_of-ed-in-Err : goal.invariant_of-ed-in-Err
+invariant_of-ed-in-Err c = record { shows = finds-stop-text _ _ c.args.ed.now.shows (rw c.in-Err.is at c.find_end.ensures) }
 
-pub returns-then-through-st : goal.returns-then-through-st
-returns-then-through-st c = λ e t h. finds-28 _ e t h c.if-at-end.false _ c.if-through-eq0.false c.if-through-eq65536.false c.if-through-st.true
-
-pub returns-then-st-through : goal.returns-then-st-through
-returns-then-st-through c = λ e t h. finds-21 _ e t h c.if-at-end.false _ c.if-through-eq0.false c.if-through-eq65536.false c.read_to-s.ensures c.if-through-st.false c.if-st-through.true
-
-pub bounds-j-last : goal.bounds-j-last
-bounds-j-last c = stands-in (c.source_at-last.ensures _ _ c.requires.2.holds).stands
-
-pub returns-then-j-last-eq45 : goal.returns-then-j-last-eq45
-returns-then-j-last-eq45 c = λ e t h. finds-23 _ e t h c.if-at-end.false _ c.if-through-eq0.false c.if-through-eq65536.false c.read_to-s.ensures c.if-through-st.false _ (c.source_at-last.ensures _ _ h.holds) c.if-j-last-eq45.true
-
-pub record_end-requires-2 : goal.record_end-requires-2
-record_end-requires-2 c = omega (arith, stands-in (c.source_at-last.ensures _ _ c.requires.2.holds).stands)
-
-pub returns : goal.returns
-returns c = λ e t h. finds-through _ e t h c.if-at-end.false _ c.if-through-eq0.false c.if-through-eq65536.false c.read_to-s.ensures c.if-through-st.false _ (c.source_at-last.ensures _ _ h.holds) c.if-j-last-eq45.false _ c.record_end-2.ensures
+pub returns-in-Err : goal.returns-in-Err
+returns-in-Err c = record { keeps = refl; same = refl; finds = rw c.in-Err.is at c.find_end.ensures }
