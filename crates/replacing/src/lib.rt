@@ -10,10 +10,18 @@ ghost use Rattle.items.specs.Words.{part_of};
 ghost use Rattle.editor.specs.Shows.{Performs, Completes, target_numbered};
 ghost use Rattle.editor.specs.Edited.{Does};
 ghost use Rattle.inserts.specs.Lines.{Insertable};
-ghost use Rattle.spans.specs.Spans.{through_of, change_here, Spanned};
-ghost use Rattle.replacing.specs.Freed.{replacing, Replaces};
+ghost use Rattle.spans.specs.Spans.{through_of, change_here, Spanned, Until};
+ghost use Rattle.replacing.specs.Freed.{replacing, Replaces, Frees};
 
 use editor::{Editor, Stop};
+
+// How many bytes it frees to delete the lines up to the place `to`.
+fn freed_to(ed: &Editor<'_>, to: usize) -> usize
+    requires { Until ed.now.journal.now ed.now.st to }
+    ensures { Frees to ed.now.journal.now ed.now.st result }
+{
+    room::freed_to(ed.journal, ed.st, to)
+}
 
 // R of the records up to the place `to`. The room is tested for the whole command before a record changes.
 // A stop has read the next live line all the same.
@@ -30,7 +38,7 @@ fn replace_to(
     let room = inserts::lines_room(s, start, end);
     let gap = ed.st.back - ed.st.front;
     if gap < room {
-        let freed = crate::room::freed_to(ed, to);
+        let freed = freed_to(ed, to);
         if gap + freed < room {
             let next = spans::finding::read_after(ed, to);
             ed.st = next.st;

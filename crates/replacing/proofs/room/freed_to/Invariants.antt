@@ -10,7 +10,7 @@ use Rattle.spans.proofs.Sums.{Counting}
 use Rattle.replacing.proofs.room.freed_to.Given as goal
 
 abbrev pub invariant-loop-at : goal.invariant-loop-at
-invariant-loop-at l = (m d : List Record) → Stands l.ed.journal.now l.initial.at (m ++ d) → l.end + length (enc_all d) ≡ length l.ed.journal.now → Counting freed (freed m) l.ed.journal.now l.at l.n d
+invariant-loop-at l = (m d : List Record) → Stands l.j l.initial.at (m ++ d) → l.end + length (enc_all d) ≡ length l.j → Counting freed (freed m) l.j l.at l.n d
 
 abbrev pub decreases-loop-at : goal.decreases-loop-at
-decreases-loop-at l = length l.ed.journal.now - l.at
+decreases-loop-at l = length l.j - l.at
