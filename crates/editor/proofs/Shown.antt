@@ -19,7 +19,7 @@ use Rattle.gap.specs.Gap.{zeros}
 use Rattle.editor.specs.Records.{body, enc, enc_all, enc_before, mark, Good, Goods}
 use Rattle.editor.specs.Shows.{Holds, Shows, ShowsText, GroundedAt, rest_of, point_of}
 use Rattle.editor.specs.declared.State.{State}
-use Rattle.editor.proofs.Records.{record-line, line-text, text-place, some_bytes, before-all}
+use Rattle.editor.proofs.Records.{record-line, line-text, text-place, some_bytes, before-all, goods-reverse}
 use Rattle.std.specs.Prelude.{Result, Ok, Err}
 use Rattle.editor.specs.Edited.{moved_by}
 use Rattle.definitions.specs.Reading.{Ran}
@@ -106,14 +106,10 @@ turned-same (r ∷ a) (s ∷ b) x y n is =
     let last : x ≡ y = cc in
     ((let q : r ∷ a ≡ s ∷ b = cc in q), last)
 
-turned-good : (a x : List Record) → Goods a → Goods x → Goods (reverse_aux a x)
-turned-good [] x g h = h
-turned-good (r ∷ a) x g h = turned-good a (r ∷ x) g.1 (g.0, h)
-
 before-same : (a b : List Record) → Goods a → Goods b → enc_before a ≡ enc_before b → a ≡ b
 before-same a b g h is =
     let bytes : enc_all (reverse_aux a []) ≡ enc_all (reverse_aux b []) = sym (before-all a []) ∙ ap (λ (k : List ℕ). k ++ enc_all []) is ∙ before-all b [] in
-    let q : reverse_aux a [] ≡ reverse_aux b [] = records-same (reverse_aux a []) (reverse_aux b []) (turned-good a [] g tt) (turned-good b [] h tt) bytes in
+    let q : reverse_aux a [] ≡ reverse_aux b [] = records-same (reverse_aux a []) (reverse_aux b []) (goods-reverse a [] g tt) (goods-reverse b [] h tt) bytes in
     let long : length a ≡ length b = omega (arith, length-reverse_aux a [], length-reverse_aux b [], ap length q) in
     (turned-same a b [] [] long q).0
 
