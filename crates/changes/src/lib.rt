@@ -30,7 +30,7 @@ pub enum Change {
 
 // PR: p = 0.
 pub fn point_start(ed: &mut Editor<'_>) -> Result<(), Stop>
-    ensures { Does (λ j st k r. (c : Carried) → Performs c j st Op.point_start k r) ed.old ed.new result }
+    ensures { Does (λ j st k r. (k ≡ j) × ((c : Carried) → Performs c j st Op.point_start k r)) ed.old ed.new result }
 {
     if ed.st.back >= ed.journal.len() {
         return Err(Stop::AtEof);
@@ -41,7 +41,7 @@ pub fn point_start(ed: &mut Editor<'_>) -> Result<(), Stop>
 
 // <: p one to the left.
 pub fn left(ed: &mut Editor<'_>) -> Result<(), Stop>
-    ensures { Does (λ j st k r. (c : Carried) → Performs c j st Op.left k r) ed.old ed.new result }
+    ensures { Does (λ j st k r. (k ≡ j) × ((c : Carried) → Performs c j st Op.left k r)) ed.old ed.new result }
 {
     if ed.st.back >= ed.journal.len() {
         return Err(Stop::AtEof);
@@ -56,7 +56,7 @@ pub fn left(ed: &mut Editor<'_>) -> Result<(), Stop>
 // >: p one to the right.
 pub fn right(table: &[u8], ed: &mut Editor<'_>) -> Result<(), Stop>
     requires { ShownOf table.now ed.old.journal.now ed.old.st }
-    ensures { Does (λ j st. PerformsOf table.now j st Op.right) ed.old ed.new result }
+    ensures { Does (λ j st k r. (k ≡ j) × PerformsOf table.now j st Op.right k r) ed.old ed.new result }
 {
     look::byte_here(table, ed)?;
     ed.st.p += 1;
@@ -86,7 +86,7 @@ pub fn point(
     to: usize,
 ) -> Result<(), Stop>
     requires { IsReady table.now ed.old.journal.now ed.old.st × (from ≤ to) × (to ≤ length script.now) × (to ≤ from + 255) × Formed q (part from to script.now) }
-    ensures { Does (λ j st. PerformsTold (in_set set.now 0) table.now j st (Op.point after (sought q script.now from to))) ed.old ed.new result }
+    ensures { Does (λ j st k r. (k ≡ j) × PerformsTold (in_set set.now 0) table.now j st (Op.point after (sought q script.now from to)) k r) ed.old ed.new result }
 {
     let (i, n) = look::match_here(set, table, ed, q, script, from, to)?;
     ed.st.p = point_by(after, i, n);

@@ -13,7 +13,7 @@ pub returns-in_err-i : goal.returns-in_err-i
 returns-in_err-i c = record {
   keeps = refl;
   long = refl;
-  does = rw (handed _ _ c.from_residual.ensures.1) (point-stop (in_set c.args.set.now 0) (sought c.args.q c.args.script.now c.args.from c.args.to) _ c.match_here.ensures _ _ c.in_err-i.was);
+  does = (refl, rw (handed _ _ c.from_residual.ensures.1) (point-stop (in_set c.args.set.now 0) (sought c.args.q c.args.script.now c.args.from c.args.to) _ c.match_here.ensures _ _ c.in_err-i.was));
 }
 
 pub invariant_of-ed : goal.invariant_of-ed
@@ -23,5 +23,5 @@ pub returns : goal.returns
 returns c = record {
   keeps = refl;
   long = refl;
-  does = point-found (in_set c.args.set.now 0) (sought c.args.q c.args.script.now c.args.from c.args.to) _ c.match_here.ensures _ _ c.in_ok-i.was _ _ _ c.point_by-ed.ensures refl;
+  does = (refl, point-found (in_set c.args.set.now 0) (sought c.args.q c.args.script.now c.args.from c.args.to) _ c.match_here.ensures _ _ c.in_ok-i.was _ _ _ c.point_by-ed.ensures refl);
 }

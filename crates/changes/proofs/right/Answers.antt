@@ -12,7 +12,7 @@ pub returns-in_err-byte_here : goal.returns-in_err-byte_here
 returns-in_err-byte_here c = record {
   keeps = refl;
   long = refl;
-  does = rw (handed _ _ c.from_residual.ensures.1) (right-stop _ c.byte_here.ensures _ c.in_err-byte_here.was);
+  does = (refl, rw (handed _ _ c.from_residual.ensures.1) (right-stop _ c.byte_here.ensures _ c.in_err-byte_here.was));
 }
 
 pub invariant_of-ed : goal.invariant_of-ed
@@ -22,5 +22,5 @@ pub returns : goal.returns
 returns c = record {
   keeps = refl;
   long = refl;
-  does = right-on _ c.byte_here.ensures _ c.in_ok-byte_here.was _ refl;
+  does = (refl, right-on _ c.byte_here.ensures _ c.in_ok-byte_here.was _ refl);
 }

@@ -5,15 +5,15 @@ use Rattle.commands.proofs.one_word.on_bytes.Goals as goal
 
 pub returns-in-20 : goal.returns-in-20
 unfolding byte_op
-returns-in-20 c = record { keeps = c.point_start.ensures.keeps; long = c.point_start.ensures.long; does = tableless _ _ (rw c.in-20.is) c.point_start.ensures.does }
+returns-in-20 c = record { keeps = c.point_start.ensures.keeps; long = c.point_start.ensures.long; does = tableless _ _ (rw c.in-20.is) c.point_start.ensures.does.1 }
 
 pub returns-in-21 : goal.returns-in-21
 unfolding byte_op
-returns-in-21 c = record { keeps = c.right.ensures.keeps; long = c.right.ensures.long; does = performs-as _ _ (rw c.in-21.is) c.right.ensures.does }
+returns-in-21 c = record { keeps = c.right.ensures.keeps; long = c.right.ensures.long; does = performs-as _ _ (rw c.in-21.is) c.right.ensures.does.1 }
 
 pub returns-in-22 : goal.returns-in-22
 unfolding byte_op
-returns-in-22 c = record { keeps = c.left.ensures.keeps; long = c.left.ensures.long; does = tableless _ _ (rw c.in-22.is) c.left.ensures.does }
+returns-in-22 c = record { keeps = c.left.ensures.keeps; long = c.left.ensures.long; does = tableless _ _ (rw c.in-22.is) c.left.ensures.does.1 }
 
 pub returns-in-23 : goal.returns-in-23
 unfolding byte_op

@@ -37,5 +37,5 @@ pub returns : goal.returns
 returns c = record {
   keeps = c.point.ensures.keeps;
   long = c.point.ensures.long;
-  does = points-as _ _ _ _ c.requires.3 _ _ _ _ _ _ _ _ c.quals_at-q.ensures c.start_at-from.ensures c.length_at.ensures _ c.word_set-set.ensures c.requires.4 (sym c.is_split.ensures ∙ c.if-is_split.false) c.point.ensures.does;
+  does = points-as _ _ _ _ c.requires.3 _ _ _ _ _ _ _ _ c.quals_at-q.ensures c.start_at-from.ensures c.length_at.ensures _ c.word_set-set.ensures c.requires.4 (sym c.is_split.ensures ∙ c.if-is_split.false) c.point.ensures.does.1;
 }
