@@ -18,7 +18,6 @@ ghost use Rattle.changes.specs.Current.{change_of, sought, alter_of, StringsIn, 
 
 use editor::{Editor, Stop};
 use matching::Quals;
-use wordset::WordSet;
 
 // What comes in goes after the string (A), before it (B), or takes its place (E).
 #[derive(Clone, Copy, Debug, PartialEq, Eq)]
@@ -76,7 +75,7 @@ pub fn point_by(after: bool, i: usize, n: usize) -> usize
 
 // PA (after), PB: p after or before the string. The bytes of the set count for W.
 pub fn point(
-    set: &WordSet,
+    set: &[u32],
     table: &[u8],
     ed: &mut Editor<'_>,
     after: bool,
@@ -85,7 +84,7 @@ pub fn point(
     from: usize,
     to: usize,
 ) -> Result<(), Stop>
-    requires { IsReady table.now ed.old.journal.now ed.old.st × (from ≤ to) × (to ≤ length script.now) × (to ≤ from + 255) × Formed q (part from to script.now) }
+    requires { (3 ≤ length set.now) × IsReady table.now ed.old.journal.now ed.old.st × (from ≤ to) × (to ≤ length script.now) × (to ≤ from + 255) × Formed q (part from to script.now) }
     ensures { Does (λ j st k r. (k ≡ j) × PerformsTold (in_set set.now 0) table.now j st (Op.point after (sought q script.now from to)) k r) ed.old ed.new result }
 {
     let (i, n) = look::match_here(set, table, ed, q, script, from, to)?;
@@ -175,7 +174,7 @@ fn alter_at(
 
 // A, B, E; with pointing AP, BP, EP. The bytes of the set count for W.
 pub fn alter(
-    set: &WordSet,
+    set: &[u32],
     table: &[u8],
     ed: &mut Editor<'_>,
     change: Change,
@@ -187,7 +186,7 @@ pub fn alter(
     start: usize,
     end: usize,
 ) -> Result<(), Stop>
-    requires { IsReady table.now ed.old.journal.now ed.old.st × StringsIn script.now from to start end × (to ≤ from + 255) × Formed q (part from to script.now) }
+    requires { (3 ≤ length set.now) × IsReady table.now ed.old.journal.now ed.old.st × StringsIn script.now from to start end × (to ≤ from + 255) × Formed q (part from to script.now) }
     ensures { Does (λ j st. PerformsTold (in_set set.now 0) table.now j st (alter_of change pointing q script.now from to start end)) ed.old ed.new result }
 {
     let (i, n) = look::match_here(set, table, ed, q, script, from, to)?;

@@ -9,7 +9,6 @@ ghost use Rattle.changes.specs.Current.{written, sought, HasLine, Sights, Finds,
 
 use editor::{Editor, Stop};
 use matching::Quals;
-use wordset::WordSet;
 
 // The byte at p of the current line.
 pub fn byte_here(table: &[u8], ed: &Editor<'_>) -> Result<u8, Stop>
@@ -30,7 +29,7 @@ pub fn byte_here(table: &[u8], ed: &Editor<'_>) -> Result<u8, Stop>
 // The place and the width of the match in the current line's window of the string that the script has from `from` to `to`, where the bytes of the set
 // count for W.
 pub fn match_here(
-    set: &WordSet,
+    set: &[u32],
     table: &[u8],
     ed: &Editor<'_>,
     q: Quals,
@@ -38,7 +37,7 @@ pub fn match_here(
     from: usize,
     to: usize,
 ) -> Result<(usize, usize), Stop>
-    requires { IsReady table.now ed.now.journal.now ed.now.st × (from ≤ to) × (to ≤ length script.now) × (to ≤ from + 255) × Formed q (part from to script.now) }
+    requires { (3 ≤ length set.now) × IsReady table.now ed.now.journal.now ed.now.st × (from ≤ to) × (to ≤ length script.now) × (to ≤ from + 255) × Formed q (part from to script.now) }
     ensures { Finds (in_set set.now 0) table.now ed.now.journal.now ed.now.st (sought q script.now from to) result }
 {
     if ed.st.back >= ed.journal.len() {

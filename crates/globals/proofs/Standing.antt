@@ -7,8 +7,8 @@ use Prim.Native.Nat.{ℕ, zero, suc, ◌+◌, ◌-◌, ◌≤◌, ◌<◌}
 use native.Mathlib.Nat.{not-suc-le-zero, add-zero}
 use native.Mathlib.Numerals.{add-one}
 use native.Mathlib.Omega.{arith}
-use lib.ListN.{length, get_or, set, length-set}
-use lib.Seq.{get_or-set_same, get_or-set_other, sets, length-sets}
+use lib.ListN.{length, drop, get_or, set, length-set, length-drop}
+use lib.Seq.{get_or-set_same, get_or-set_other, length-take-le, sets, length-sets}
 use lib.Dec.{eqb, ltb, leb}
 use borrow.Author.Tests.{ltb-true, ltb-false, lt-ltb, lt-leb, le-leb, eq-eqb, ne_eqb, eqb-true}
 use Rattle.definitions.specs.WordSet.{Named, letters_and_digits}
@@ -104,7 +104,11 @@ standing-kept s w w' end (carried gs xs) long same top h =
       same_set w' w (set_place w') (set_place w) (λ n few. ap (λ (i : ℕ). get_or w' (i - reserve + most + n) 0) long ∙ top (set_place w + n) (omega (arith, room))) ∙ h.2,
     )
 
--- the bytes of the word set count for W
+-- the word set has three words
+pub set_long : (w : List ℕ) → reserve ≤ length w → (r : List ℕ) → r ≡ set_in w → 3 ≤ length r
+set_long w room r is = omega (arith, ap length is, length-take-le 3 (drop (set_place w) w) (rw length-drop (omega (arith, room))))
+
+-- its bytes count for W
 pub set-counts : (s w : List ℕ) (c : Carried) → Standing s w c → in_set (set_in w) 0 ≡ words_of c
 unfolding StandingBelow words_of
 set-counts s w (carried gs xs) h = part-set w (set_place w) 3 (omega arith) ∙ h.below.2

@@ -18,7 +18,6 @@ use place::stands;
 use scan::{from_left, from_right};
 pub use taking::Found;
 use window::text_of;
-use wordset::WordSet;
 
 // The qualifiers of a string. anchor: 0 none, 1 for B, 2 for E, 3 for P. count: 0 for none; where R is given, which stands with no count, the bytes that a
 // match can begin with: the first of them, and 256 times the last. from: 0 for all columns. pattern: is R given.
@@ -62,8 +61,8 @@ pub struct Span {
 }
 
 // The occurrence at one place only.
-fn only_at(set: &WordSet, line: &[u8], s: &[u8], at: usize, word: bool, fold: bool) -> Option<Found>
-    requires { at + length s.now ≤ length line.now }
+fn only_at(set: &[u32], line: &[u8], s: &[u8], at: usize, word: bool, fold: bool) -> Option<Found>
+    requires { (3 ≤ length set.now) × (at + length s.now ≤ length line.now) }
     ensures { found_of result ≡ with_width (length s.now) (only_at (stands_at (in_set set.now 0) word fold s.now line.now at) at) }
 {
     if stands(set, line, s, at, word, fold) {
@@ -75,14 +74,14 @@ fn only_at(set: &WordSet, line: &[u8], s: &[u8], at: usize, word: bool, fold: bo
 
 // The part of the text from start to end that the string matches, R not given.
 fn find_string(
-    set: &WordSet,
+    set: &[u32],
     line: &[u8],
     start: usize,
     end: usize,
     q: Quals,
     s: &[u8],
 ) -> Option<Found>
-    requires { (start ≤ end) × (end ≤ length line.now) }
+    requires { (3 ≤ length set.now) × (start ≤ end) × (end ≤ length line.now) }
     ensures { found_of result ≡ string_in (in_set set.now 0) q s.now line.now (text start end) }
 {
     if end - start < s.len() {
@@ -107,8 +106,8 @@ fn find_string(
 }
 
 // The part of the line that the qualified string matches, with the window from p, where the bytes of the set count for W. N is not looked at.
-pub fn find(set: &WordSet, line: &[u8], p: usize, q: Quals, s: &[u8]) -> Option<Found>
-    requires { (p ≤ length line.now) × Formed q s.now × (length line.now ≤ 255) × (length s.now ≤ 255) }
+pub fn find(set: &[u32], line: &[u8], p: usize, q: Quals, s: &[u8]) -> Option<Found>
+    requires { (3 ≤ length set.now) × (p ≤ length line.now) × Formed q s.now × (length line.now ≤ 255) × (length s.now ≤ 255) }
     ensures { found_of result ≡ match_of (in_set set.now 0) (qualified (qualifiers_of q) s.now) p line.now }
 {
     let t = text_of(line, p, q);
@@ -121,8 +120,8 @@ pub fn find(set: &WordSet, line: &[u8], p: usize, q: Quals, s: &[u8]) -> Option<
 }
 
 // Does the qualified string match the line, N included.
-pub fn matches_line(set: &WordSet, line: &[u8], p: usize, q: Quals, s: &[u8]) -> bool
-    requires { (p ≤ length line.now) × Formed q s.now × (length line.now ≤ 255) × (length s.now ≤ 255) }
+pub fn matches_line(set: &[u32], line: &[u8], p: usize, q: Quals, s: &[u8]) -> bool
+    requires { (3 ≤ length set.now) × (p ≤ length line.now) × Formed q s.now × (length line.now ≤ 255) × (length s.now ≤ 255) }
     ensures { result ≡ matches (in_set set.now 0) (qualified (qualifiers_of q) s.now) p line.now }
 {
     find(set, line, p, q, s).is_some() != q.negated

@@ -11,7 +11,6 @@ ghost use Rattle.matching.specs.Quals.{anchor_of, lead_number, pattern_in};
 use super::Quals;
 use leads::Leads;
 use taking::{Found, Way};
-use wordset::WordSet;
 
 // What the qualifiers ask for.
 fn way_of(q: Quals) -> Way
@@ -35,14 +34,14 @@ fn way_of(q: Quals) -> Way
 
 // The part of the text from start to end that the pattern takes.
 pub fn find_pattern(
-    set: &WordSet,
+    set: &[u32],
     line: &[u8],
     start: usize,
     end: usize,
     q: Quals,
     s: &[u8],
 ) -> Option<Found>
-    requires { (start ≤ end) × (end ≤ length line.now) × (length line.now ≤ 255) × (length s.now ≤ 255) × ((pat : Pattern) × Reads s.now pat × (q.count ≡ lead_number (leads_of pat))) }
+    requires { (3 ≤ length set.now) × (start ≤ end) × (end ≤ length line.now) × (length line.now ≤ 255) × (length s.now ≤ 255) × ((pat : Pattern) × Reads s.now pat × (q.count ≡ lead_number (leads_of pat))) }
     ensures { (pat : Pattern) → Reads s.now pat → found_of result ≡ pattern_in (in_set set.now 0) q pat line.now (text start end) }
 {
     let leads = Leads {

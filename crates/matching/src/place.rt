@@ -4,12 +4,11 @@ ghost use Rattle.definitions.specs.Matching.{stands_first, is_apart, stands_at};
 ghost use Rattle.wordset.specs.Sets.{in_set};
 
 use text::upper;
-use wordset::WordSet;
 use wordset::beside::{is_free_at, is_free_before};
 
 // No byte of the set stands before i or at j, in the whole line.
-fn apart(set: &WordSet, line: &[u8], i: usize, j: usize) -> bool
-    requires { i ≤ length line.now }
+fn apart(set: &[u32], line: &[u8], i: usize, j: usize) -> bool
+    requires { (3 ≤ length set.now) × (i ≤ length line.now) }
     ensures { result ≡ is_apart (in_set set.now 0) true line.now i j }
 {
     is_free_before(set, line, i) && is_free_at(set, line, j)
@@ -53,8 +52,8 @@ fn starts(line: &[u8], s: &[u8], at: usize, fold: bool) -> bool
 }
 
 // The string occurs in the line at `at`, as W and U ask, where the bytes of the set count for W.
-pub fn stands(set: &WordSet, line: &[u8], s: &[u8], at: usize, word: bool, fold: bool) -> bool
-    requires { at + length s.now ≤ length line.now }
+pub fn stands(set: &[u32], line: &[u8], s: &[u8], at: usize, word: bool, fold: bool) -> bool
+    requires { (3 ≤ length set.now) × (at + length s.now ≤ length line.now) }
     ensures { result ≡ stands_at (in_set set.now 0) word fold s.now line.now at }
 {
     if !starts(line, s, at, fold) {

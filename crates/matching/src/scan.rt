@@ -9,7 +9,6 @@ use super::place::stands;
 use scans::{Kind, past_long};
 use taking::Found;
 use text::upper;
-use wordset::WordSet;
 
 // The next place up to `top` where the string's first byte stands; `top` where none is before it.
 fn next_place(line: &[u8], s: &[u8], at: usize, top: usize, fold: bool) -> usize
@@ -27,7 +26,7 @@ fn next_place(line: &[u8], s: &[u8], at: usize, top: usize, fold: bool) -> usize
 
 // The counted occurrence in the text from start to end, from the left. A place is first looked at by the string's first byte alone.
 pub fn from_left(
-    set: &WordSet,
+    set: &[u32],
     line: &[u8],
     s: &[u8],
     start: usize,
@@ -36,7 +35,7 @@ pub fn from_left(
     word: bool,
     fold: bool,
 ) -> Option<Found>
-    requires { (start + length s.now ≤ end) × (end ≤ length line.now) }
+    requires { (3 ≤ length set.now) × (start + length s.now ≤ end) × (end ≤ length line.now) }
     ensures { found_of result ≡ with_width (length s.now) (counted (stands_at (in_set set.now 0) word fold s.now line.now) (length s.now) count false (text start end)) }
 {
     let top = end - s.len();
@@ -69,7 +68,7 @@ pub fn from_left(
 
 // The counted occurrence in the text from start to end, from the right.
 pub fn from_right(
-    set: &WordSet,
+    set: &[u32],
     line: &[u8],
     s: &[u8],
     start: usize,
@@ -78,7 +77,7 @@ pub fn from_right(
     word: bool,
     fold: bool,
 ) -> Option<Found>
-    requires { (start + length s.now ≤ end) × (end ≤ length line.now) }
+    requires { (3 ≤ length set.now) × (start + length s.now ≤ end) × (end ≤ length line.now) }
     ensures { found_of result ≡ with_width (length s.now) (counted (stands_at (in_set set.now 0) word fold s.now line.now) (length s.now) count true (text start end)) }
 {
     // how many places an occurrence takes up

@@ -8,7 +8,6 @@ ghost use Rattle.matching.specs.Quals.{qualifiers_of};
 ghost use Rattle.matching.specs.Words.{flags_of, first_word, second_word, string_words, led_in, Writable, Encodes, HasQuals, Readable, flags_at, start_at, length_at, columns_at, quals_at, string_at, end_at, onward};
 
 use super::{Quals, matches_line};
-use wordset::WordSet;
 
 // The word of the columns; 0 where none are given.
 fn columns_at(words: &[u32], k: usize, flags: u32) -> u32
@@ -70,15 +69,8 @@ pub fn length_at(words: &[u32], k: usize) -> usize
 }
 
 // Does the string at k match the line, with the window from p.
-fn string_holds(
-    script: &[u8],
-    words: &[u32],
-    k: usize,
-    set: &WordSet,
-    line: &[u8],
-    p: usize,
-) -> bool
-    requires { Readable script.now words.now k × (p ≤ length line.now) × (length line.now ≤ 255) }
+fn string_holds(script: &[u8], words: &[u32], k: usize, set: &[u32], line: &[u8], p: usize) -> bool
+    requires { Readable script.now words.now k × (3 ≤ length set.now) × (p ≤ length line.now) × (length line.now ≤ 255) }
     ensures { result ≡ matches (in_set set.now 0) (string_at script.now words.now k) p line.now }
 {
     let q = quals_at(words, k);
@@ -112,11 +104,11 @@ pub fn holds(
     words: &[u32],
     k: usize,
     m: usize,
-    set: &WordSet,
+    set: &[u32],
     line: &[u8],
     p: usize,
 ) -> bool
-    requires { ((se : Search) × Encodes script.now words.now k m se) × (p ≤ length line.now) × (length line.now ≤ 255) }
+    requires { ((se : Search) × Encodes script.now words.now k m se) × (3 ≤ length set.now) × (p ≤ length line.now) × (length line.now ≤ 255) }
     ensures { (se : Search) → Encodes script.now words.now k m se → result ≡ «holds_of» (in_set set.now 0) se p line.now }
 {
     let mut at = k;

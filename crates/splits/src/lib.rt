@@ -15,7 +15,6 @@ ghost use Rattle.changes.specs.Current.{sought, PerformsTold, HasLine, Completes
 
 use editor::{Editor, Stop};
 use matching::Quals;
-use wordset::WordSet;
 
 // The current line, which reads `line`, is cut after k bytes: these are inserted before it, the rest is its text, and p is 0. The room is tested
 // for both records before one of them is written.
@@ -51,7 +50,7 @@ fn cut_here(table: &[u8], ed: &mut Editor<'_>, k: usize) -> Result<(), Stop>
 
 // SA (after), SB: the line is cut after or before the string. The bytes of the set count for W.
 pub fn split(
-    set: &WordSet,
+    set: &[u32],
     table: &[u8],
     ed: &mut Editor<'_>,
     after: bool,
@@ -60,7 +59,7 @@ pub fn split(
     from: usize,
     to: usize,
 ) -> Result<(), Stop>
-    requires { IsReady table.now ed.old.journal.now ed.old.st × (from ≤ to) × (to ≤ length script.now) × (to ≤ from + 255) × Formed q (part from to script.now) }
+    requires { (3 ≤ length set.now) × IsReady table.now ed.old.journal.now ed.old.st × (from ≤ to) × (to ≤ length script.now) × (to ≤ from + 255) × Formed q (part from to script.now) }
     ensures { Does (λ j st. PerformsTold (in_set set.now 0) table.now j st (Op.split after (sought q script.now from to))) ed.old ed.new result }
 {
     let (i, n) = changes::look::match_here(set, table, ed, q, script, from, to)?;

@@ -13,7 +13,6 @@ ghost use Rattle.taking.specs.Walking.{AtPlace};
 use leads::{Leads, leads_with, next_lead};
 use marks::idle::is_idle;
 use marks::{NEVER, sweep};
-use wordset::WordSet;
 use wordset::beside::{is_free_at, is_free_before};
 
 // What is asked for: B or P (from the left end of the text), E or P (up to its right end), L, W.
@@ -40,8 +39,8 @@ struct Best {
 }
 
 // The place i, where a match may begin there; else NEVER.
-fn entering(set: &WordSet, line: &[u8], start: usize, i: usize, way: Way) -> u16
-    requires { (i ≤ length line.now) × (length line.now ≤ 255) }
+fn entering(set: &[u32], line: &[u8], start: usize, i: usize, way: Way) -> u16
+    requires { (3 ≤ length set.now) × (i ≤ length line.now) × (length line.now ≤ 255) }
     ensures { result ≡ enter_at (in_set set.now 0) way line.now start i }
 {
     if way.left {
@@ -59,7 +58,8 @@ fn entering(set: &WordSet, line: &[u8], start: usize, i: usize, way: Way) -> u16
 }
 
 // May a match end at i.
-fn may_end(set: &WordSet, line: &[u8], end: usize, i: usize, way: Way) -> bool
+fn may_end(set: &[u32], line: &[u8], end: usize, i: usize, way: Way) -> bool
+    requires { 3 ≤ length set.now }
     ensures { result ≡ ends_at (in_set set.now 0) way line.now end i }
 {
     if way.right {
@@ -116,7 +116,7 @@ fn is_settled(best: Best, last: bool) -> bool
 
 // The walk at place i, b being the byte there: the marks move, and a match that ends here may be better.
 fn at_place(
-    set: &WordSet,
+    set: &[u32],
     line: &[u8],
     start: usize,
     end: usize,
@@ -127,7 +127,7 @@ fn at_place(
     best: Best,
     marks: &mut [u16],
 ) -> Best
-    requires { (i ≤ length line.now) × (length line.now ≤ 255) × ((p : Pattern) × Reads pattern.now p × (slots p ≤ length marks.old)) }
+    requires { (3 ≤ length set.now) × (i ≤ length line.now) × (length line.now ≤ 255) × ((p : Pattern) × Reads pattern.now p × (slots p ≤ length marks.old)) }
     ensures { (p : Pattern) → Reads pattern.now p → AtPlace (in_set set.now 0) way line.now start end i b p best marks.old marks.new result }
 {
     let enter = entering(set, line, start, i, way);
@@ -140,7 +140,7 @@ fn at_place(
 
 // The walk over the line from `start` to `end`, from no marks on. While no match is begun, the bytes that none can begin with are passed at once.
 fn walk_line(
-    set: &WordSet,
+    set: &[u32],
     leads: Leads,
     line: &[u8],
     start: usize,
@@ -149,7 +149,7 @@ fn walk_line(
     way: Way,
     marks: &mut [u16],
 ) -> Option<Found>
-    requires { (start ≤ end) × (end ≤ length line.now) × (length line.now ≤ 255) × (length pattern.now ≤ 255) × (marks.old ≡ no_marks 256) × ((p : Pattern) × Reads pattern.now p × (leads ≡ leads_of p)) }
+    requires { (3 ≤ length set.now) × (start ≤ end) × (end ≤ length line.now) × (length line.now ≤ 255) × (length pattern.now ≤ 255) × (marks.old ≡ no_marks 256) × ((p : Pattern) × Reads pattern.now p × (leads ≡ leads_of p)) }
     ensures { (p : Pattern) → Reads pattern.now p → found_of result ≡ taken (anchor_of way) way.last (stands_in (in_set set.now 0) way.word p line.now) (text start end) }
 {
     let mut best = Best {
@@ -181,7 +181,7 @@ fn walk_line(
 // The part of the line from `start` to `end` that the pattern takes, where the bytes of the set count for W. The leads are the bytes that a match can
 // begin with.
 pub fn find(
-    set: &WordSet,
+    set: &[u32],
     leads: Leads,
     line: &[u8],
     start: usize,
@@ -189,7 +189,7 @@ pub fn find(
     pattern: &[u8],
     way: Way,
 ) -> Option<Found>
-    requires { (start ≤ end) × (end ≤ length line.now) × (length line.now ≤ 255) × (length pattern.now ≤ 255) × ((p : Pattern) × Reads pattern.now p × (leads ≡ leads_of p)) }
+    requires { (3 ≤ length set.now) × (start ≤ end) × (end ≤ length line.now) × (length line.now ≤ 255) × (length pattern.now ≤ 255) × ((p : Pattern) × Reads pattern.now p × (leads ≡ leads_of p)) }
     ensures { (p : Pattern) → Reads pattern.now p → found_of result ≡ taken (anchor_of way) way.last (stands_in (in_set set.now 0) way.word p line.now) (text start end) }
 {
     let mut marks = [NEVER; 256];

@@ -3,7 +3,7 @@ ghost use Rattle.std.specs.Prelude.{◌≡◌, not, ◌≤◌, length, get_or};
 ghost use Rattle.definitions.specs.Matching.{byte_before};
 ghost use Rattle.wordset.specs.Sets.{in_set};
 
-use super::{WordSet, is_in};
+use super::is_in;
 
 // The byte before i; 0 at the line's start.
 fn byte_before(line: &[u8], i: usize) -> u8
@@ -24,15 +24,16 @@ fn byte_at(line: &[u8], i: usize) -> u8
 }
 
 // No byte of the set stands before i in the line.
-pub fn is_free_before(set: &WordSet, line: &[u8], i: usize) -> bool
-    requires { i ≤ length line.now }
+pub fn is_free_before(set: &[u32], line: &[u8], i: usize) -> bool
+    requires { (3 ≤ length set.now) × (i ≤ length line.now) }
     ensures { result ≡ not (in_set set.now 0 (byte_before line.now i)) }
 {
     !is_in(set, byte_before(line, i))
 }
 
 // No byte of the set stands at i in the line.
-pub fn is_free_at(set: &WordSet, line: &[u8], i: usize) -> bool
+pub fn is_free_at(set: &[u32], line: &[u8], i: usize) -> bool
+    requires { 3 ≤ length set.now }
     ensures { result ≡ not (in_set set.now 0 (get_or line.now i 0)) }
 {
     !is_in(set, byte_at(line, i))

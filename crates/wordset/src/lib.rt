@@ -14,7 +14,8 @@ ghost use Rattle.wordset.specs.Decoding.{first_words, with_byte, with_bytes, nam
 pub type WordSet = [u32; 3];
 
 // Is the byte in the set.
-pub fn is_in(set: &WordSet, b: u8) -> bool
+pub fn is_in(set: &[u32], b: u8) -> bool
+    requires { 3 ≤ length set.now }
     ensures { result ≡ in_set set.now 0 b }
 {
     if b < 32 {

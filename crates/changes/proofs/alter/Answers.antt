@@ -9,11 +9,11 @@ use Rattle.changes.proofs.alter.Goals as goal
 
 pub match_here-requires : goal.match_here-requires
 match_here-requires c = let w = c.requires in
-    (w.0, w.1.first, w.1.inside, w.2, w.3)
+    (w.0, w.1, w.2.first, w.2.inside, w.3, w.4)
 
 pub alter_at-requires : goal.alter_at-requires
-alter_at-requires c = let w = c.requires.1 in
-    (has-match (in_set c.args.set.now 0) (sought c.args.q c.args.script.now c.args.from c.args.to) _ c.match_here.ensures _ _ c.in_ok-i.was c.requires.0, omega (arith, part_length c.args.script.now c.args.start c.args.end w.within, w.short), w.text)
+alter_at-requires c = let w = c.requires.2 in
+    (has-match (in_set c.args.set.now 0) (sought c.args.q c.args.script.now c.args.from c.args.to) _ c.match_here.ensures _ _ c.in_ok-i.was c.requires.1, omega (arith, part_length c.args.script.now c.args.start c.args.end w.within, w.short), w.text)
 
 pub returns-in_err-i : goal.returns-in_err-i
 returns-in_err-i c = record {

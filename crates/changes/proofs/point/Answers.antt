@@ -7,7 +7,7 @@ use Rattle.changes.proofs.Commands.{has-match, has_short, point-stop, point-foun
 use Rattle.changes.proofs.point.Goals as goal
 
 pub point_by-ed-requires : goal.point_by-ed-requires
-point_by-ed-requires c = has_short (has-match (in_set c.args.set.now 0) (sought c.args.q c.args.script.now c.args.from c.args.to) _ c.match_here.ensures _ _ c.in_ok-i.was c.requires.0)
+point_by-ed-requires c = has_short (has-match (in_set c.args.set.now 0) (sought c.args.q c.args.script.now c.args.from c.args.to) _ c.match_here.ensures _ _ c.in_ok-i.was c.requires.1)
 
 pub returns-in_err-i : goal.returns-in_err-i
 returns-in_err-i c = record {

@@ -3,7 +3,7 @@ use mathlib.Core.List.{List}
 use Prim.Native.Nat.{ℕ}
 use Rattle.definitions.specs.Given.{words_of}
 use Rattle.wordset.specs.Sets.{in_set}
-use Rattle.globals.proofs.Standing.{set-counts}
+use Rattle.globals.proofs.Standing.{set_long, set-counts}
 use Rattle.editor.proofs.CurrentText.{line-window, read_short}
 use Rattle.seeks.proofs.Finding.{reserve-in}
 use Rattle.seeks.proofs.Texts.{eof-holds, text-holds}
@@ -25,7 +25,7 @@ pub holds-requires : goal.holds-requires
 holds-requires c =
     let p = c.requires in
     let h = p.1.1.2 in
-    (p.1.0, line-window c.if-ed.false p.1.1.0 p.1.1.1 h.shows h.point _ (c.current_line-line.ensures p.1.1.0 p.1.1.1 h.shows h.old), read_short _ c.current_line-line.ensures (p.1.1.0, p.1.1.1, record { shows = h.shows; old = h.old }))
+    (p.1.0, set_long c.args.words.now (reserve-in _ _ p.0) _ c.word_set.ensures, line-window c.if-ed.false p.1.1.0 p.1.1.1 h.shows h.point _ (c.current_line-line.ensures p.1.1.0 p.1.1.1 h.shows h.old), read_short _ c.current_line-line.ensures (p.1.1.0, p.1.1.1, record { shows = h.shows; old = h.old }))
 
 pub returns : goal.returns
 returns c =

@@ -8,11 +8,11 @@ use Rattle.splits.proofs.split.Goals as goal
 
 pub point_by-requires : goal.point_by-requires
 point_by-requires c =
-    has_short (has-match (in_set c.args.set.now 0) (sought c.args.q c.args.script.now c.args.from c.args.to) _ c.match_here.ensures _ _ c.in_ok-i.was c.requires.0)
+    has_short (has-match (in_set c.args.set.now 0) (sought c.args.q c.args.script.now c.args.from c.args.to) _ c.match_here.ensures _ _ c.in_ok-i.was c.requires.1)
 
 pub cut_here-requires : goal.cut_here-requires
 cut_here-requires c =
-    has-cut (in_set c.args.set.now 0) (sought c.args.q c.args.script.now c.args.from c.args.to) _ c.match_here.ensures _ _ _ c.in_ok-i.was _ c.point_by.ensures c.requires.0
+    has-cut (in_set c.args.set.now 0) (sought c.args.q c.args.script.now c.args.from c.args.to) _ c.match_here.ensures _ _ _ c.in_ok-i.was _ c.point_by.ensures c.requires.1
 
 pub returns-in_err-i : goal.returns-in_err-i
 returns-in_err-i c =

@@ -6,4 +6,4 @@ pub walk_line-requires : goal.walk_line-requires
 unfolding no_marks never
 walk_line-requires c =
     let pre = c.requires in
-    (pre.0, pre.1, pre.2, pre.3, refl, pre.4)
+    (pre.0, pre.1, pre.2, pre.3, pre.4, refl, pre.5)

@@ -6,12 +6,12 @@ use Rattle.taking.proofs.walk_line.Goals as goal
 pub loop-i-init : goal.loop-i-init
 loop-i-init c =
     let pre = c.requires in
-    passes (begins (record { from = pre.0; inside = pre.1; short = pre.2; few = pre.3; pattern = pre.5 }) _ _ _ pre.4) pre.4 _ _ c.next_lead-i.ensures
+    passes (begins (record { from = pre.1; inside = pre.2; short = pre.3; few = pre.4; pattern = pre.6 }) _ _ _ pre.5) pre.5 _ _ c.next_lead-i.ensures
 
 pub at_place-best-requires : goal.at_place-best-requires
 at_place-best-requires c =
     let pre = c.requires in
-    (omega arith, pre.2, marks-fit c.loop-i.invariant.come)
+    (pre.0, omega arith, pre.3, marks-fit c.loop-i.invariant.come)
 
 pub is_idle-idle-requires : goal.is_idle-idle-requires
 is_idle-idle-requires c =
@@ -26,7 +26,7 @@ answer-requires c =
 pub shape_of-marks-then-is_settled : goal.shape_of-marks-then-is_settled
 shape_of-marks-then-is_settled c =
     let gone = goes c.loop-i.invariant.come c.loop-i-test.true _ _ c.at_place-best.auto.marks c.at_place-best.ensures in
-    gone.size ∙ sym (none-size c.requires.4)
+    gone.size ∙ sym (none-size c.requires.5)
 
 pub returns-then-is_settled : goal.returns-then-is_settled
 returns-then-is_settled c =
@@ -53,7 +53,7 @@ pub answer-requires-then-not-leads_with : goal.answer-requires-then-not-leads_wi
 answer-requires-then-not-leads_with c = orders c.loop-i.invariant.come
 
 pub shape_of-marks-then-not-leads_with : goal.shape_of-marks-then-not-leads_with
-shape_of-marks-then-not-leads_with c = c.loop-i.invariant.come.size ∙ sym (none-size c.requires.4)
+shape_of-marks-then-not-leads_with c = c.loop-i.invariant.come.size ∙ sym (none-size c.requires.5)
 
 pub returns-then-not-leads_with : goal.returns-then-not-leads_with
 returns-then-not-leads_with c =
@@ -64,14 +64,14 @@ returns-then-not-leads_with c =
 pub at_place-best-requires-2 : goal.at_place-best-requires-2
 at_place-best-requires-2 c =
     let pre = c.requires in
-    (pre.1, pre.2, marks-fit c.loop-i.invariant.come)
+    (pre.0, pre.2, pre.3, marks-fit c.loop-i.invariant.come)
 
 pub answer-requires-2 : goal.answer-requires-2
 answer-requires-2 c =
     end-orders c.loop-i.invariant.come c.loop-i-test.false _ _ _ c.at_place-best-2.ensures
 
 pub shape_of-marks : goal.shape_of-marks
-shape_of-marks c = c.at_place-best-2.auto.marks ∙ c.loop-i.invariant.come.size ∙ sym (none-size c.requires.4)
+shape_of-marks c = c.at_place-best-2.auto.marks ∙ c.loop-i.invariant.come.size ∙ sym (none-size c.requires.5)
 
 pub returns : goal.returns
 returns c =

@@ -1,5 +1,6 @@
 use mathlib.Core.Path.{sym, ◌∙◌}
 use native.Mathlib.Omega.{arith}
+use Rattle.globals.proofs.Standing.{set_long}
 use Rattle.commands.proofs.Performed.{words-room}
 use Rattle.commands.proofs.Strings.{aims-read, string-fits, points-as, splits-as}
 use Rattle.commands.proofs.qualified.aims.Goals as goal
@@ -24,14 +25,14 @@ word_set-set-requires c = words-room c.requires.1
 
 pub split-requires : goal.split-requires
 split-requires c = let fits = string-fits _ _ _ (aims-read _ _ _ _ c.requires.3 c.requires.4 c.requires.0) _ _ _ c.quals_at-q.ensures c.start_at-from.ensures c.length_at.ensures in
-    (c.requires.2, omega arith, fits.0, fits.1, fits.2)
+    (set_long c.args.w.now (words-room c.requires.1) _ c.word_set-set.ensures, c.requires.2, omega arith, fits.0, fits.1, fits.2)
 
 pub returns-then-is_split : goal.returns-then-is_split
 returns-then-is_split c = record { keeps = c.split.ensures.keeps; long = c.split.ensures.long; does = splits-as _ _ _ _ c.requires.3 _ _ _ _ _ _ _ _ c.quals_at-q.ensures c.start_at-from.ensures c.length_at.ensures _ c.word_set-set.ensures c.requires.4 (sym c.is_split.ensures ∙ c.if-is_split.true) c.split.ensures.does }
 
 pub point-requires : goal.point-requires
 point-requires c = let fits = string-fits _ _ _ (aims-read _ _ _ _ c.requires.3 c.requires.4 c.requires.0) _ _ _ c.quals_at-q.ensures c.start_at-from.ensures c.length_at.ensures in
-    (c.requires.2, omega arith, fits.0, fits.1, fits.2)
+    (set_long c.args.w.now (words-room c.requires.1) _ c.word_set-set.ensures, c.requires.2, omega arith, fits.0, fits.1, fits.2)
 
 pub returns : goal.returns
 returns c = record {

@@ -1,4 +1,5 @@
 use native.Mathlib.Omega.{arith}
+use Rattle.globals.proofs.Standing.{set_long}
 use Rattle.commands.proofs.Performed.{words-room}
 use Rattle.commands.proofs.Strings.{alters-read, string-fits, second-there, second-good, strings-in, alters-as}
 use Rattle.commands.proofs.qualified.alters.Goals as goal
@@ -36,7 +37,7 @@ word_set-requires c = words-room c.requires.1
 pub alter-requires : goal.alter-requires
 alter-requires c = let fits = string-fits _ _ _ (alters-read _ _ _ _ c.requires.3 c.requires.4 c.requires.5 c.requires.0) _ _ _ c.quals_at-q.ensures c.start_at-from.ensures c.length_at.ensures in
     let good = second-good _ _ _ _ c.requires.3 c.requires.4 c.requires.5 _ c.end_at.ensures _ c.string_start-start.ensures _ c.string_length.ensures c.requires.0 in
-    (c.requires.2, strings-in _ _ _ _ _ fits.0 good, fits.1, fits.2)
+    (set_long c.args.w.now (words-room c.requires.1) _ c.word_set.ensures, c.requires.2, strings-in _ _ _ _ _ fits.0 good, fits.1, fits.2)
 
 pub returns : goal.returns
 returns c = record {

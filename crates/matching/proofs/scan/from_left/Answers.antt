@@ -9,7 +9,7 @@ pub loop-start-init : goal.loop-start-init
 loop-start-init c = left-begins _ _ _ _ _ _ _ _ (search rules)
 
 pub stands-requires : goal.stands-requires
-stands-requires c = omega (arith, left-inside _ _ _ _ _ _ _ _ _ _ _ c.loop-start.invariant c.next_place-i.ensures c.requires.0)
+stands-requires c = omega (arith, left-inside _ _ _ _ _ _ _ _ _ _ _ c.loop-start.invariant c.next_place-i.ensures c.requires.1)
 
 pub returns-then-k-le1 : goal.returns-then-k-le1
 returns-then-k-le1 c = left-found _ _ _ _ _ _ _ _ _ _ _ c.loop-start.invariant c.next_place-i.ensures c.if-k-le1.true (sym c.stands.ensures ∙ c.if-stands.true)

@@ -9,7 +9,7 @@ pub loop-start-init : goal.loop-start-init
 loop-start-init c = right-begins _ _ _ _ _ _ _ _ (search rules)
 
 pub stands-requires : goal.stands-requires
-stands-requires c = omega (arith, right-inside _ _ _ _ _ _ _ _ _ _ c.loop-start.invariant c.requires.0)
+stands-requires c = omega (arith, right-inside _ _ _ _ _ _ _ _ _ _ c.loop-start.invariant c.requires.1)
 
 pub returns-then-k-le1 : goal.returns-then-k-le1
 returns-then-k-le1 c = right-found _ _ _ _ _ _ _ _ _ _ c.loop-start.invariant c.if-k-le1.true (sym c.stands.ensures ∙ c.if-stands.true)

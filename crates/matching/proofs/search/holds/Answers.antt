@@ -10,7 +10,7 @@ loop-at-init c = begins (line-tested _ _ _ _ _) c.requires.0.0 c.requires.0.1
 pub string_holds-truth-requires : goal.string_holds-truth-requires
 string_holds-truth-requires c =
     let pre = c.requires in
-    ((reads c.loop-at.invariant c.loop-at-test.true c.if-words-at-eq0.true).0, pre.1, pre.2)
+    ((reads c.loop-at.invariant c.loop-at-test.true c.if-words-at-eq0.true).0, pre.1, pre.2, pre.3)
 
 pub end_at-at-requires : goal.end_at-at-requires
 end_at-at-requires c =

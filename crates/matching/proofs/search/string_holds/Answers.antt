@@ -8,7 +8,7 @@ matches_line-requires c =
     let quals = c.quals_at-q.ensures in
     let starts = c.start_at-start.ensures in
     let lengths = c.length_at.ensures in
-    (pre.1, read-formed _ _ _ _ _ _ quals starts lengths pre.0.formed, pre.2, read_short _ _ _ _ _ _ quals starts lengths)
+    (pre.1, pre.2, read-formed _ _ _ _ _ _ quals starts lengths pre.0.formed, pre.3, read_short _ _ _ _ _ _ quals starts lengths)
 
 pub returns : goal.returns
 returns c =
