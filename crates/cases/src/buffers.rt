@@ -2,6 +2,8 @@
 ghost use Rattle.std.specs.Prelude.{◌≡◌, length, replicate};
 ghost use Rattle.cases.specs.Buffers.{all_are};
 
+use scans::{Kind, past_long};
+
 // Sets each byte to 7.
 pub fn fill(s: &mut [u8])
     ensures { s.new ≡ replicate (length s.old) 7 }
@@ -9,9 +11,9 @@ pub fn fill(s: &mut [u8])
     s.fill(7);
 }
 
-// Whether each byte is `b`.
+// Whether each byte is `b`: eight bytes at a time, as the buffers are long. `all` looks at one after the other, and each waits for the one before.
 pub fn all_are(s: &[u8], b: u8) -> bool
     ensures { result ≡ all_are b s.now }
 {
-    s.iter().all(|x| *x == b)
+    past_long(s, 0, s.len(), Kind::Only(b)) == s.len()
 }

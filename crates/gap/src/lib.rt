@@ -18,7 +18,7 @@ pub fn shift_down(j: &mut [u8], f: usize, b: usize, n: usize)
     requires { (f ≤ b) × (b + n ≤ length j.old) × ZeroGap f b j.old }
     ensures { j.new ≡ moved_down f b n j.old }
 {
-    j.copy_within(b..b + n, f);
+    text::copies::copy_down(j, f, b, n);
     // Where they stood, those that are not written over are cleared: no more than the gap is wide.
     let k = n.min(b - f);
     clear(j, b + n - k, k);
@@ -30,7 +30,7 @@ pub fn shift_up(j: &mut [u8], lo: usize, f: usize, b: usize)
     ensures { j.new ≡ moved_up lo f b j.old }
 {
     let n = f - lo;
-    j.copy_within(lo..f, b - n);
+    text::copies::copy_up(j, b - n, lo, n);
     let k = n.min(b - f);
     clear(j, lo, k);
 }

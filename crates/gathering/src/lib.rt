@@ -22,7 +22,7 @@ fn gather_short(s: &mut [u8]) -> usize
         let e = text::feeds::line_after(s, at);
         let n = e - at;
         if s[at] == b'-' {
-            s.copy_within(at..e, p);
+            text::copies::copy_down(s, p, at, n);
             p += n;
         } else {
             text::copies::copy_in(&mut others, at - p, s, at, n);

@@ -38,10 +38,12 @@ pub fn past(s: &[u8], at: usize, end: usize, kind: Kind) -> usize
     requires { (at ≤ end) × (end ≤ length s.now) }
     ensures { (result ≡ at + leading (is_of kind) (end - at) (drop at s.now)) × (result ≤ end) }
 {
-    match s[at..end].iter().position(|b| !is_of(kind, *b)) {
-        Some(i) => at + i,
-        None => end,
+    for i in at..end {
+        if !is_of(kind, s[i]) {
+            return i;
+        }
     }
+    end
 }
 
 // Whether bytes are all of a kind. No way leads out of the fold, so that eight are looked at at once.

@@ -1,5 +1,4 @@
--- Bytes written over others, `paste d at s n`, a piece at a time: by way of other bytes, on, downward and upward. No function of this repository copies so
--- (std's `copy_from_slice` and `copy_within` write all at once); the laws are for one that does. Assumes nothing.
+-- Bytes written over others, `paste d at s n`, a piece at a time: by way of other bytes, on, downward and upward. Assumes nothing.
 use Rattle.std.proofs.Common.{◌≡◌, ℕ, ◌+◌, ◌-◌, ◌≤◌, List, ◌++◌, length, take, drop, sym, ap, ◌∙◌, append_assoc, zero-add, arith, length-drop, take-append-drop, length-take-le, take-take, drop-drop, take-add, drop_at}
 use lib.Seq.{paste, take-paste, drop-paste, take-append-le, drop-append-le}
 

@@ -1,6 +1,5 @@
 -- `gap::shift_down` meets its contract: the bytes are copied down, and those of them that are left are cleared. Assumes nothing.
-use mathlib.Core.Path.{◌≡◌, ◌∙◌}
-use Prim.Native.Nat.{◌+◌, ◌-◌}
+use mathlib.Core.Path.{◌∙◌}
 use native.Mathlib.Omega.{arith}
 use Rattle.gap.proofs.Laws.{down-copied}
 use Rattle.gap.proofs.shift_down.Goals as goal
@@ -9,5 +8,4 @@ pub returns : goal.returns
 returns c =
     let a = c.args in
     let k = c.min-k in
-    let wide : a.b + a.n - a.b ≡ a.n = omega arith in
-    c.clear.ensures ∙ rw (c.copy_within.ensures.after, wide) (down-copied a.j.now a.f a.b a.n k.result (omega arith) (omega arith) c.requires.2 k.ensures)
+    c.clear.ensures ∙ rw c.copy_down.ensures (down-copied a.j.now a.f a.b a.n k.result (omega arith) (omega arith) c.requires.2 k.ensures)

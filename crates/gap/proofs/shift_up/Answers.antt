@@ -8,4 +8,4 @@ pub returns : goal.returns
 returns c =
     let a = c.args in
     let k = c.min-k in
-    c.clear.ensures ∙ rw c.copy_within.ensures.after (up-copied a.j.now a.lo a.f a.b k.result (omega arith) (omega arith) (omega arith) c.requires.3 k.ensures)
+    c.clear.ensures ∙ rw c.copy_up.ensures (up-copied a.j.now a.lo a.f a.b k.result (omega arith) (omega arith) (omega arith) c.requires.3 k.ensures)

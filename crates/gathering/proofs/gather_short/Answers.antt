@@ -13,24 +13,21 @@ overflow_sub-n c = let h = (line-inside _ _ _ _ _ _ c.loop-at.invariant (omega a
 pub overflow_add-p : goal.overflow_add-p
 overflow_add-p c = let h = (line-inside _ _ _ _ _ _ c.loop-at.invariant (omega arith) c.line_after-e.ensures) in omega arith
 
-pub copy_within-requires-clause-in_bounds : goal.copy_within-requires-clause-in_bounds
-copy_within-requires-clause-in_bounds c = let h = (line-inside _ _ _ _ _ _ c.loop-at.invariant (omega arith) c.line_after-e.ensures) in omega arith
-
-pub copy_within-requires-clause-dest_in_bounds : goal.copy_within-requires-clause-dest_in_bounds
-copy_within-requires-clause-dest_in_bounds c = let h = (line-inside _ _ _ _ _ _ c.loop-at.invariant (omega arith) c.line_after-e.ensures) in omega arith
+pub copy_down-requires : goal.copy_down-requires
+copy_down-requires c = let h = (line-inside _ _ _ _ _ _ c.loop-at.invariant (omega arith) c.line_after-e.ensures) in (omega arith, omega arith)
 
 pub copy_in-requires : goal.copy_in-requires
 copy_in-requires c = let h = (line-inside _ _ _ _ _ _ c.loop-at.invariant (omega arith) c.line_after-e.ensures) in (omega arith, omega arith)
 
 pub loop-at-smaller-then-s-at-eq45 : goal.loop-at-smaller-then-s-at-eq45
-loop-at-smaller-then-s-at-eq45 c = let h = (line-inside _ _ _ _ _ _ c.loop-at.invariant (omega arith) c.line_after-e.ensures) in omega (arith, c.copy_within.auto.self)
+loop-at-smaller-then-s-at-eq45 c = let h = (line-inside _ _ _ _ _ _ c.loop-at.invariant (omega arith) c.line_after-e.ensures) in omega (arith, c.copy_down.auto.d)
 
 pub loop-at-preserved-then-s-at-eq45 : goal.loop-at-preserved-then-s-at-eq45
 loop-at-preserved-then-s-at-eq45 c =
     let l = c.loop-at in
     let e = c.line_after-e.ensures in
-    let d = c.copy_within in
-    passed-minus _ l.s _ l.p l.at _ l.invariant (omega arith) e _ c.if-s-at-eq45.true d.ensures.after d.auto.self
+    let d = c.copy_down in
+    passed-minus _ l.s _ l.p l.at _ l.invariant (omega arith) e _ c.if-s-at-eq45.true d.ensures d.auto.d
 
 pub loop-at-smaller : goal.loop-at-smaller
 loop-at-smaller c = let h = (line-inside _ _ _ _ _ _ c.loop-at.invariant (omega arith) c.line_after-e.ensures) in omega arith

@@ -1,24 +1,26 @@
 -- `scans::past` meets its contract. Assumes nothing.
-use Rattle.std.proofs.Common.{◌≡◌, ℕ, ◌-◌, ◌<◌, true, false, get_or, arith, rules}
-use borrow.Author.Tests.{tests}
+use Rattle.std.proofs.Common.{◌≡◌, sym, ◌∙◌, arith}
 use Rattle.scans.specs.Leading.{is_of}
-use Rattle.text.specs.Lines.{part}
-use Rattle.scans.proofs.Runs.{reach-at, reach-all}
+use Rattle.scans.proofs.Runs.{reach-end, reach-stop, reach-on}
 use Rattle.scans.proofs.past.Goals as goal
 
-pub returns-in-Some : goal.returns-in-Some
-returns-in-Some c =
+pub returns-then-not-is_of : goal.returns-then-not-is_of
+returns-then-not-is_of c =
+    let l = c.loop-i in
     let a = c.args in
-    let s = a.s.now in
-    let i = c.in-Some.i in
-    let more : i < a.end - a.at = search rules in
-    let stop : is_of a.kind (get_or (part a.at a.end s) i 0) ≡ false = search (rules, tests) in
-    let all : (k : ℕ) → k < i → is_of a.kind (get_or (part a.at a.end s) k 0) ≡ true = search (rules, tests) in
-    (reach-at (is_of a.kind) s a.at a.end c.requires.0 c.requires.1 i more stop all, omega arith)
+    let e = sym c.is_of.ensures ∙ c.if-not-is_of.true in
+    (sym (l.invariant ∙ reach-stop (is_of a.kind) a.s.now l.i a.end (omega arith) (omega arith) e), omega arith)
 
-pub returns-in-None : goal.returns-in-None
-returns-in-None c =
+pub loop-i-preserved : goal.loop-i-preserved
+loop-i-preserved c =
+    let l = c.loop-i in
     let a = c.args in
-    let s = a.s.now in
-    let all : (k : ℕ) → k < a.end - a.at → is_of a.kind (get_or (part a.at a.end s) k 0) ≡ true = search (rules, tests) in
-    (reach-all (is_of a.kind) s a.at a.end c.requires.0 c.requires.1 all, omega arith)
+    let e = sym c.is_of.ensures ∙ c.if-not-is_of.false in
+    l.invariant ∙ reach-on (is_of a.kind) a.s.now l.i a.end (omega arith) (omega arith) e
+
+pub returns : goal.returns
+returns c =
+    let l = c.loop-i in
+    let a = c.args in
+    let done : l.i ≡ a.end = omega arith in
+    (sym (l.invariant ∙ reach-end (is_of a.kind) a.s.now l.i a.end (omega arith) ∙ done), omega arith)
