@@ -23,7 +23,7 @@ use Rattle.definitions.specs.Script.{Script, items, refused_at, read_script}
 use Rattle.definitions.specs.Run.{End, end, run, run_items, Answer, answer, refusal, rest_passed, in_run_order, arranged, answer_of, ran_items, opening_length, work_length, ran_table, ran_script, run_answer, answer_number, answer_steps, answer_furthest, answer_place, answer_length, buffer_after, outcome_from, outcome_of}
 use Rattle.theorems.proofs.GoodScripts.{good-commands}
 use Rattle.theorems.specs.JournalBytes.{lines-back}
-use Rattle.std.specs.Prelude.{Ok, Err}
+use Rattle.std.specs.Prelude.{Ok}
 use Rattle.answers.specs.declared.Refusal.{Refusal}
 use Rattle.answers.specs.Answers.{number_of}
 use Rattle.script.specs.Reading.{ScriptRead}

@@ -190,8 +190,9 @@ pub fn run(table: &[u8], script: &[u8], budget: u32, work: &mut [u32], journal: 
             place: 0,
         };
     }
-    match script::read_script(script, work) {
-        Ok(end) => run_decoded(table, script, budget as usize, work, end, journal),
-        Err(refusal) => refused(refusal),
-    }
+    let decoded = script::read_script(script, work);
+    let Ok(end) = decoded else {
+        return refused(decoded.unwrap_err());
+    };
+    run_decoded(table, script, budget as usize, work, end, journal)
 }

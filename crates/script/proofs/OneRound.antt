@@ -12,18 +12,20 @@ use borrow.Author.Tests.{eqb-true, eqb-false}
 use Rattle.definitions.specs.Control.{Item, line_end}
 use Rattle.definitions.specs.Reader.{Cursor, Got, refused}
 use Rattle.definitions.specs.Commands.{Decoded}
-use Rattle.definitions.specs.Script.{Due, nothing, body, Group, reading, refused_at, more, done, bodies, closes, decoded, separator, line_items, script_end}
-use Rattle.std.specs.Prelude.{Result, Ok}
+use Rattle.definitions.specs.Script.{Due, nothing, body, Group, reading, refused_at, AfterRound, more, done, bodies, closes, decoded, separator, line_items, script_end}
+use Rattle.std.specs.Prelude.{Result, Ok, Err, Option, Some, None, MatchResult, IsOkAnd}
+use Rattle.std.specs.Result.{result_and}
+use Rattle.answers.specs.declared.Command.{Command}
 use Rattle.answers.specs.declared.Fault.TheVariants.{Argument, Bracket}
 use Rattle.answers.specs.declared.Read.{Read}
 use Rattle.answers.specs.declared.Refusal.{Refusal}
 use Rattle.answers.specs.declared.Follow.{Follow}
 use Rattle.answers.specs.declared.State.{State}
-use Rattle.answers.specs.Answers.{AnswerOr, read_as, refusal}
+use Rattle.answers.specs.Answers.{number_of, read_as, refusal}
 use Rattle.lexer.specs.Places.{cursor_at}
 use Rattle.items.specs.Kinds.{line_end_kind}
 use Rattle.items.specs.Words.{ItemAt, Closed}
-use Rattle.script.specs.Reading.{due_of, group_in, groups_in, bodies_in, reading_of, ReadSoFar, Unwritten, WholeIs, PrefixIs, CommandIs, Finished, OnwardRead}
+use Rattle.script.specs.Reading.{due_of, group_in, groups_in, bodies_in, reading_of, ReadSoFar, Unwritten, WholeIs, PrefixIs, CommandIs, CommandAt, CommandRead, Finished, OnwardRead, RoundRead}
 use Rattle.script.specs.Placed.{separated, ended}
 use Rattle.script.proofs.Keeping.{gather, in_order, acc_kept, groups-kept, bodies_kept, fits_kept, free, stands-kept, kept-all, kept_set}
 use Rattle.script.proofs.Affording.{affords-on, affords-line, affords-whole, affords-prefix, affords-all}
@@ -146,17 +148,16 @@ module _ (s w : List ℕ) (st : State) (at : ℕ) (acc : List Item) (h : ReadSoF
       go true z = passed next (eqb-true st.due 0 z) far within
       go false z = separator-missing (eqb-false st.due 0 z) acc (cursor_at s next)
 
-  abbrev Ended : Result (Unit {0}) Refusal → Type 0
-  Ended =
-      AnswerOr (λ u. Finished s w (done (script_end (due_of st.due st.elses) (groups_in w st.depth) acc at)) st.k)
-      (λ n p. done (script_end (due_of st.due st.elses) (groups_in w st.depth) acc at) ≡ done (refused_at n p))
+  -- of a round that began anywhere: it does not go on
+  abbrev Ended : ℕ → Result ℕ Refusal → Type 0
+  Ended from e = RoundRead s w st from (done (script_end (due_of st.due st.elses) (groups_in w st.depth) acc at)) (result_and e (Ok None))
 
-  pub end-gives : (r : Result (Unit {0}) Refusal) → r ≡ ended st at → Ended r
+  pub end-gives : (from : ℕ) (e : Result ℕ Refusal) → e ≡ ended st at → Ended from e
   unfolding ended
-  end-gives r e = rw e (go (eqb st.due 0) (eqb st.depth 0) refl refl)
+  end-gives from e is = rw is (go (eqb st.due 0) (eqb st.depth 0) refl refl)
     where
       go : (t u : Bool) → eqb st.due 0 ≡ t → eqb st.depth 0 ≡ u
-          → Ended (cond t (cond u (Ok tt) (refusal Bracket at)) (refusal Argument at))
+          → Ended from (cond t (cond u (Ok st.k) (refusal Bracket at)) (refusal Argument at))
       go false u z d = end-missing (eqb-false st.due 0 z)
       go true false z d = end-open (eqb-true st.due 0 z) (eqb-false st.depth 0 d)
       go true true z d = end-done (eqb-true st.due 0 z) (eqb-true st.depth 0 d)
@@ -206,6 +207,13 @@ module _ (s w : List ℕ) (st : State) (at : ℕ) (acc : List Item) (h : ReadSoF
   closes-room : (next m : ℕ) (x : Got Decoded) → WholeIs s w at st.k x next m → m + st.due ≤ length w
   closes-room next m x (i, e, l) = omega (arith, h.affords.room, h.deep, h.fits.work, h.inside, l.two, l.inside, l.passed)
 
+-- a round that does not end the script, and what it left
+pub some-comes : (s w : List ℕ) (st : State) (at : ℕ) (x : AfterRound) (r : Result (Read State) Refusal) (q : Result (Option (Read State)) Refusal)
+    → MatchResult r (λ y. IsOkAnd q (λ o. o ≡ Some y)) (λ e. q ≡ Err e) → OnwardRead s w at x r → RoundRead s w st at x q
+some-comes s w st at x (Ok y) (Ok o) e h = rw e h
+some-comes s w st at x (Ok y) (Err q) e h = absurd e
+some-comes s w st at x (Err r) q e h = rw e h
+
 -- a command that was read is whole, or a body must follow it
 pub whole_is : (s w : List ℕ) (place k : ℕ) (x : Got Decoded) (f : Follow) (next m : ℕ) → f ≡ Follow.Nothing → CommandIs s w place k x f next m → WholeIs s w place k x next m
 unfolding CommandIs
@@ -239,6 +247,15 @@ module _ (s w w' : List ℕ) (st : State) (at : ℕ) (acc : List Item) (x : Got 
         subst (λ (g : List Group). OnwardRead s w' at (decoded (due_of st.due st.elses) g acc x) (read_as (record { k = m; due = st.due + 1; elses = b; depth = st.depth }) next))
         groups-now (prefix-comes s w' st at acc (stands-kept s w w' st at acc kept h) x b next m is)
 
+-- a refusal is passed upward
 pub refused-up : (due : Due) (groups : List Group) (acc : List Item) (x : Got Decoded) (n p : ℕ) → x ≡ refused n p → decoded due groups acc x ≡ done (refused_at n p)
 unfolding decoded
 refused-up due groups acc x n p e = rw e
+
+-- what the reader of a command answered
+module _ (s before w : List ℕ) (at k : ℕ) (x : Got Decoded) (c : Result (Read Command) Refusal) (is : CommandRead s before w at k x c) where
+  pub command-read : (y : Read Command) → c ≡ Ok y → CommandAt s before w at k x y.value y.next
+  command-read y e = rw e at is
+
+  pub finish-refused : (due : Due) (groups : List Group) (acc : List Item) (r : Refusal) → c ≡ Err r → decoded due groups acc x ≡ done (refused_at (number_of r.fault) r.place)
+  finish-refused due groups acc r e = refused-up due groups acc x (number_of r.fault) r.place (rw e at is)

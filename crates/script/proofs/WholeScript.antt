@@ -10,7 +10,8 @@ use lib.ListN.{length}
 use Rattle.definitions.specs.Table.{is_script}
 use Rattle.definitions.specs.Control.{Item}
 use Rattle.definitions.specs.Script.{Reading, Script, items, refused_at, more, done, read_one, read_all, read_script}
-use Rattle.std.specs.Prelude.{Ok, Err}
+use Rattle.std.specs.Prelude.{Result, Ok, Err, Option, None}
+use Rattle.std.specs.Result.{result_and}
 use Rattle.answers.specs.declared.Refusal.{Refusal}
 use Rattle.answers.specs.declared.State.{State}
 use Rattle.answers.specs.Answers.{number_of}
@@ -53,29 +54,30 @@ after-done (suc n) r x pos e = rw (e, read_all)
 
 -- a round was made from `from` on
 module _ (s w w' : List ℕ) (st : State) (from : ℕ) (x : Script) (g : Going s w st from x) where
-  -- it goes on, and the reader stands at `at`
-  pub goes_on : (at : ℕ) (st' : State) → Round s w st from (λ y. Onward s w' from y st' at) → Going s w' st' at x × (from < at) × (at ≤ length s)
-  goes_on at st' comes = on (comes g.acc g.stands)
+  -- it goes on at `next`
+  pub goes_on : (next : ℕ) (st' : State) → Round s w st from (λ y. Onward s w' from y st' next) → Going s w' st' next x × (from < next) × (next ≤ length s)
+  goes_on next st' comes = on (comes g.acc g.stands)
     where
-      on : Onward s w' from (read_one (reading_of s w st from g.acc)) st' at → Going s w' st' at x × (from < at) × (at ≤ length s)
+      on : Onward s w' from (read_one (reading_of s w st from g.acc)) st' next → Going s w' st' next x × (from < next) × (next ≤ length s)
       on (acc', is, h, far) = (
         record {
           rounds = g.rounds - 1;
           acc = acc';
           stands = h;
           enough = omega (arith, g.enough, h.inside);
-          comes_to = sym (after_more g.rounds (reading_of s w st from g.acc) (reading_of s w' st' at acc') (omega (arith, g.enough)) is) ∙ g.comes_to;
+          comes_to = sym (after_more g.rounds (reading_of s w st from g.acc) (reading_of s w' st' next acc') (omega (arith, g.enough)) is) ∙ g.comes_to;
         },
         far,
         h.inside,
       )
 
-  -- it was the last
-  pub ends : Round s w st from (λ y. Finished s w' y st.k) → ScriptRead s w' x (Ok st.k)
-  ends comes = on (comes g.acc g.stands)
+  -- it was the last: what was read, or the refusal, is the whole script's
+  pub ends : (r : Result (Option State) Refusal) → r ≡ Ok None → Round s w st from (λ y. Finished s w' y st.k) → ScriptRead s w' x (result_and r (Ok st.k))
+  ends r none comes = rw none (on (comes g.acc g.stands))
     where
       on : Finished s w' (read_one (reading_of s w st from g.acc)) st.k → ScriptRead s w' x (Ok st.k)
       on (is, e, ready) = (is, sym g.comes_to ∙ after-done g.rounds (reading_of s w st from g.acc) (items is) (omega (arith, g.enough)) e, ready)
 
-  pub refuses : (r : Refusal) → Round s w st from (λ y. y ≡ done (refused_at (number_of r.fault) r.place)) → ScriptRead s w' x (Err r)
-  refuses r comes = sym g.comes_to ∙ after-done g.rounds (reading_of s w st from g.acc) (refused_at (number_of r.fault) r.place) (omega (arith, g.enough)) (comes g.acc g.stands)
+  pub refuses : (r : Result (Option State) Refusal) (e : Refusal) → r ≡ Err e → Round s w st from (λ y. y ≡ done (refused_at (number_of e.fault) e.place)) → ScriptRead s w' x (result_and r (Ok st.k))
+  refuses r e refused comes =
+      rw refused (sym g.comes_to ∙ after-done g.rounds (reading_of s w st from g.acc) (refused_at (number_of e.fault) e.place) (omega (arith, g.enough)) (comes g.acc g.stands))

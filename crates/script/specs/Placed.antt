@@ -18,7 +18,7 @@ Round s w st from P = (acc : List Item) → ReadSoFar s w st from acc → P (rea
 
 -- such a round leaves the reader at `at`: after what was read; it stays where reading does not go on
 abbrev pub Turned : List ℕ → List ℕ → List ℕ → State → ℕ → ℕ → Result (Option State) Refusal → Type 0
-Turned s w w' st from at (Ok (Some next)) = Round s w st from (λ x. Onward s w' from x next at)
+Turned s w w' st from at (Ok (Some next)) = (after : ℕ) × Round s w st from (λ x. Onward s w' from x next after) × (at ≡ after)
 Turned s w w' st from at (Ok None) = Round s w st from (λ x. Finished s w' x st.k) × (at ≡ from)
 Turned s w w' st from at (Err r) = Round s w st from (λ x. x ≡ done (refused_at (number_of r.fault) r.place)) × (at ≡ from)
 
@@ -32,6 +32,6 @@ Moves r r' w w' st q = (r'.script ≡ r.script) × Turned r.script.now w w' st r
 unfoldable pub separated : State → ℕ → ℕ → Result (Read State) Refusal
 separated st at next = cond (eqb st.due 0) (read_as st next) (refusal Argument at)
 
--- the script's end: a body that is missing is 3, a group that is never closed 5
-unfoldable pub ended : State → ℕ → Result (Unit {0}) Refusal
-ended st at = cond (eqb st.due 0) (cond (eqb st.depth 0) (Ok tt) (refusal Bracket at)) (refusal Argument at)
+-- the script's end, and that of the items: a body that is missing is 3, a group that is never closed 5
+unfoldable pub ended : State → ℕ → Result ℕ Refusal
+ended st at = cond (eqb st.due 0) (cond (eqb st.depth 0) (Ok st.k) (refusal Bracket at)) (refusal Argument at)

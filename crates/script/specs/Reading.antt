@@ -185,8 +185,8 @@ outer_groups w st = groups_in w (st.depth - 1)
 abbrev pub bodies_at : List ℕ → ℕ → ℕ
 bodies_at w d = get_or w (length w - d) 0 / 2
 
--- the command that was read leads on from the state st, wherever it began
-abbrev pub Finishes : List ℕ → List ℕ → State → Read Command → Read State → Type 0
+-- the command that was read leads on from the state st, wherever it began, or its refusal is the round's
+abbrev pub Finishes : List ℕ → List ℕ → State → Result (Read Command) Refusal → Result (Read State) Refusal → Type 0
 Finishes w w' st c r =
-    (s before : List ℕ) (at : ℕ) (acc : List Item) (x : Got Command-read) → ReadSoFar s before st at acc → CommandAt s before w at st.k x c.value c.next
-    → Onward s w' at (decoded (due_of st.due st.elses) (groups_in before st.depth) acc x) r.value r.next
+    (s before : List ℕ) (at : ℕ) (acc : List Item) (x : Got Command-read) → ReadSoFar s before st at acc → CommandRead s before w at st.k x c
+    → OnwardRead s w' at (decoded (due_of st.due st.elses) (groups_in before st.depth) acc x) r

@@ -34,8 +34,8 @@ fn counted(s: &[u8], w: &mut [u32], st: State, at: usize) -> Answer<State>
     requires { Halfway s.now w.old st at × (at < length s.now) × (is_digit (get_or s.now at 0) ≡ true) }
     ensures { RoundOf s.now w.old w.new st at (λ due groups acc. count_read due groups acc at (digits (cursor_at s.now at))) result }
 {
-    let command = count(s, w, st.k, at)?;
-    Ok(finish(w, st, command))
+    let c = count(s, w, st.k, at);
+    finish(w, st, c)
 }
 
 // Where a command may begin: the byte there says what it is.
@@ -68,10 +68,9 @@ fn read_one(s: &[u8], w: &mut [u32], st: State, from: usize) -> Result<Option<Re
 {
     let at = skip_spaces(s, from);
     if at < s.len() {
-        return Ok(Some(read_at(s, w, st, at)?));
+        return read_at(s, w, st, at).map(Some);
     }
-    script_end(st, at)?;
-    Ok(None)
+    script_end(st, at).and(Ok(None))
 }
 
 // Reads a script: its items go to the work area, from the first word on. Their end.
@@ -87,8 +86,9 @@ pub fn read_script(s: &[u8], w: &mut [u32]) -> Result<usize, Refusal>
     };
     let mut reader = reader_at(s, 0);
     loop {
-        let Some(next) = read_next(&mut reader, w, st)? else {
-            return Ok(st.k);
+        let round = read_next(&mut reader, w, st);
+        let Ok(Some(next)) = round else {
+            return round.and(Ok(st.k));
         };
         st = next;
     }

@@ -64,6 +64,6 @@ pub fn named(s: &[u8], w: &mut [u32], st: State, at: usize, name: Read<u32>) -> 
     ensures { RoundOf s.now w.old w.new st at (λ due groups acc. «named-of» due groups acc at (token name.value (cursor_at s.now name.next))) result }
 {
     let shape = command(name.value);
-    let c = decode(s, w, st.k, at, name.next, shape, st.depth != 0)?;
-    Ok(finish(w, st, c))
+    let c = decode(s, w, st.k, at, name.next, shape, st.depth != 0);
+    finish(w, st, c)
 }

@@ -20,7 +20,8 @@ pub fn reader_at<'a>(script: &'a [u8], at: usize) -> Reader<'a>
     Reader { script, at }
 }
 
-// Reads the next round and moves on; the state after it, none at the script's end. Where reading does not go on, the reader stays.
+// Reads the next round and moves on; the state after it, none at the script's end, or the refusal as it came. Where reading does not go on, the reader
+// stays.
 pub fn read_next<'s, 'a, 'w>(
     r: &'s mut Reader<'a>,
     w: &'w mut [u32],
@@ -29,9 +30,10 @@ pub fn read_next<'s, 'a, 'w>(
     requires { Halfway r.old.script.now w.old st r.old.at }
     ensures { Moves r.old r.new w.old w.new st result }
 {
-    let Some(round) = read_one(r.script, w, st, r.at)? else {
-        return Ok(None);
+    let round = read_one(r.script, w, st, r.at);
+    let Ok(Some(read)) = round else {
+        return round.and(Ok(None));
     };
-    r.at = round.next;
-    Ok(Some(round.value))
+    r.at = read.next;
+    Ok(Some(read.value))
 }

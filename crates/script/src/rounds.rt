@@ -5,7 +5,7 @@ ghost use Rattle.definitions.specs.Reader.{Got};
 ghost use Rattle.definitions.specs.Commands.{Decoded};
 ghost use Rattle.definitions.specs.Script.{separator as «separator-of», line_items};
 ghost use Rattle.lexer.specs.Places.{cursor_at};
-ghost use Rattle.script.specs.Reading.{ReadSoFar, CommandAt, HalfwayIn, RoundIn, Finishes};
+ghost use Rattle.script.specs.Reading.{ReadSoFar, CommandRead, HalfwayIn, RoundIn, Finishes};
 ghost use Rattle.script.specs.Placed.{separated, ended};
 
 use answers::{Answer, Command, Fault, Follow, Read, Refusal, State};
@@ -44,8 +44,8 @@ pub fn line_end(w: &mut [u32], st: State, at: usize) -> Answer<State>
     })
 }
 
-// The script's end: a group that is never closed is 5.
-pub fn script_end(st: State, at: usize) -> Result<(), Refusal>
+// The script's end, and that of the items' words: a group that is never closed is 5.
+pub fn script_end(st: State, at: usize) -> Result<usize, Refusal>
     ensures { result ≡ ended st at }
 {
     if st.due != 0 {
@@ -54,16 +54,20 @@ pub fn script_end(st: State, at: usize) -> Result<(), Refusal>
     if st.depth != 0 {
         return Err(Fault::Bracket.at(at));
     }
-    Ok(())
+    Ok(st.k)
 }
 
-// A command that was read, with its words: it closes the bodies that it was due for; after a prefix a command or group must follow.
-pub fn finish(w: &mut [u32], st: State, c: Read<Command>) -> Read<State>
-    requires { (s : List ℕ) × (before : List ℕ) × (at : ℕ) × (acc : List Item) × (x : Got Decoded) × ReadSoFar s before st at acc × CommandAt s before w.old at st.k x c.value c.next }
+// What the reader of a command answered, with the command's words: a command closes the bodies that it was due for; after a prefix a command or group
+// must follow; a refusal is passed upward.
+pub fn finish(w: &mut [u32], st: State, c: Answer<Command>) -> Answer<State>
+    requires { (s : List ℕ) × (before : List ℕ) × (at : ℕ) × (acc : List Item) × (x : Got Decoded) × ReadSoFar s before st at acc × CommandRead s before w.old at st.k x c }
     ensures { Finishes w.old w.new st c result }
 {
-    let m = c.value.free;
-    match c.value.follow {
+    let Ok(read) = c else {
+        return Err(c.unwrap_err());
+    };
+    let m = read.value.free;
+    match read.value.follow {
         Follow::Nothing => {
             let due = st.due;
             put_closes(w, m, due);
@@ -73,10 +77,10 @@ pub fn finish(w: &mut [u32], st: State, c: Read<Command>) -> Read<State>
                 elses: false,
                 depth: st.depth,
             };
-            Read {
+            Ok(Read {
                 value: closed,
-                next: c.next,
-            }
+                next: read.next,
+            })
         }
         Follow::Body(elses) => {
             let opened = State {
@@ -85,10 +89,10 @@ pub fn finish(w: &mut [u32], st: State, c: Read<Command>) -> Read<State>
                 elses,
                 depth: st.depth,
             };
-            Read {
+            Ok(Read {
                 value: opened,
-                next: c.next,
-            }
+                next: read.next,
+            })
         }
     }
 }

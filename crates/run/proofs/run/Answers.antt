@@ -14,18 +14,20 @@ overflow_add-script c = omega (arith, script-short _ (sym c.is_script.ensures �
 pub returns-then-work-script : goal.returns-then-work-script
 returns-then-work-script c = small-work _ _ _ _ _ (sym c.is_script.ensures ∙ c.if-not-is_script.false) c.if-work-script.true
 
-pub read_script-requires : goal.read_script-requires
-read_script-requires c = ((sym c.is_script.ensures ∙ c.if-not-is_script.false), c.if-work-script.false)
+pub read_script-decoded-requires : goal.read_script-decoded-requires
+read_script-decoded-requires c = ((sym c.is_script.ensures ∙ c.if-not-is_script.false), c.if-work-script.false)
 
-pub returns-in-Err : goal.returns-in-Err
-returns-in-Err c = refused-script _ _ _ _ _ (sym c.is_script.ensures ∙ c.if-not-is_script.false) c.if-work-script.false _ c.in-Err.ensures _ c.refused.ensures
+pub returns-in_default : goal.returns-in_default
+returns-in_default c =
+    let is = rw c.unwrap_err.ensures at c.read_script-decoded.ensures in
+    refused-script _ _ _ _ _ (sym c.is_script.ensures ∙ c.if-not-is_script.false) c.if-work-script.false _ is _ c.refused.ensures
 
 pub run_decoded-requires : goal.run_decoded-requires
 run_decoded-requires c =
-    let z = runnable _ _ _ (sym c.is_script.ensures ∙ c.if-not-is_script.false) c.in-Ok.ensures in
+    let z = runnable _ _ _ (sym c.is_script.ensures ∙ c.if-not-is_script.false) (rw c.in-Ok.is at c.read_script-decoded.ensures) in
     ((z.0, z.2), omega arith)
 
-pub returns-in-Ok : goal.returns-in-Ok
-returns-in-Ok c =
-    let z = runnable _ _ _ (sym c.is_script.ensures ∙ c.if-not-is_script.false) c.in-Ok.ensures in
+pub returns : goal.returns
+returns c =
+    let z = runnable _ _ _ (sym c.is_script.ensures ∙ c.if-not-is_script.false) (rw c.in-Ok.is at c.read_script-decoded.ensures) in
     read-items _ _ _ _ _ (sym c.is_script.ensures ∙ c.if-not-is_script.false) c.if-work-script.false z.0 z.1 _ _ (c.run_decoded.ensures z.0 z.2)
