@@ -1,5 +1,5 @@
 -- What the functions promise that look at the current line, write its record anew, and do the commands. Assumes nothing.
-use Rattle.std.specs.Prelude.{◌≡◌, Bool, true, cond, List, ◌∷◌, ◌++◌, ℕ, ◌+◌, ◌≤◌, ◌<◌, length, take, drop, get_or, leb, Result, Ok, Err}
+use Rattle.std.specs.Prelude.{◌≡◌, Bool, true, cond, List, ◌∷◌, ◌++◌, ℕ, zero, suc, ◌+◌, ◌≤◌, ◌<◌, length, take, drop, get_or, leb, Result, Ok, Err}
 use Rattle.definitions.specs.Bytes.{Line, all_text}
 use Rattle.definitions.specs.Journal.{Record, kept, changed, deleted, inserted, old_of, rewrite}
 use Rattle.definitions.specs.Tape.{Tape}
@@ -35,6 +35,12 @@ unfoldable pub change_of : ChangeHere → Change
 change_of After = after_it
 change_of Before = before_it
 change_of Exchange = exchange
+
+-- by number: 0, 1 and any other
+unfoldable pub change_numbered : ℕ → Change
+change_numbered zero = after_it
+change_numbered (suc zero) = before_it
+change_numbered (suc (suc n)) = exchange
 
 -- the qualified string that the script has from `from` to `to`
 abbrev pub sought : Quals → List ℕ → ℕ → ℕ → Qualified

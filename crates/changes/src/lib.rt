@@ -14,7 +14,7 @@ ghost use Rattle.matching.specs.Quals.{Formed};
 ghost use Rattle.editor.specs.Edited.{Does};
 ghost use Rattle.editor.specs.Shows.{Performs};
 ghost use Rattle.editor.specs.Current.{ShownOf, PerformsOf, IsReady};
-ghost use Rattle.changes.specs.Current.{change_of, sought, alter_of, StringsIn, PerformsTold, HasLine, Alters};
+ghost use Rattle.changes.specs.Current.{change_of, change_numbered, sought, alter_of, StringsIn, PerformsTold, HasLine, Alters};
 
 use editor::{Editor, Stop};
 use matching::Quals;
@@ -25,6 +25,20 @@ pub enum Change {
     After,
     Before,
     Exchange,
+}
+
+// 0 is A, 1 is B, and every other number is E.
+impl From<u8> for Change {
+    ghost from_gives = { λ n change. change_of change ≡ change_numbered n };
+
+    #[tactic(auto, unfolding(crate::specs::Current::change_of, crate::specs::Current::change_numbered))]
+    fn from(n: u8) -> Change {
+        match n {
+            0 => Change::After,
+            1 => Change::Before,
+            _ => Change::Exchange,
+        }
+    }
 }
 
 // PR: p = 0.
@@ -57,7 +71,8 @@ pub fn right(table: &[u8], ed: &mut Editor<'_>) -> Result<(), Stop>
     requires { ShownOf table.now ed.old.journal.now ed.old.st }
     ensures { Does (λ j st k r. (k ≡ j) × PerformsOf table.now j st Op.right k r) ed.old ed.new result }
 {
-    look::byte_here(table, ed)?;
+    let j = &mut *ed.journal;
+    look::byte_here(table, j, ed.st)?;
     ed.st.p += 1;
     Ok(())
 }
@@ -97,7 +112,8 @@ pub fn cut_byte(table: &[u8], ed: &mut Editor<'_>) -> Result<(), Stop>
     requires { ShownOf table.now ed.old.journal.now ed.old.st }
     ensures { Does (λ j st. PerformsOf table.now j st Op.cut_byte) ed.old ed.new result }
 {
-    let x = look::byte_here(table, ed)?;
+    let j = &mut *ed.journal;
+    let x = look::byte_here(table, j, ed.st)?;
     let p = ed.st.p;
     rewrite::splice_current(table, ed, p, 1, &[x], 0, p)
 }
@@ -130,7 +146,8 @@ pub fn recase(table: &[u8], ed: &mut Editor<'_>, up: bool) -> Result<(), Stop>
     requires { ShownOf table.now ed.old.journal.now ed.old.st }
     ensures { Does (λ j st. PerformsOf table.now j st (Op.recase up)) ed.old ed.new result }
 {
-    let x = look::byte_here(table, ed)?;
+    let j = &mut *ed.journal;
+    let x = look::byte_here(table, j, ed.st)?;
     let p = ed.st.p;
     rewrite::splice_current(table, ed, p, 1, &[cased(up, x)], 1, p + 1)
 }

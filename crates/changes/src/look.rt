@@ -7,19 +7,20 @@ ghost use Rattle.matching.specs.Quals.{Formed};
 ghost use Rattle.editor.specs.Current.{ShownOf, IsReady};
 ghost use Rattle.changes.specs.Current.{written, sought, HasLine, Sights, Finds, Splices};
 
-use editor::{Editor, Stop};
+use editor::{Editor, State, Stop};
 use matching::Quals;
 
-// The byte at p of the current line.
-pub fn byte_here(table: &[u8], ed: &Editor<'_>) -> Result<u8, Stop>
-    requires { ShownOf table.now ed.now.journal.now ed.now.st }
-    ensures { Sights table.now ed.now.journal.now ed.now.st result }
+// The byte at p of the current line. What only looks at the current line takes the buffer and its numbers, so that a buffer to look at is enough.
+pub fn byte_here<'a>(table: &'a [u8], j: &'a [u8], st: State) -> Result<u8, Stop>
+    requires { ShownOf table.now j.now st }
+    ensures { Sights table.now j.now st result }
 {
-    if ed.st.back >= ed.journal.len() {
+    let at = st.back;
+    if at >= j.len() {
         return Err(Stop::AtEof);
     }
-    let line = ed.current_line(table);
-    let p = ed.st.p;
+    let line = editor::current::current_line(table, j, st);
+    let p = st.p;
     if p >= line.len() {
         return Err(Stop::PointAtEnd);
     }
@@ -63,19 +64,20 @@ fn splice_line(line: &mut [u8], old: &[u8], i: usize, n: usize, new: &[u8], m: u
 }
 
 // The current line with the first m bytes of `new` for the n from place i on: its length; and its bytes, where a line can be so long.
-pub fn splice_text(
+pub fn splice_text<'a>(
     line: &mut [u8],
-    table: &[u8],
-    ed: &Editor<'_>,
+    table: &'a [u8],
+    j: &'a [u8],
+    st: State,
     i: usize,
     n: usize,
     new: &[u8],
     m: usize,
 ) -> usize
-    requires { HasLine table.now ed.now.journal.now ed.now.st (i + n) × (255 ≤ length line.old) × (m ≤ length new.now) × (m ≤ 16384) }
-    ensures { Splices table.now ed.now.journal.now ed.now.st i n (take m new.now) line.old line.new result }
+    requires { HasLine table.now j.now st (i + n) × (255 ≤ length line.old) × (m ≤ length new.now) × (m ≤ 16384) }
+    ensures { Splices table.now j.now st i n (take m new.now) line.old line.new result }
 {
-    let text = ed.current_line(table);
+    let text = editor::current::current_line(table, j, st);
     let len = text.len() - n + m;
     if 255 < len {
         return len;

@@ -6,7 +6,7 @@ ghost use Rattle.definitions.specs.Given.{Carried};
 ghost use Rattle.definitions.specs.Edit.{splice};
 ghost use Rattle.definitions.specs.Editor.{retext};
 ghost use Rattle.definitions.specs.StepProgram.{gives, changes};
-ghost use Rattle.editor.specs.Shows.{Holds, Completes};
+ghost use Rattle.editor.specs.Shows.{Holds, ShowsText, Completes};
 ghost use Rattle.editor.specs.Edited.{Does};
 ghost use Rattle.changes.specs.Current.{written, EndsAt, HasEnds, Builds, MakesAnew, Replaces, Replacing, HasLine, Writes};
 
@@ -100,12 +100,12 @@ pub struct Anew {
 }
 
 // The record that the current one becomes with the first len bytes of line for its text, at the start of rec.
-pub fn record_anew(rec: &mut [u8], ed: &Editor<'_>, line: &[u8], len: usize) -> Anew
-    requires { (ed.now.st.back < length ed.now.journal.now) × (514 ≤ length rec.old) × (len ≤ length line.now) × (is_line (take len line.now) ≡ true) }
-    ensures { MakesAnew ed.now.journal.now ed.now.st (take len line.now) rec.old rec.new result }
+pub fn record_anew(rec: &mut [u8], j: &[u8], st: State, line: &[u8], len: usize) -> Anew
+    requires { ShowsText j.now st × (st.back < length j.now) × (514 ≤ length rec.old) × (len ≤ length line.now) × (is_line (take len line.now) ≡ true) }
+    ensures { MakesAnew j.now st (take len line.now) rec.old rec.new result }
 {
-    let c = record_ends(ed.journal, ed.st);
-    let n = build_record(rec, ed.journal, ed.st, c, line, len);
+    let c = record_ends(j, st);
+    let n = build_record(rec, j, st, c, line, len);
     Anew { n, end: c.end }
 }
 
@@ -134,14 +134,14 @@ fn rewrite_current(ed: &mut Editor<'_>, line: &[u8], len: usize, q: usize) -> Re
     ensures { Does (λ j st k r. (c : Carried) → Completes c j st (gives (changes (retext (take len line.now) q ∷ []))) k r) ed.old ed.new result }
 {
     let mut rec = [0u8; 514];
-    let c = record_anew(&mut rec, ed, line, len);
+    let j = &mut *ed.journal;
+    let c = record_anew(&mut rec, j, ed.st, line, len);
     let end = c.end;
     let n = c.n;
     let front = ed.st.front;
     if end - front < n {
         return Err(Stop::JournalFull);
     }
-    let j = &mut *ed.journal;
     ed.st = put_record(j, ed.st, end, &rec, n, q);
     Ok(())
 }
@@ -160,7 +160,8 @@ pub fn splice_current(
     ensures { Does (λ j st. Writes table.now j st (i + n) (λ l. splice l i n (take m new.now)) q) ed.old ed.new result }
 {
     let mut line = [0u8; 255];
-    let len = crate::look::splice_text(&mut line, table, ed, i, n, new, m);
+    let j = &mut *ed.journal;
+    let len = crate::look::splice_text(&mut line, table, j, ed.st, i, n, new, m);
     if 255 < len {
         return Err(Stop::LineLong);
     }

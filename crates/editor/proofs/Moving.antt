@@ -278,9 +278,9 @@ pub here-by : {j : List ℕ} {st : State} (g : Given) (c : Carried) (e : Ed) (t 
     → Came j r (runs g c (go_to (target_numbered n)) e t)
 here-by {j} {st} g c e t r n h z q = target-by g c e t j r n (target-here n z) (rw q (here_on g c e t h))
 
-pub here-as : {j k : List ℕ} {st : State} {r : Moved} (g : Given) (c : Carried) (e : Ed) (t : Tape) (n : ℕ) → Shows j st e t → n ≡ 0
-    → (k ≡ j) × (r ≡ Ok (at_point st 0)) → Came k r (runs g c (go_to (target_numbered n)) e t)
-here-as {j} {k} {st} {r} g c e t n h z q = rw q.0 (here-by g c e t r n h z q.1)
+pub here-as : {j : List ℕ} {st s : State} (g : Given) (c : Carried) (e : Ed) (t : Tape) (n : ℕ) → Shows j st e t → n ≡ 0 → s ≡ at_point st 0
+    → Came j (Ok s) (runs g c (go_to (target_numbered n)) e t)
+here-as {j} {st} g c e t n h z q = rw q (here-by g c e t (Ok (at_point st 0)) n h z refl)
 
 -- ---- N, P and M
 

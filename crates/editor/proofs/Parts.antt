@@ -25,7 +25,6 @@ use Rattle.std.proofs.lemmas.Result.{err_from_is_err_and}
 use Rattle.editor.specs.Stops.{Moved, numbered, stopping}
 use Rattle.editor.specs.declared.Stop.TheVariants.{JournalFull}
 use Rattle.editor.specs.declared.Stop.{Stop}
-use Rattle.editor.specs.declared.Stopped.{Stopped}
 use Rattle.editor.proofs.Held.{held-length, held_none}
 
 -- a buffer of the same length is lent alike

@@ -3,21 +3,21 @@ use mathlib.Core.Path.{◌≡◌, refl, sym, ap, ◌∙◌}
 use mathlib.Core.Logic.{∥∥₁_elim}
 use mathlib.Core.HLevel.{×_prop, Σ_prop_path, Unit-prop}
 use mathlib.Core.Bool.{true, false}
-use Prim.Native.Nat.{ℕ, suc, ◌+◌, ◌-◌, ◌≤◌, ◌<◌}
+use Prim.Native.Nat.{ℕ, ◌+◌, ◌-◌, ◌≤◌}
 use native.Mathlib.Omega.{arith}
-use mathlib.Core.List.{List, [], ◌∷◌, ◌++◌, map, reverse_aux, append_assoc, append-nil}
+use mathlib.Core.List.{List, [], ◌∷◌, ◌++◌, map, reverse_aux}
 use lib.ListN.{length, length-append, length-map, length-reverse_aux, take, drop}
 use lib.Seq.{take-append_seam, drop-append_seam}
 use denote.Struct.Props as logic
 use Rattle.definitions.specs.Bytes.{Line, is_line}
 use Rattle.definitions.specs.Journal.{Record, kept, changed, deleted, inserted}
 use Rattle.definitions.specs.Tape.{Tape, unread, ended, rest_lines}
-use Rattle.definitions.specs.Editor.{Ed, ed, before_of, after_of, sources, is_live}
+use Rattle.definitions.specs.Editor.{Ed, ed, before_of, after_of, sources}
 use Rattle.theorems.specs.RecordLaws.{sources-append, sources-kept}
 use Rattle.text.specs.Feeds.{place_of, line_length}
 use Rattle.gap.specs.Gap.{zeros}
-use Rattle.editor.specs.Records.{body, enc, enc_all, enc_before, mark, Good, Goods}
-use Rattle.editor.specs.Shows.{Holds, Shows, ShowsText, GroundedAt, rest_of, point_of}
+use Rattle.editor.specs.Records.{enc, enc_all, enc_before, Good, Goods}
+use Rattle.editor.specs.Shows.{Holds, Shows, ShowsText, Opens, GroundedAt}
 use Rattle.editor.specs.declared.State.{State}
 use Rattle.editor.proofs.Records.{record-line, line-text, text-place, some_bytes, before-all, goods-reverse}
 use Rattle.std.specs.Prelude.{Result, Ok, Err}
@@ -203,6 +203,14 @@ shown {j} {st} h =
 -- with another name for the buffer
 pub text-as : {j k : List ℕ} {s : State} → k ≡ j → ∥ ShowsText j s ∥₁ → ∥ ShowsText k s ∥₁
 text-as q h = rw q h
+
+-- with another name for the numbers
+pub numbers-as : {j : List ℕ} {s u : State} → u ≡ s → ∥ ShowsText j s ∥₁ → ∥ ShowsText j u ∥₁
+numbers-as q h = rw q h
+
+-- what opens, with other names for both
+pub opens-as : {j k : List ℕ} {s u : State} {x : Ed × Tape} → k ≡ j → u ≡ s → Opens j s x → Opens k u x
+opens-as q p h = rw (q, p) h
 
 -- p is set
 pub point-text : {j : List ℕ} {st : State} (q : ℕ) → ∥ ShowsText j st ∥₁ → ∥ ShowsText j (at_point st q) ∥₁

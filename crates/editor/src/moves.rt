@@ -8,7 +8,14 @@ ghost use Rattle.editor.specs.Shows.{DoesPart, Performs, at_point, target_number
 use crate::walk::{
     gap_to, land_live, pass_record, read_current, read_to, to_source, unpass_record,
 };
-use crate::{Editor, Stop};
+use crate::{Editor, State, Stop};
+
+// The current line stays current, from its start.
+pub fn go_here(st: State) -> State
+    ensures { result ≡ at_point st 0 }
+{
+    State { p: 0, ..st }
+}
 
 impl<'a> Editor<'a> {
     ghost use Rattle.editor.specs.Edited.{Does};
@@ -87,19 +94,12 @@ impl<'a> Editor<'a> {
         self.st = s;
     }
 
-    // The current line stays current, from its start.
-    pub fn go_here(&mut self)
-        ensures { Does (λ j st k r. (k ≡ j) × (r ≡ Ok (at_point st 0))) self.old self.new (Ok tt) }
-    {
-        self.st.p = 0;
-    }
-
     // To what M names: 0 is the current line, 65536 is EOF, and any other number is that source line.
     pub fn go_to(&mut self, target: usize) -> Result<(), Stop>
         ensures { Does (λ j st. DoesPart no_globals j st (go_to (target_numbered target))) self.old self.new result }
     {
         if target == 0 {
-            self.go_here();
+            self.st = go_here(self.st);
             return Ok(());
         }
         if target == 65536 {

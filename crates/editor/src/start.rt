@@ -6,7 +6,7 @@ ghost use Rattle.definitions.specs.Run.{opening_length};
 ghost use Rattle.definitions.specs.Tape.{unread};
 ghost use Rattle.definitions.specs.Reading.{opening};
 ghost use Rattle.editor.specs.Records.{OpeningAt};
-ghost use Rattle.editor.specs.Shows.{Opens};
+ghost use Rattle.editor.specs.Shows.{Opens, ShowsText};
 
 use crate::{Editor, State};
 
@@ -52,6 +52,16 @@ fn write_opening(t: &[u8], j: &mut [u8]) -> Opened
 }
 
 impl<'a> Editor<'a> {
+    // The editor of a buffer and its numbers, which show a text.
+    pub fn lent(j: &'a mut [u8], st: State) -> Editor<'a>
+        requires { ShowsText j.old st }
+        ensures lent { result.journal.ghost_name ≡ j.entry.ghost_name }
+        ensures same { result.journal.now ≡ j.old }
+        ensures numbers { result.st ≡ st }
+    {
+        Editor { journal: j, st }
+    }
+
     // The opening journal of the table t at the back of the buffer, zeros before it: the first line, or EOF, is current and read.
     pub fn open(t: &[u8], j: &'a mut [u8]) -> Editor<'a>
         requires { (is_table t.now ≡ true) × (opening_length (lines_of t.now) ≤ length j.old) }
@@ -72,9 +82,6 @@ impl<'a> Editor<'a> {
             size: t.len(),
             p: 0,
         };
-        Editor {
-            journal: j,
-            st: crate::walk::read_to(st, 1),
-        }
+        Editor::lent(j, crate::walk::read_to(st, 1))
     }
 }

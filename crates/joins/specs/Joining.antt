@@ -1,5 +1,5 @@
 -- What the functions promise that make one line of two. Assumes nothing.
-use Rattle.std.specs.Prelude.{◌≡◌, cond, List, [], ◌∷◌, ◌++◌, ℕ, ◌+◌, ◌<◌, length, drop, leb}
+use Rattle.std.specs.Prelude.{◌≡◌, cond, List, [], ◌∷◌, ◌++◌, ℕ, ◌<◌, length, drop, leb}
 use Rattle.definitions.specs.Bytes.{Line}
 use Rattle.definitions.specs.Journal.{Record}
 use Rattle.definitions.specs.Tape.{Tape}
@@ -13,8 +13,7 @@ use Rattle.editor.specs.Current.{current_line, ShowsOf}
 use Rattle.editor.specs.declared.State.{State}
 use Rattle.editor.specs.Stops.{Moved}
 use Rattle.changes.specs.Current.{written}
-use Rattle.text.specs.Feeds.{line_length}
-use Rattle.spans.specs.Spans.{NextAt, Stands, freed_by}
+use Rattle.spans.specs.Spans.{NextAt}
 
 -- ---- the joined text
 
@@ -33,11 +32,6 @@ JoinsText table j st at s d k r =
 -- the next live line's record stands at the place `at`
 abbrev pub HasNext : List ℕ → State → ℕ → Type 0
 HasNext j st at = ((e : Ed) × (t : Tape) × Shows j st e t × NextAt j at 1 e t) × (at < length j)
-
--- its line's deletion frees r bytes
-abbrev pub FreesNext : List ℕ → ℕ → ℕ → Type 0
-FreesNext j at r =
-    (next : ℕ) → next ≡ at + line_length (drop at j) → (x : Record) (rs : List Record) → Stands j at (x ∷ rs) → next ≡ at + length (enc x) → r ≡ freed_by x
 
 -- the current line's text becomes `l`, p becomes q, and the next live line, whose record stands at `at`, is deleted: the end of a step
 abbrev pub JoinsLines : List ℕ → State → ℕ → Line → ℕ → List ℕ → Moved → Type 0

@@ -19,15 +19,15 @@ fn join_at(ed: &mut Editor<'_>, at: usize, line: &[u8], len: usize, q: usize) ->
     ensures { Does (λ j st. JoinsLines j st at (take len line.now) q) ed.old ed.new result }
 {
     let mut rec = [0u8; 514];
-    let c = changes::rewrite::record_anew(&mut rec, ed, line, len);
+    let j = &mut *ed.journal;
+    let c = changes::rewrite::record_anew(&mut rec, j, ed.st, line, len);
     let n = c.n;
-    let freed = texts::freed_by(ed, at);
+    let freed = spans::striking::freed_at(j, at, editor::walk::record_end(j, at));
     let end = c.end + freed;
     let front = ed.st.front;
     if end - front < n {
         return Err(Stop::JournalFull);
     }
-    let j = &mut *ed.journal;
     let s = spans::striking::strike_at(j, ed.st, at);
     ed.st = changes::rewrite::put_record(j, s, end, &rec, n, q);
     Ok(())
@@ -41,9 +41,10 @@ pub fn join(table: &[u8], ed: &mut Editor<'_>, s: &[u8], from: usize, n: usize) 
     if ed.st.back >= ed.journal.len() {
         return Err(Stop::AtEof);
     }
-    let next = spans::finding::read_next(ed);
+    let j = &mut *ed.journal;
+    let next = spans::finding::read_next(j, ed.st);
     let at = next.at;
-    if at >= ed.journal.len() {
+    if at >= j.len() {
         ed.st = next.st;
         return Err(Stop::NoNext);
     }

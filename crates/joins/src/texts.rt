@@ -3,7 +3,7 @@ ghost use Rattle.std.specs.Prelude.{◌≡◌, ◌++◌, ◌+◌, ◌≤◌, ◌
 ghost use Rattle.editor.specs.Records.{LineIn};
 ghost use Rattle.editor.specs.Current.{ShownOf};
 ghost use Rattle.changes.specs.Current.{written};
-ghost use Rattle.joins.specs.Joining.{HasRecord, HasNext, FreesNext, JoinsText};
+ghost use Rattle.joins.specs.Joining.{HasRecord, JoinsText};
 
 use editor::Editor;
 
@@ -48,13 +48,4 @@ pub fn join_text(
     }
     put_parts(line, text, s, from, n, ed.journal, next.from, next.n);
     len
-}
-
-// How many bytes it frees to delete the line whose record stands at `at`, after the current one.
-pub fn freed_by(ed: &Editor<'_>, at: usize) -> usize
-    requires { HasNext ed.now.journal.now ed.now.st at }
-    ensures { FreesNext ed.now.journal.now at result }
-{
-    let next = editor::walk::record_end(ed.journal, at);
-    spans::striking::freed_at(ed.journal, at, next)
 }

@@ -12,7 +12,7 @@ ghost use Rattle.seeks.specs.Looks.{LooksBy, LooksCarrying, LooksOnce, Searchabl
 ghost use Rattle.seeks.specs.Looks.{test_of, seek_of, eof_stop, where_found, where_not, holding, SeeksFor};
 ghost use Rattle.seeks.specs.Edited.{looked_by, LooksOn, SeeksOn};
 
-use editor::{Editor, Stop};
+use editor::{Editor, State, Stop};
 
 // What a search over lines comes to, and how many steps it made: those before a stop too.
 #[derive(Clone, Copy)]
@@ -30,38 +30,41 @@ pub enum Way {
 }
 
 // Does the search in the words from k to m hold on the current line, with the window from p, or at EOF. The bytes of the word set count for W.
-pub fn holds_here(
+pub fn holds_here<'a>(
     script: &[u8],
     words: &[u32],
     k: usize,
     m: usize,
-    table: &[u8],
-    ed: &Editor<'_>,
+    table: &'a [u8],
+    j: &'a [u8],
+    st: State,
 ) -> bool
-    requires { SomeStand script.now words.now × Searchable script.now words.now k m table.now ed.now.journal.now ed.now.st }
-    ensures { Tells script.now words.now k m table.now ed.now.journal.now ed.now.st result }
+    requires { SomeStand script.now words.now × Searchable script.now words.now k m table.now j.now st }
+    ensures { Tells script.now words.now k m table.now j.now st result }
 {
-    if ed.st.back >= ed.journal.len() {
+    let at = st.back;
+    if at >= j.len() {
         return matching::search::holds_at_eof(words, k, m);
     }
-    let line = ed.current_line(table);
-    matching::search::holds(script, words, k, m, globals::word_set(words), line, ed.st.p)
+    let line = editor::current::current_line(table, j, st);
+    matching::search::holds(script, words, k, m, globals::word_set(words), line, st.p)
 }
 
 // IF and WH, with `holds` true; UL and UT, with `holds` false.
-pub fn test(
+pub fn test<'a>(
     script: &[u8],
     words: &[u32],
     k: usize,
     m: usize,
-    table: &[u8],
-    ed: &Editor<'_>,
+    table: &'a [u8],
+    j: &'a [u8],
+    st: State,
     holds: bool,
 ) -> bool
-    requires { SomeStand script.now words.now × Searchable script.now words.now k m table.now ed.now.journal.now ed.now.st }
-    ensures { LooksForCarrying script.now words.now k m table.now ed.now.journal.now ed.now.st (λ se. Op.test (test_of holds se)) ed.now.journal.now (holding result ed.now.st) }
+    requires { SomeStand script.now words.now × Searchable script.now words.now k m table.now j.now st }
+    ensures { LooksForCarrying script.now words.now k m table.now j.now st (λ se. Op.test (test_of holds se)) j.now (holding result st) }
 {
-    holds_here(script, words, k, m, table, ed) == holds
+    holds_here(script, words, k, m, table, j, st) == holds
 }
 
 // IFEOF.
@@ -178,7 +181,8 @@ fn look(
     if ed.st.back >= ed.journal.len() {
         return Err(stop_at_eof(way));
     }
-    if holds_here(script, words, k, m, table, ed) {
+    let j = &mut *ed.journal;
+    if holds_here(script, words, k, m, table, j, ed.st) {
         found(ed, way, lines);
         return Ok(true);
     }

@@ -13,7 +13,8 @@ pub fn read_ahead(script: &[u8], w: &[u32], ed: &mut Editor<'_>) -> Result<(), S
     requires { SomeStand script.now w.now × (ed.old.st.back < length ed.old.journal.now) }
     ensures { Does (λ j st. DoesPartBy script.now w.now j st (read_past 1)) ed.old ed.new result }
 {
-    let next = crate::finding::read_next(ed);
+    let j = &mut *ed.journal;
+    let next = crate::finding::read_next(j, ed.st);
     reading::read_to(script, w, ed, next.st.furthest)
 }
 

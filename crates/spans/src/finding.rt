@@ -2,7 +2,7 @@
 ghost use Rattle.std.specs.Prelude.{◌≡◌, List, suc, ◌+◌, ◌-◌, ◌≤◌, ◌<◌, length};
 ghost use Rattle.definitions.specs.Journal.{Record};
 ghost use Rattle.definitions.specs.Editor.{sources};
-ghost use Rattle.editor.specs.Shows.{Holds};
+ghost use Rattle.editor.specs.Shows.{Holds, ShowsText};
 ghost use Rattle.spans.specs.Spans.{through_of, Finds, SourceAt, Stands, LiveAt, Until, Counts, CountedTo, ReadsFrom, ReadsNext, Spanned, FindsAfter};
 ghost use Rattle.spans.specs.Edited.{FindsEnd};
 
@@ -153,17 +153,17 @@ pub fn next_from(j: &[u8], st: State, end: usize, past: usize) -> Next
 }
 
 // The next live line after the current one is found and read. Nothing moves.
-pub fn read_next(ed: &Editor<'_>) -> Next
-    requires { ed.now.st.back < length ed.now.journal.now }
-    ensures { ReadsNext ed.now.journal.now ed.now.st result }
+pub fn read_next(j: &[u8], st: State) -> Next
+    requires { ShowsText j.now st × (st.back < length j.now) }
+    ensures { ReadsNext j.now st result }
 {
-    let b = ed.st.back;
-    let mut past = ed.st.past;
-    if ed.journal[b] != 43 {
+    let b = st.back;
+    let mut past = st.past;
+    if j[b] != 43 {
         past += 1;
     }
-    let end = editor::walk::record_end(ed.journal, b);
-    next_from(ed.journal, ed.st, end, past)
+    let end = editor::walk::record_end(j, b);
+    next_from(j, st, end, past)
 }
 
 // The next live line after the records up to the place `end` is found and read. Nothing moves.

@@ -24,14 +24,14 @@ fn cut_line(ed: &mut Editor<'_>, line: &[u8], k: usize) -> Result<(), Stop>
 {
     let n = line.len();
     let mut rec = [0u8; 514];
-    let c = changes::rewrite::record_anew(&mut rec, ed, &line[k..n], n - k);
+    let j = &mut *ed.journal;
+    let c = changes::rewrite::record_anew(&mut rec, j, ed.st, &line[k..n], n - k);
     let end = c.end;
     let size = c.n;
     let front = ed.st.front;
     if end - front < size + (k + 3) {
         return Err(Stop::JournalFull);
     }
-    let j = &mut *ed.journal;
     let s = changes::rewrite::put_record(j, ed.st, end, &rec, size, 0);
     ed.st = editor::edits::put_line(j, s, line, 0, k);
     Ok(())

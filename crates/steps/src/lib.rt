@@ -37,7 +37,7 @@ fn test(script: &[u8], table: &[u8], w: &[u32], x: Wanted, ed: &Editor<'_>, hold
     let item = x.item;
     let k = item + 2;
     let m = search_end(w, item);
-    seeks::test(script, w, k, m, table, ed, holds)
+    seeks::test(script, w, k, m, table, ed.journal, ed.st, holds)
 }
 
 // Which way the search goes whose test of a line is asked.

@@ -15,8 +15,8 @@ returns-in_err-byte_here c = record {
   does = (refl, rw (handed _ _ c.from_residual.ensures.1) (right-stop _ c.byte_here.ensures _ c.in_err-byte_here.was));
 }
 
-pub invariant_of-ed : goal.invariant_of-ed
-invariant_of-ed c = record { shows = point-text _ c.args.ed.now.shows }
+pub invariant_of-ed-2 : goal.invariant_of-ed-2
+invariant_of-ed-2 c = record { shows = point-text _ c.args.ed.now.shows }
 
 pub returns : goal.returns
 returns c = record {

@@ -13,7 +13,7 @@ use Rattle.splits.proofs.cut_line.Goals as goal
 pub record_anew-c-requires : goal.record_anew-c-requires
 record_anew-c-requires c =
     let l = c.args.line.now in
-    (c.requires.0, search rules, rw (rest-is l c.args.k) (omega (arith, length-drop c.args.k l)), rw (rest-again l c.args.k) (dropped_line c.args.k l c.requires.2))
+    (shown c.args.ed.now.shows, c.requires.0, search rules, rw (rest-is l c.args.k) (omega (arith, length-drop c.args.k l)), rw (rest-again l c.args.k) (dropped_line c.args.k l c.requires.2))
 
 pub overflow_sub-end : goal.overflow_sub-end
 overflow_sub-end c =
@@ -42,8 +42,8 @@ put_line-ed-requires c =
     let made = rest-made c.args.line.now c.args.k _ _ _ c.record_anew-c.ensures in
     left-room c.args.line.now c.args.k c.requires.1 c.requires.2 _ _ _ made c.requires.0 _ _ c.put_record-s.ensures (shown c.args.ed.now.shows) (omega (arith, c.if-end-front.false, (anew-ends _ (dropped_line c.args.k c.args.line.now c.requires.2) _ _ _ made c.requires.0 (shown c.args.ed.now.shows)).0))
 
-pub invariant_of-ed : goal.invariant_of-ed
-invariant_of-ed c =
+pub invariant_of-ed-2 : goal.invariant_of-ed-2
+invariant_of-ed-2 c =
     let made = rest-made c.args.line.now c.args.k _ _ _ c.record_anew-c.ensures in
     let w = shown c.args.ed.now.shows in
     record { shows = on-text _ (cut_on c.args.line.now c.args.k c.requires.1 c.requires.2 _ _ _ made c.requires.0 _ _ c.put_record-s.ensures _ _ (search rules) c.put_line-ed.ensures no_globals w.0 w.1 w.2) }

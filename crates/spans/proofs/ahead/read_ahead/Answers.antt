@@ -1,6 +1,10 @@
+use Rattle.editor.proofs.Shown.{shown}
 use Rattle.spans.proofs.Nexts.{next-read}
 use Rattle.spans.proofs.ReadsAhead.{read-as-far}
 use Rattle.spans.proofs.ahead.read_ahead.Goals as goal
+
+pub read_next-next-requires : goal.read_next-next-requires
+read_next-next-requires c = (shown c.args.ed.now.shows, c.requires.1)
 
 pub returns : goal.returns
 returns c =

@@ -1,5 +1,4 @@
 use mathlib.Core.Path.{refl}
-use Rattle.editor.proofs.Shown.{shown}
 use Rattle.spans.proofs.Founds.{finds-text, finds-stop-text}
 use Rattle.spans.proofs.finding.span_end.Goals as goal
 
