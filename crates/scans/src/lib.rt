@@ -38,12 +38,14 @@ pub fn past(s: &[u8], at: usize, end: usize, kind: Kind) -> usize
     requires { (at ≤ end) × (end ≤ length s.now) }
     ensures { (result ≡ at + leading (is_of kind) (end - at) (drop at s.now)) × (result ≤ end) }
 {
-    for i in at..end {
+    let mut i = at;
+    while i < end {
         if !is_of(kind, s[i]) {
             return i;
         }
+        i += 1;
     }
-    end
+    i
 }
 
 // Whether bytes are all of a kind. No way leads out of the fold, so that eight are looked at at once.
